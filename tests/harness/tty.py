@@ -35,6 +35,7 @@ BANK = TOP / "examples/bank.toml"
 
 ENTER, TAB, HOME, LEFT = b"\r", b"\t", b"\x1b[H", b"\x1b[D"
 RESET, ERASE_EOF, REDRAW, QUIT = b"\x12", b"\x05", b"\x0c", b"\x1d"
+STATUS, KEYS, READY = b"\x14", b"\x1b?", b"\x1b[0n"
 BACK_TAB, INSERT, PF3, CLEAR = b"\x1b[Z", b"\x1b[2~", b"\x1bOR", b"\x03"
 
 # ---- what a host says: RFC 1647, and GA23-0059 for the commands
@@ -60,7 +61,7 @@ class Screen:
 
     def __init__(self, rows, columns):
         self.rows, self.columns = rows, columns
-        self.alternate, self.bells, self.written = False, 0, 0
+        self.alternate, self.bells, self.written, self.asked = False, 0, 0, 0
         self.erase()
 
     def erase(self):
@@ -115,6 +116,8 @@ class Screen:
             self.row, self.column = row - 1, column - 1
         elif final == b"m":
             self.look = numbers
+        elif final == b"n":
+            self.asked += 1
         elif final == b"J":
             row, column = self.row, self.column
             self.erase()
@@ -204,9 +207,14 @@ class Operator:
     def sees(self, text):
         self.until(f"an operator sees {text!r}", lambda screen: text in screen.text())
 
+    def resizes(self, rows, columns):
+        """The window has another size, and its content is lost."""
+        self.screen.erase()
+        fcntl.ioctl(self.master, termios.TIOCSWINSZ, struct.pack("HHHH", rows, columns, 0, 0))
+
     def has_status(self, *words):
-        """The status row has these words alone, in this order."""
-        wanted = " ".join(words)
+        """The status row has these words alone, in this order, and which key shows the keys."""
+        wanted = " ".join((*words[:-1], "ESC ? shows keys", words[-1]))
         self.until(
             f"a status row has {wanted!r}",
             lambda screen: " ".join(screen.line(screen.rows - 1).split()) == wanted,
@@ -248,8 +256,9 @@ def serve_bank(port=None):
 class Host:
     """A host that says what the check has it say."""
 
-    def __init__(self):
-        self.listener = socket.create_server((LOCALHOST, 0))
+    def __init__(self, address=LOCALHOST):
+        family = socket.AF_INET6 if ":" in address else socket.AF_INET
+        self.listener = socket.create_server((address, 0), family=family)
         self.listener.settimeout(PATIENCE)
         self.port = self.listener.getsockname()[1]
 

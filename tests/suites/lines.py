@@ -62,7 +62,8 @@ def term(job: dict) -> str:
 
 def operate(job: dict) -> str:
     tty = job["tty"]
-    return f"operate, {term(job)}" + (f", {tty['rows']} rows of {tty['columns']}" if tty else "")
+    text = f"operate at {job['host']}, {term(job)}"
+    return text + (f", {tty['rows']} rows of {tty['columns']}" if tty else "")
 
 
 # The job of a command line, by the variant of `Job` that the probe prints.

@@ -28,13 +28,16 @@ from harness.tty import (
     HOME,
     Host,
     INSERT,
+    KEYS,
     LEFT,
     Operator,
     QUIT,
+    READY,
     REDRAW,
     RESET,
     SCRIPT,
     SIGNALS,
+    STATUS,
     TAB,
     bound,
     serve_bank,
@@ -96,25 +99,101 @@ def refusals_are_told():
         host.hears_nothing(0.1)
 
 
+# A write that restores the keyboard, and the positive response to it.
+def restoring(number: int) -> bytes:
+    return bytes.fromhex(f"00 00 02 00 {number:02X} F1 C3 FF EF")
+
+
+def response(number: int) -> bytes:
+    return bytes.fromhex(f"02 00 00 00 {number:02X} 00 FF EF")
+
+
+def all_is_taken(operator):
+    """Waits until the program has taken what was typed: it shows the table of keys only then."""
+    operator.types(KEYS)
+    operator.sees("On this keyboard")
+    operator.types(KEYS)
+    operator.until("the screen is shown", lambda screen: screen.line(0).startswith(" HI"))
+
+
 @check
-def a_terminal_that_waits_takes_no_key():
-    """What is typed while the host works is gone."""
+def keys_may_be_typed_ahead():
+    """What is typed while the host works is done once the host has answered, up to a key that
+    sends. Reset drops it."""
     with bound() as (operator, host):
         operator.types("A", ENTER)
         # Number 0: Enter, the cursor at 5, and the field from 4 on.
         host.hears(bytes.fromhex("00 00 00 00 00 7D 40 C5 11 40 C4 C1 FF EF"))
         operator.has_status("connected", "X", "SYSTEM", "PNL01", "001/006")
-        operator.types("BC", ENTER, RESET, "D", CLEAR)
+        operator.types("BC", CLEAR, RESET, "DE", ENTER, "F", ENTER)
+        all_is_taken(operator)
         host.hears_nothing(0.1)
         expect("a row", operator.screen.line(0), " HI A")
-        # Write, number 1, which restores the keyboard.
-        host.says(bytes.fromhex("00 00 02 00 01 F1 C3 FF EF"))
-        host.hears(bytes.fromhex("02 00 00 00 01 00 FF EF"))
-        operator.has_status("connected", "PNL01", "001/006")
-        expect("a row", operator.screen.line(0), " HI A")
-        operator.types("E")
-        operator.until("a character is typed", lambda screen: screen.line(0) == " HI AE")
+        host.says(restoring(1))
+        host.hears(response(1), bytes.fromhex("00 00 00 00 01 7D 40 C7 11 40 C4 C1 C4 C5 FF EF"))
+        operator.has_status("connected", "X", "SYSTEM", "PNL01", "001/008")
+        expect("a row", operator.screen.line(0), " HI ADE")
+        host.says(restoring(2))
+        host.hears(response(2), bytes.fromhex("00 00 00 00 02 7D 40 C8 11 40 C4 C1 C4 C5 C6 FF EF"))
+        host.says(restoring(3))
+        host.hears(response(3))
+        operator.has_status("connected", "PNL01", "001/009")
         host.hears_nothing(0.1)
+
+
+@check
+def so_many_keys_may_be_typed_ahead():
+    """256 keys are kept, and no more: the cursor goes left from 4, round the end, and nothing is
+    typed there."""
+    with bound() as (operator, host):
+        operator.types(ENTER)
+        host.hears(bytes.fromhex("00 00 00 00 00 7D 40 C4 FF EF"))
+        operator.types(LEFT * 256, "B", ENTER)
+        all_is_taken(operator)
+        host.hears_nothing(0.1)
+        host.says(restoring(1))
+        host.hears(response(1))
+        operator.has_status("connected", "PNL01", "021/069")
+        host.hears_nothing(0.1)
+
+
+@check
+def page_keys_are_pf7_and_pf8():
+    """Page Up and Page Down send PF7 and PF8."""
+    for typed, aid in ((b"\x1b[5~", "F7"), (b"\x1b[6~", "F8")):
+        with bound() as (operator, host):
+            operator.types(typed)
+            host.hears(bytes.fromhex(f"00 00 00 00 00 {aid} 40 C4 FF EF"))
+
+
+@check
+def end_is_erase_eof():
+    """End, alone, with Shift and with Ctrl, erases from the cursor to the end of the field."""
+    for typed in (b"\x1b[F", b"\x1bOF", b"\x1b[4~", b"\x1b[8~", b"\x1b[1;2F", b"\x1b[1;5F"):
+        with bound() as (operator, host):
+            operator.types("ABC", LEFT, LEFT, typed, ENTER)
+            # Number 0: Enter, the cursor at 5, and the field from 4 on.
+            host.hears(bytes.fromhex("00 00 00 00 00 7D 40 C5 11 40 C4 C1 FF EF"))
+
+
+@check
+def the_alarm_sounds():
+    """A write whose WCC asks for the alarm has the tty written one BEL. One that doesn't ask for it
+    has none, nor one that is rejected."""
+    with bound() as (operator, host):
+        for number, write, answer, bells in (
+            (1, "F1 C4", "00 00", 1),
+            (2, "F1 C3", "00 00", 1),
+            # The buffer address 1920 isn't on the screen.
+            (3, "F1 C4 11 5E 40", "01 02", 1),
+            (4, "F5 C6", "00 00", 2),
+        ):
+            host.says(bytes.fromhex(f"00 00 02 00 {number:02X} {write} FF EF"))
+            flag, code = answer.split()
+            host.hears(bytes.fromhex(f"02 00 {flag} 00 {number:02X} {code} FF EF"))
+            operator.until("the alarm", lambda screen, bells=bells: screen.bells >= bells)
+            operator.looks(0.1)
+            expect("how often the alarm sounded", operator.screen.bells, bells)
 
 
 @check
@@ -155,7 +234,8 @@ ERASE_ALL = "\x1b[0m\x1b[2J"
 WAITS, FREE = put(25, 17, "X") + put(25, 19, "SYSTEM"), put(25, 17, " ") + put(25, 19, " " * 6)
 CONNECTED = put(25, 1, "connected")
 # At first the whole screen, which is blank.
-FIRST = ERASE_ALL + CONNECTED + WAITS + put(25, 73, "001/001") + at(1, 1)
+HINT = put(25, 56, "ESC") + put(25, 60, "?") + put(25, 62, "shows") + put(25, 68, "keys")
+FIRST = ERASE_ALL + CONNECTED + WAITS + HINT + put(25, 73, "001/001") + at(1, 1)
 # Turns of a session: the bytes of the host, those that are typed, and those that the tty is written
 # then. What is written are CUP, SGR and ED (ECMA-48): the cells that changed, and then the cursor's
 # place. The status row is the 25th.
@@ -176,23 +256,28 @@ TURNS = [
     (b"", b"AB", put(1, 3, "AB") + put(25, 79, "5") + at(1, 5)),
     # Nothing happens, and nothing is written.
     (b"", b"", ""),
-    # Enter, and another key, which the keyboard refuses.
+    # Enter, and another key, which is kept.
     (b"", b"\rC", WAITS + at(1, 5)),
     # Another, in a turn of its own.
     (b"", b"D", at(1, 5)),
-    # Write, number 1, which restores the keyboard: no key is kept from before.
-    (bytes.fromhex("0000020001 F1C3 FFEF"), b"", FREE + at(1, 5)),
-    (b"", b"E", put(1, 5, "E") + put(25, 79, "6") + at(1, 6)),
+    # Write, number 1, which restores the keyboard.
+    (
+        bytes.fromhex("0000020001 F1C3 FFEF"),
+        b"",
+        put(1, 5, "CD") + FREE + put(25, 79, "7") + at(1, 7),
+    ),
+    (b"", b"E", put(1, 7, "E") + put(25, 79, "8") + at(1, 8)),
     # The operator has the screen drawn again.
     (
         b"",
         b"\x0c",
         ERASE_ALL
-        + put(1, 1, "HIABE")
+        + put(1, 1, "HIABCDE")
         + CONNECTED
         + put(25, 41, "PNL01")
-        + put(25, 73, "001/006")
-        + at(1, 6),
+        + HINT
+        + put(25, 73, "001/008")
+        + at(1, 8),
     ),
 ]
 # All that the terminal sends: its answers, the response to number 0, Enter with the text of a
@@ -204,8 +289,7 @@ SENT = WILL + device_type(7, None) + FUNCTIONS_REQUEST + bytes.fromhex(
 
 @check
 def each_turn_writes_what_changed():
-    """Nothing more is written, and no key that is typed at a locked keyboard is kept. The end draws
-    nothing."""
+    """Nothing more is written. The end draws nothing."""
     with Host() as host, Operator(host.port) as operator:
         host.accepts()
         operator.has_status("connected", "X", "SYSTEM", "001/001")
@@ -261,8 +345,38 @@ def a_lost_host_is_connected_again():
 def without_a_host_it_ends():
     """If nothing listens, a line says so, with host, port and reason, and status 4."""
     port = free_port()
-    with Operator(port) as operator:
-        operator.ends(4, f"cannot connect to {LOCALHOST}:{port}: connection refused")
+    for word, address in (
+        (port, LOCALHOST),
+        (f"{LOCALHOST}:{port}", LOCALHOST),
+        (f"localhost:{port}", LOCALHOST),
+        (f"[::1]:{port}", "[::1]"),
+    ):
+        with Operator(word) as operator:
+            operator.ends(4, f"cannot connect to {address}:{port}: connection refused")
+
+
+@check
+def a_host_has_an_address():
+    """A host is an address with a port, or has port 23. A name is looked up."""
+    for address, word in ((LOCALHOST, "{}:{}"), ("::1", "[{}]:{}"), (LOCALHOST, "localhost:{1}")):
+        with Host(address) as host, Operator(word.format(address, host.port), "PNL01") as operator:
+            host.accepts()
+            host.says(DO, SEND_TYPE)
+            host.hears(WILL, device_type(7, "PNL01"))
+            operator.types(QUIT)
+            operator.ends(0)
+    for word, address in (("127.0.0.1", "127.0.0.1"), ("[::1]", "[::1]"), ("::1", "[::1]")):
+        with Operator(word) as operator:
+            operator.ends(4, f"cannot connect to {address}:23: connection refused")
+    with Operator("no-host.invalid:3270") as operator:
+        operator.ends(2, "no address is known of no-host.invalid")
+    with Operator("127.0.0.256:3270", columns=120) as operator:
+        operator.ends(
+            2,
+            "error: invalid value '127.0.0.256' for '--host': "
+            "an IPv4 or IPv6 address is needed, or localhost",
+            "For more information, try 'panel3270 help operate'.",
+        )
 
 
 @check
@@ -287,17 +401,17 @@ def options_are_passed_on():
             "",
             "For more information, try '--help'.",
         )
-    with Operator("--port", 80) as operator:
+    with Operator("--port", 0) as operator:
         operator.ends(
             2,
-            "error: invalid value '80' for '--port'",
+            "error: invalid value '0' for '--port'",
             "For more information, try 'panel3270 help operate'.",
         )
     status, out, said = run_alone(SCRIPT, "--help")
     expect(
         "bin/operate --help",
         (status, out.splitlines()[0], said),
-        (0, "usage: panel3270 operate --port P [--lu NAME] [--model M] [--raw ROWSxCOLUMNS]", ""),
+        (0, "usage: panel3270 operate --port P [OPTION ..]", ""),
     )
 
 
@@ -358,13 +472,54 @@ def a_program_that_was_stopped_goes_on():
 
 @check
 def a_tty_that_is_too_small_is_told():
-    """A tty without room for the screens of the model and the status row is said in one line, with
-    status 2."""
+    """A tty without room for the screens of the model is said in one line, with status 2."""
     port = free_port()
-    with Operator(port, rows=24) as operator:
-        operator.ends(2, "the tty has 24 rows of 80 columns, and the screen needs 25 rows of 80")
+    with Operator(port, rows=23) as operator:
+        operator.ends(2, "the tty has 23 rows of 80 columns, and the screen needs 24 rows of 80")
     with Operator("--model", 5, port, rows=50, columns=131) as operator:
-        operator.ends(2, "the tty has 50 rows of 131 columns, and the screen needs 28 rows of 132")
+        operator.ends(2, "the tty has 50 rows of 131 columns, and the screen needs 27 rows of 132")
+
+
+@check
+def the_status_row_gives_way():
+    """On a tty that has just the rows of the screen, the status row is shown over the last one
+    from Ctrl-T to the next key."""
+    with Host() as host, Operator(host.port, rows=24) as operator:
+        host.binds()
+        operator.until("the form is shown", lambda screen: screen.text() == " HI")
+        operator.types(STATUS)
+        operator.has_status("connected", "PNL01", "001/005")
+        operator.types("A")
+        operator.until("the screen is shown", lambda screen: screen.text() == " HI A")
+
+
+@check
+def the_table_of_keys_is_shown():
+    """ESC and `?` show it, and the next key shows the screen again, and does nothing else."""
+    with bound() as (operator, host):
+        for key in (ENTER, "A", KEYS):
+            operator.types(KEYS)
+            operator.sees("Key of the 3278              On this keyboard")
+            operator.sees("End the program              Ctrl-]")
+            operator.types(key)
+            operator.until("the screen is shown", lambda screen: screen.line(0) == " HI")
+            operator.has_status("connected", "PNL01", "001/005")
+        host.hears_nothing(0.1)
+
+
+@check
+def a_resized_window_is_drawn_again():
+    """If the size of the window changes, the tty is asked whether it is ready; then all is drawn
+    again."""
+    with bound() as (operator, _):
+        for count in (1, 2):
+            operator.resizes(25, 100 + count)
+            operator.until("the tty is asked", lambda screen, count=count: screen.asked == count)
+            operator.types(READY)
+            operator.until("the screen is drawn", lambda screen: screen.line(0) == " HI")
+            operator.has_status("connected", "PNL01", "001/005")
+        operator.types(QUIT)
+        operator.ends(0)
 
 
 @check
@@ -411,7 +566,7 @@ def it_says_how_it_is_started():
     )
     for words, line in (
         (["3270"], "standard input and output must be a tty"),
-        ([], "usage: bin/operate [OPTION ..] PORT [LU]"),
-        (["1", "A", "B"], "usage: bin/operate [OPTION ..] PORT [LU]"),
+        ([], "usage: bin/operate [OPTION ..] [HOST:]PORT|HOST [LU]"),
+        (["1", "A", "B"], "usage: bin/operate [OPTION ..] [HOST:]PORT|HOST [LU]"),
     ):
         expect("bin/operate", run_alone(SCRIPT, *words), (2, "", line + "\n"))

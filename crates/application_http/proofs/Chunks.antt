@@ -16,7 +16,7 @@ use Rattle.http1.specs.declared.framing.Framing.TheVariants as framed
 use Rattle.http1.proofs.ChunksLive.{body_can_end}
 use Rattle.http1.proofs.OneParse.{completes_from_body, body_from_completes}
 use Rattle.http1.proofs.RunLemmas.{run-nil, run_after}
-use Rattle.application_http.specs.Contents.{limits, most_fields, IsWhole, LacksEnd, NeverChunked, BeginsContent, HoldsContent}
+use Rattle.application_http.specs.Contents.{limits, most_fields, IsCompleteBody, IsIncompleteBody, NeverChunked, BeginsContent, StoresContent}
 
 abbrev pub first : Decoder
 first = decoder_for limits framed.Chunked
@@ -83,7 +83,7 @@ pub steps : {after content left : List ℕ} {old new : Decoder} (items rest piec
 steps {after} {content} {left} {old} {new} items rest piece len r step more behind =
     subst (λ bytes. Reached after bytes new rest) (sym more) (subst (λ bytes. Reached after (content ++ piece) new bytes) (sym behind) (goes_on new len piece r step))
 
-pub ends : {after content : List ℕ} {decoder : Decoder} {left : List ℕ} (spans : List HeaderSpan) (len count : ℕ) → Reached after content decoder left → Ends decoder left spans len count → IsWhole true framed.Chunked after content
+pub ends : {after content : List ℕ} {decoder : Decoder} {left : List ℕ} (spans : List HeaderSpan) (len count : ℕ) → Reached after content decoder left → Ends decoder left spans len count → IsCompleteBody true framed.Chunked after content
 ends {after} {content} {decoder} {left} spans len count r e =
     let done = r.back [] (body_of [] e.trailers) _ (e.completes []) in
     let same = subst (λ bytes. Completes first bytes (body_of (content ++ []) e.trailers) (drop len left ++ [])) (append-nil after) done in
@@ -93,7 +93,7 @@ ends {after} {content} {decoder} {left} spans len count r e =
 not_until_close : (decoder : Decoder) (chunks : ChunkedDecoder) (max_len : ℕ) → decoder ≡ Chunked chunks max_len → decoder ≢ UntilClose
 not_until_close decoder chunks max_len e = λ f. cc
 
-pub starves : {after content : List ℕ} {decoder : Decoder} {left : List ℕ} (new : Decoder) (len : ℕ) → Reached after content decoder left → Starves decoder left new len → LacksEnd true framed.Chunked after
+pub starves : {after content : List ℕ} {decoder : Decoder} {left : List ℕ} (new : Decoder) (len : ℕ) → Reached after content decoder left → Starves decoder left new len → IsIncompleteBody true framed.Chunked after
 starves {after} {content} {decoder} {left} new len r s = λ found whole.
     let complete = completes_from_body limits framed.Chunked after _ _ whole.2 in
     let again = r.forth [] _ _ (subst (λ bytes. Completes first bytes (body_of found whole.0) whole.1) (sym (append-nil after)) complete) in
@@ -141,19 +141,19 @@ pub longer_by : (content piece : List ℕ) → 0 < length piece → 0 < length (
 longer_by content piece some = omega (arith, length-append content piece)
 
 -- a piece that must be stored is a byte of content
-pub holds : {after content left : List ℕ} {old new : Decoder} (len : ℕ) (piece : List ℕ) → Reached after content old left → Continues old left new len piece → 0 < length (content ++ piece) → HoldsContent true framed.Chunked after
+pub holds : {after content left : List ℕ} {old new : Decoder} (len : ℕ) (piece : List ℕ) → Reached after content old left → Continues old left new len piece → 0 < length (content ++ piece) → StoresContent true framed.Chunked after
 holds {after} {content} {left} {old} {new} len piece r step some =
     let front = begins_content (goes_on new len piece r step).run_is in
     (front.0, drop len left, content ++ piece, front.1, some, front.2)
 
 -- ---- other bodies
 
-pub sized_whole : (len : ℕ) (after content : List ℕ) → len ≤ length after → content ≡ take len after → IsWhole true (framed.Length len) after content
+pub sized_whole : (len : ℕ) (after content : List ℕ) → len ≤ length after → content ≡ take len after → IsCompleteBody true (framed.Length len) after content
 sized_whole len after content enough front =
     ([], drop len after, (ap length front ∙ length-take-le len after enough, sym (take-append-drop len after) ∙ ap (λ bytes. bytes ++ drop len after) (sym front), refl))
 
-pub closed_whole : (closed : Bool) (after content : List ℕ) → closed ≡ true → content ≡ after → IsWhole closed framed.UntilClose after content
+pub closed_whole : (closed : Bool) (after content : List ℕ) → closed ≡ true → content ≡ after → IsCompleteBody closed framed.UntilClose after content
 closed_whole closed after content ended all = ([], [], (ended, (all, refl, refl)))
 
-pub open_lacks : (closed : Bool) (after : List ℕ) → closed ≡ false → LacksEnd closed framed.UntilClose after
+pub open_lacks : (closed : Bool) (after : List ℕ) → closed ≡ false → IsIncompleteBody closed framed.UntilClose after
 open_lacks closed after goes_on = λ content whole. false≢true (sym goes_on ∙ whole.2.0)

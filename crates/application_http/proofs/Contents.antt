@@ -6,7 +6,7 @@ use Rattle.http1.specs.declared.framing.Framing.TheVariants.{NoBody, Length, Chu
 use Rattle.application_http.specs.declared.content.Head.{Head}
 use Rattle.application_http.specs.declared.fault.ReplyFault.{ReplyFault}
 use Rattle.application_http.specs.declared.fault.ReplyFault.TheVariants as fault
-use Rattle.application_http.specs.Contents.{IsHead, IsAccepted, IsWhole, LacksEnd, HasContent, IsUnfinished, IsBadBody, IsBadMessage, accepted_status}
+use Rattle.application_http.specs.Contents.{IsHead, IsAccepted, IsCompleteBody, IsIncompleteBody, HasContent, IsUnfinished, IsBadBody, IsBadMessage, accepted_status}
 
 pub accepts : (bytes : List ℕ) (found : Head) (framing : Framing) → IsHead bytes found → found.status ≡ accepted_status → found.framing ≡ Ok framing → IsAccepted bytes framing (drop found.len bytes)
 accepts bytes found framing h ok framed = record {
@@ -20,7 +20,7 @@ abbrev pub Contents : Type 0
 Contents = Result (Option (Vec ℕ Global)) ReplyFault
 
 pub found_in : (closed : Bool) (bytes after : List ℕ) (framing : Framing) (result : Contents) → IsAccepted bytes framing after
-    → IfOk result (λ found. MatchOption found (LacksEnd closed framing after) (λ content. IsWhole closed framing after content.items))
+    → IfOk result (λ found. MatchOption found (IsIncompleteBody closed framing after) (λ content. IsCompleteBody closed framing after content.items))
     → IfOk result (λ found. MatchOption found (IsUnfinished closed bytes) (λ content. HasContent closed bytes content.items))
 found_in closed bytes after framing (Ok None) a h = inr (framing, after, a, h)
 found_in closed bytes after framing (Ok (Some content)) a h = (framing, after, a, h)
@@ -45,7 +45,7 @@ wrong_in closed bytes after framing (Err why) a h = bad_in closed bytes after fr
 -- ---- what is told of a body, whatever its framing is called
 
 abbrev pub Tells : (closed : Bool) → Framing → (after : List ℕ) → Option (Vec ℕ Global) → Type 0
-Tells closed framing after found = MatchOption found (LacksEnd closed framing after) (λ content. IsWhole closed framing after content.items)
+Tells closed framing after found = MatchOption found (IsIncompleteBody closed framing after) (λ content. IsCompleteBody closed framing after content.items)
 
 pub tells_empty : (closed : Bool) (framing : Framing) (after : List ℕ) (found : Option (Vec ℕ Global)) → framing ≡ NoBody → Tells true (Length 0) after found → Tells closed framing after found
 tells_empty closed framing after found e h = subst (λ f. Tells closed f after found) (sym e) h

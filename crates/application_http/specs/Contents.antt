@@ -56,13 +56,13 @@ ReadsEnded closed Chunked after body rest = ReadsBody limits Chunked after body 
 ReadsEnded closed UntilClose after body rest = (closed ≡ true) × ReadsBody limits UntilClose after body rest
 
 -- holds if the bytes after the head are a complete body with this content
-abbrev pub IsWhole : (closed : Bool) → Framing → (after content : List ℕ) → Type 0
-IsWhole closed framing after content = (trailers : List Field) × (rest : List ℕ)
+abbrev pub IsCompleteBody : (closed : Bool) → Framing → (after content : List ℕ) → Type 0
+IsCompleteBody closed framing after content = (trailers : List Field) × (rest : List ℕ)
     × ReadsEnded closed framing after (body_of content trailers) rest
 
 -- holds if the bytes after the head aren't a complete body
-abbrev pub LacksEnd : (closed : Bool) → Framing → (after : List ℕ) → Type 0
-LacksEnd closed framing after = (content : List ℕ) → ¬ (IsWhole closed framing after content)
+abbrev pub IsIncompleteBody : (closed : Bool) → Framing → (after : List ℕ) → Type 0
+IsIncompleteBody closed framing after = (content : List ℕ) → ¬ (IsCompleteBody closed framing after content)
 
 -- holds if the bytes never begin a chunked body with at most 64 trailers, whatever bytes follow
 abbrev pub NeverChunked : List ℕ → Type 0
@@ -72,12 +72,12 @@ NeverChunked after = (more : List ℕ) (body : Body) (rest : List ℕ) → Reads
 -- holds if the bytes begin with a reply of status 200 that has this content
 abbrev pub HasContent : (closed : Bool) → (bytes content : List ℕ) → Type 0
 HasContent closed bytes content = (framing : Framing) × (after : List ℕ) × IsAccepted bytes framing after
-    × IsWhole closed framing after content
+    × IsCompleteBody closed framing after content
 
 -- holds if the head or the body isn't complete
 abbrev pub IsUnfinished : (closed : Bool) → (bytes : List ℕ) → Type 0
 IsUnfinished closed bytes = HasNoResponse bytes
-    ⊎ ((framing : Framing) × (after : List ℕ) × IsAccepted bytes framing after × LacksEnd closed framing after)
+    ⊎ ((framing : Framing) × (after : List ℕ) × IsAccepted bytes framing after × IsIncompleteBody closed framing after)
 
 -- ---- what must be stored
 
@@ -88,19 +88,19 @@ pub record BeginsContent (taken front : List ℕ) : Type 0 where
       → (later : List ℕ) × (body.bytes ≡ front ++ later)
 
 -- holds if a byte of the content must be stored: the content is complete, or its chunk is read
-abbrev pub HoldsContent : (closed : Bool) → Framing → (after : List ℕ) → Type 0
-HoldsContent closed NoBody after = ⊥
-HoldsContent closed (Length len) after = (0 < len) × (len ≤ length after)
-HoldsContent closed Chunked after = (taken left front : List ℕ) × (after ≡ taken ++ left) × (0 < length front)
+abbrev pub StoresContent : (closed : Bool) → Framing → (after : List ℕ) → Type 0
+StoresContent closed NoBody after = ⊥
+StoresContent closed (Length len) after = (0 < len) × (len ≤ length after)
+StoresContent closed Chunked after = (taken left front : List ℕ) × (after ≡ taken ++ left) × (0 < length front)
     × BeginsContent taken front
-HoldsContent closed UntilClose after = (closed ≡ true) × (0 < length after)
+StoresContent closed UntilClose after = (closed ≡ true) × (0 < length after)
 
 -- ---- what is wrong
 
 -- holds if the bytes are no reply, nor the start of one, for this reason; memory is refused only for a content
 abbrev pub IsBadMessage : (closed : Bool) → (bytes : List ℕ) → ReplyFault → Type 0
 IsBadMessage closed bytes fault.Memory = (framing : Framing) × (after : List ℕ) × IsAccepted bytes framing after
-    × HoldsContent closed framing after
+    × StoresContent closed framing after
 IsBadMessage closed bytes fault.NotHttp = NeverHasResponse bytes
 IsBadMessage closed bytes fault.TooManyFields = ResponseExceeds most_fields bytes
 IsBadMessage closed bytes (fault.Status code) = (head : ResponseHead) × (after : List ℕ)
@@ -112,6 +112,6 @@ IsBadMessage closed bytes _ = ⊥
 
 -- holds if the bytes after a head are no body, nor the start of one, for this reason
 abbrev pub IsBadBody : (closed : Bool) → Framing → (after : List ℕ) → ReplyFault → Type 0
-IsBadBody closed framing after fault.Memory = HoldsContent closed framing after
+IsBadBody closed framing after fault.Memory = StoresContent closed framing after
 IsBadBody closed framing after fault.BadChunks = (framing ≡ Chunked) × NeverChunked after
 IsBadBody closed framing after _ = ⊥

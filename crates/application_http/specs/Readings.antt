@@ -32,8 +32,8 @@ IsRefused closed bytes why = IsBadReply closed (front bytes) why
 
 -- holds if the bytes of a call are refused after earlier ones for this reason: as all bytes together, or because memory
 -- was refused
-abbrev pub IsRefusedBehind : (so_far bytes : List ℕ) → ReplyFault → Type 0
-IsRefusedBehind so_far bytes why = ((why ≡ fault.Memory) × (length so_far < most_bytes) × (0 < length bytes))
+abbrev pub IsRefusedAfter : (so_far bytes : List ℕ) → ReplyFault → Type 0
+IsRefusedAfter so_far bytes why = ((why ≡ fault.Memory) × (length so_far < most_bytes) × (0 < length bytes))
     ⊎ IsRefused false (so_far ++ bytes) why
 
 -- ---- a reader
@@ -53,7 +53,7 @@ left_by (Ok None) bytes = Some bytes
 left_by (Ok (Some reply)) bytes = None
 left_by (Err why) bytes = None
 
-abbrev pub GivesNothing : Outcome → Type 0
-GivesNothing (Ok None) = ⊤
-GivesNothing (Ok (Some reply)) = ⊥
-GivesNothing (Err why) = ⊥
+abbrev pub ReturnsNone : Outcome → Type 0
+ReturnsNone (Ok None) = ⊤
+ReturnsNone (Ok (Some reply)) = ⊥
+ReturnsNone (Err why) = ⊥

@@ -4,7 +4,7 @@ ghost use Rattle.httparse.specs.Grammar.{HasNoResponse};
 ghost use Rattle.httparse.specs.declared.spans.HeaderSpan.{HeaderSpan};
 ghost use Rattle.http1.specs.Decoder.{Decodes, HasNoBody};
 ghost use Rattle.http1.specs.declared.framing.Framing.TheVariants as framed;
-ghost use Rattle.application_http.specs.Contents.{HasContent, HoldsContent, IsBadBody, IsBadMessage, IsHead, IsUnfinished, IsWhole, LacksEnd, limits, most_fields};
+ghost use Rattle.application_http.specs.Contents.{HasContent, StoresContent, IsBadBody, IsBadMessage, IsHead, IsUnfinished, IsCompleteBody, IsIncompleteBody, limits, most_fields};
 
 use crate::fault::ReplyFault;
 use http1::decode::{Decoded, Decoder};
@@ -79,9 +79,9 @@ fn copy_of(alloc: Global, bytes: &[u8]) -> Result<Vec<u8>, AllocError>
 /// The content of a body with this length, in bytes; None if there are fewer bytes.
 #[tactic(auto, using(crate::proofs::Chunks::sized_whole))]
 fn sized_content(alloc: Global, len: u64, after: &[u8]) -> Result<Option<Vec<u8>>, AllocError>
-    ensures found { IfOk result (λ found. MatchOption found (LacksEnd true (framed.Length len) after.now)
-        (λ content. IsWhole true (framed.Length len) after.now content.items)) }
-    ensures refused { OnErr result (HoldsContent true (framed.Length len) after.now) }
+    ensures found { IfOk result (λ found. MatchOption found (IsIncompleteBody true (framed.Length len) after.now)
+        (λ content. IsCompleteBody true (framed.Length len) after.now content.items)) }
+    ensures refused { OnErr result (StoresContent true (framed.Length len) after.now) }
 {
     if (after.len() as u64) < len {
         return Ok(None);
@@ -111,8 +111,8 @@ fn next_piece(decoder: &mut Decoder, left: &[u8]) -> Result<Decoded, ReadError>
 fn put_chunks(content: &mut Vec<u8>, after: &[u8]) -> Result<bool, ReplyFault>
     requires { content.old.items ≡ [] }
     ensures whole { IfOk result
-        (λ is_whole. IsTrue is_whole → IsWhole true framed.Chunked after.now content.new.items) }
-    ensures lacking { IfOk result (λ is_whole. IsFalse is_whole → LacksEnd true framed.Chunked after.now) }
+        (λ is_whole. IsTrue is_whole → IsCompleteBody true framed.Chunked after.now content.new.items) }
+    ensures lacks_end { IfOk result (λ is_whole. IsFalse is_whole → IsIncompleteBody true framed.Chunked after.now) }
     ensures wrong { IfErr result (IsBadBody true framed.Chunked after.now) }
 {
     let mut decoder = Decoder::new(Framing::Chunked, &limits());
@@ -135,8 +135,9 @@ fn put_chunks(content: &mut Vec<u8>, after: &[u8]) -> Result<bool, ReplyFault>
 /// The content of a chunked body; None if it isn't complete yet.
 fn chunked_content(alloc: Global, after: &[u8]) -> Result<Option<Vec<u8>>, ReplyFault>
     ensures whole { IfOk result
-        (λ found. MatchOption found ⊤ (λ content. IsWhole true framed.Chunked after.now content.items)) }
-    ensures lacking { IfOk result (λ found. MatchOption found (LacksEnd true framed.Chunked after.now) (λ _. ⊤)) }
+        (λ found. MatchOption found ⊤ (λ content. IsCompleteBody true framed.Chunked after.now content.items)) }
+    ensures lacks_end { IfOk result
+        (λ found. MatchOption found (IsIncompleteBody true framed.Chunked after.now) (λ _. ⊤)) }
     ensures wrong { IfErr result (IsBadBody true framed.Chunked after.now) }
 {
     let mut content = Vec::new(alloc);
@@ -151,9 +152,9 @@ fn chunked_content(alloc: Global, after: &[u8]) -> Result<Option<Vec<u8>>, Reply
 /// The content of a body that ends with the connection; None if that isn't closed yet.
 #[tactic(auto, using(crate::proofs::Chunks::closed_whole))]
 fn last_content(alloc: Global, after: &[u8], is_closed: bool) -> Result<Option<Vec<u8>>, AllocError>
-    ensures found { IfOk result (λ found. MatchOption found (LacksEnd is_closed framed.UntilClose after.now)
-        (λ content. IsWhole is_closed framed.UntilClose after.now content.items)) }
-    ensures refused { OnErr result (HoldsContent is_closed framed.UntilClose after.now) }
+    ensures found { IfOk result (λ found. MatchOption found (IsIncompleteBody is_closed framed.UntilClose after.now)
+        (λ content. IsCompleteBody is_closed framed.UntilClose after.now content.items)) }
+    ensures refused { OnErr result (StoresContent is_closed framed.UntilClose after.now) }
 {
     if is_closed {
         Ok(Some(copy_of(alloc, after)?))
@@ -169,8 +170,8 @@ fn body_content(
     after: &[u8],
     is_closed: bool,
 ) -> Result<Option<Vec<u8>>, ReplyFault>
-    ensures found { IfOk result (λ found. MatchOption found (LacksEnd is_closed framing after.now)
-        (λ content. IsWhole is_closed framing after.now content.items)) }
+    ensures found { IfOk result (λ found. MatchOption found (IsIncompleteBody is_closed framing after.now)
+        (λ content. IsCompleteBody is_closed framing after.now content.items)) }
     ensures wrong { IfErr result (IsBadBody is_closed framing after.now) }
 {
     match framing {

@@ -1,7 +1,7 @@
 //! Reads an application's reply from bytes that are received in any pieces.
 ghost use Rattle.std.specs.Prelude.{◌≡◌, ◌≤◌, ◌++◌, ◌↔◌, ℕ, ⊤, false, true, [], List, length, take, Some, None, IfErr, IfOk, IsSome, IsTrue, MatchOption};
 ghost use Rattle.application_http.specs.Contents.{IsUnfinished, most_bytes};
-ghost use Rattle.application_http.specs.Readings.{GivesNothing, HasReply, IsBadReply, IsFound, IsRefused, IsRefusedBehind, is_last, left_by};
+ghost use Rattle.application_http.specs.Readings.{ReturnsNone, HasReply, IsBadReply, IsFound, IsRefused, IsRefusedAfter, is_last, left_by};
 ghost use Rattle.application_http.specs.Replies.{answer_in};
 
 use crate::content::{MOST_BYTES, content_of};
@@ -40,7 +40,7 @@ fn advance(alloc: Global, so_far: &mut Vec<u8>, bytes: &[u8]) -> Result<Option<R
     ensures going { IfOk result
         (λ found. MatchOption found (so_far.new.items ≡ so_far.old.items ++ bytes.now) (λ _. ⊤)) }
     ensures found { IfOk result (IsFound false (so_far.old.items ++ bytes.now)) }
-    ensures refused { IfErr result (IsRefusedBehind so_far.old.items bytes.now) }
+    ensures refused { IfErr result (IsRefusedAfter so_far.old.items bytes.now) }
 {
     let room = MOST_BYTES - so_far.as_slice().len();
     so_far.extend_from_slice(front_of(bytes, room))?;
@@ -113,10 +113,10 @@ impl ReplyReader {
     /// Takes received bytes, and returns the reply once it is complete; Ok(None) if it isn't yet. After the reply or a
     /// fault the reading is over: then no bytes are taken, and the answer is Ok(None). Refused memory is a fault.
     pub fn feed(&mut self, alloc: Global, bytes: &[u8]) -> Result<Option<Reply>, ReplyFault>
-        ensures ignored { self.old ≡ None → (self.new ≡ None) × GivesNothing result }
+        ensures ignored { self.old ≡ None → (self.new ≡ None) × ReturnsNone result }
         ensures taken { (so_far : List ℕ) → self.old ≡ Some so_far → self.new ≡ left_by result (so_far ++ bytes.now) }
         ensures found { (so_far : List ℕ) → self.old ≡ Some so_far → IfOk result (IsFound false (so_far ++ bytes.now)) }
-        ensures refused { (so_far : List ℕ) → self.old ≡ Some so_far → IfErr result (IsRefusedBehind so_far bytes.now) }
+        ensures refused { (so_far : List ℕ) → self.old ≡ Some so_far → IfErr result (IsRefusedAfter so_far bytes.now) }
     {
         if self.is_over {
             return Ok(None);
@@ -130,7 +130,7 @@ impl ReplyReader {
     /// reading was already over.
     pub fn end(&mut self, alloc: Global) -> Result<Option<Reply>, ReplyFault>
         ensures over { self.new ≡ None }
-        ensures ignored { self.old ≡ None → GivesNothing result }
+        ensures ignored { self.old ≡ None → ReturnsNone result }
         ensures whole { (so_far : List ℕ) → self.old ≡ Some so_far → IfOk result (λ found. IsSome found) }
         ensures found { (so_far : List ℕ) → self.old ≡ Some so_far → IfOk result (IsFound true so_far) }
         ensures refused { (so_far : List ℕ) → self.old ≡ Some so_far → IfErr result (IsRefused true so_far) }

@@ -18,8 +18,8 @@ use Rattle.applications.specs.declared.application_reply.AnswerFault.{AnswerFaul
 use Rattle.applications.specs.declared.application_reply.AnswerFault.TheVariants as flaw
 
 -- a field's value has characters alone
-pub value_fits : (text codes : List ℕ) → codes ≡ value_by text → AreCharacters codes
-value_fits text codes is =
+pub value_has_only_characters : (text codes : List ℕ) → codes ≡ value_by text → AreCharacters codes
+value_has_only_characters text codes is =
     subst AreCharacters (sym is) (All-take (λ byte. IsTrue (is_character byte)) most_characters (codes_of (chars text)) (codes_are_characters (chars text)))
 
 -- ---- what takes no memory

@@ -3,7 +3,7 @@ use Rattle.std.specs.Prelude.{ℕ, List, [], map, slice_get, Option, Some, None,
 use Rattle.application_http.specs.Replies.{field_text}
 use Rattle.application_http.specs.declared.request.Request.{Request}
 use Rattle.host_core.specs.declared.question.Question.{Question}
-use Rattle.panels.specs.Panel.{PanelParts, Panels, shape_of}
+use Rattle.panels.specs.Panel.{PanelParts, Panels, size_of}
 use Rattle.panels.specs.Screen.{Values}
 use Rattle.panels.specs.Values.{value_of}
 use Rattle.panels.specs.declared.panel.Field.{Field}
@@ -32,8 +32,8 @@ pub record AsksQuestion (boot : ℕ) (panel : PanelParts) (question : Question) 
   pub lu : request.lu.now ≡ lu_text question.lu
   pub panel_name : request.panel.now ≡ panel.name
   pub key : request.key.now ≡ key_name question.aid
-  pub row : request.row ≡ row_of question.cursor (shape_of panel)
-  pub col : request.col ≡ column_of question.cursor (shape_of panel)
+  pub row : request.row ≡ row_of question.cursor (size_of panel)
+  pub col : request.col ≡ column_of question.cursor (size_of panel)
   pub fields : map field_text request.fields.now ≡ texts_asked question.values panel.fields
 
 -- Holds if these bytes are the request for the question on this panel. `written` writes a request for its application.

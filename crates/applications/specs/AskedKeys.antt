@@ -6,8 +6,8 @@ use Rattle.codes3270.specs.declared.attention.Aid.{Aid}
 use Rattle.codes3270.specs.declared.attention.Aid.TheVariants.{Enter, Pa, Pf}
 use Rattle.panels.specs.Panel.{PanelParts, is_asked}
 use Rattle.applications.specs.Applications.{key_name}
-use Rattle.applications.specs.declared.asked_key.Refusing.{Refusing}
-use Rattle.applications.specs.declared.asked_key.Refusing.TheVariants as refusing
+use Rattle.applications.specs.declared.asked_key.JobWithoutApplication.{JobWithoutApplication}
+use Rattle.applications.specs.declared.asked_key.JobWithoutApplication.TheVariants as refusing
 
 -- the first of these keys that a panel asks about
 abbrev pub asked_among : PanelParts → List Aid → Option Aid
@@ -25,12 +25,12 @@ first_asked [] = None
 first_asked (panel ∷ panels) = option_map_or (λ key. Some (panel.name, key)) (asked_key panel) (first_asked panels)
 
 -- the advice of a job without an application
-abbrev pub advice_of : Refusing → List ℕ
+abbrev pub advice_of : JobWithoutApplication → List ℕ
 advice_of refusing.Serve = codes "; give --application URL"
 advice_of refusing.Host = codes "; host has no application: use serve --application URL"
 
 -- the line by which a job refuses the panels
-abbrev pub asked_text : (panel : List ℕ) → Aid → Refusing → List ℕ
+abbrev pub asked_text : (panel : List ℕ) → Aid → JobWithoutApplication → List ℕ
 asked_text panel key by =
     codes "panel " ++ (panel ++ (codes " asks the application about " ++ (key_name key ++ advice_of by)))
 

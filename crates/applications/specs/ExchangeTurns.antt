@@ -6,7 +6,7 @@ use Rattle.std.specs.IoError.{error_kind}
 use Rattle.std.specs.declared.io.Error.{Error}
 use Rattle.std.specs.declared.io.ErrorKind.{ErrorKind}
 use Rattle.std.specs.declared.io.ErrorKind.TheVariants as kind
-use Rattle.application_http.specs.Readings.{GivesNothing, IsFound, IsRefused, IsRefusedBehind, Outcome, left_by}
+use Rattle.application_http.specs.Readings.{ReturnsNone, IsFound, IsRefused, IsRefusedAfter, Outcome, left_by}
 use Rattle.application_http.specs.declared.reply.Reply.{Reply}
 use Rattle.application_http.specs.declared.request.Request.{Request}
 use Rattle.host_core.specs.declared.acted.Acted.{Acted}
@@ -123,9 +123,9 @@ pub record HearsMore (bytes : List ℕ) (heard : Option (List ℕ)) (progress : 
   pub outcome : Outcome
   pub progress_is : progress ≡ read_as outcome
   pub found : (before : List ℕ) → heard ≡ Some before → IfOk outcome (IsFound false (before ++ bytes))
-  pub refused : (before : List ℕ) → heard ≡ Some before → IfErr outcome (IsRefusedBehind before bytes)
+  pub refused : (before : List ℕ) → heard ≡ Some before → IfErr outcome (IsRefusedAfter before bytes)
   pub heard_is : (before : List ℕ) → heard ≡ Some before → after ≡ left_by outcome (before ++ bytes)
-  pub nothing : heard ≡ None → (after ≡ None) × GivesNothing outcome
+  pub nothing : heard ≡ None → (after ≡ None) × ReturnsNone outcome
 
 -- holds for the progress after the connection is closed: no more bytes follow
 pub record HearsEnd (heard : Option (List ℕ)) (progress : IoProgress) (after : Option (List ℕ)) : Type 0 where
@@ -133,7 +133,7 @@ pub record HearsEnd (heard : Option (List ℕ)) (progress : IoProgress) (after :
   pub progress_is : progress ≡ read_as outcome
   pub found : (all : List ℕ) → heard ≡ Some all → IfOk outcome (IsFound true all)
   pub refused : (all : List ℕ) → heard ≡ Some all → IfErr outcome (IsRefused true all)
-  pub nothing : heard ≡ None → GivesNothing outcome
+  pub nothing : heard ≡ None → ReturnsNone outcome
   pub over : after ≡ None
 
 -- a read of no bytes is the end of the connection

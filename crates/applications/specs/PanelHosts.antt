@@ -63,8 +63,8 @@ pub record HasPoolFault (text : List ℕ) (fault : PoolFault) : Type 0 where
   pub is_fault : IsLuFault (lus_of panels) fault
 
 -- holds if a text defines no host for this reason; refused memory says nothing of the text
-abbrev pub HasNoWorld : List ℕ → Fault → Type 0
-HasNoWorld text (Panels fault) = HasPanelFault text fault
-HasNoWorld text (Pool fault) = HasPoolFault text fault
-HasNoWorld text NoMemory = ⊤
-HasNoWorld text _ = ⊥
+abbrev pub DefinesNoHost : List ℕ → Fault → Type 0
+DefinesNoHost text (Panels fault) = HasPanelFault text fault
+DefinesNoHost text (Pool fault) = HasPoolFault text fault
+DefinesNoHost text NoMemory = ⊤
+DefinesNoHost text _ = ⊥

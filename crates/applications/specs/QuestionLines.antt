@@ -4,13 +4,13 @@ use Rattle.std.specs.Char.{encode_utf8}
 use Rattle.std.specs.Fmt.{decimal}
 use Rattle.std.specs.List.{flat_map}
 use Rattle.std.specs.Option.{option_map_or}
-use Rattle.codes3270.specs.Size.{Shape}
+use Rattle.codes3270.specs.Size.{ScreenSize}
 use Rattle.host_core.specs.Application.{application_of}
 use Rattle.host_core.specs.Questions.{question_of}
-use Rattle.host_core.specs.State.{Host, most_connections, service_at, session_at}
+use Rattle.host_core.specs.State.{Host, most_connections, state_at, session_at}
 use Rattle.host_core.specs.declared.question.Question.{Question}
 use Rattle.host_core.specs.declared.question.Ticket.{Ticket}
-use Rattle.panels.specs.Panel.{PanelParts, Panels, shape_of}
+use Rattle.panels.specs.Panel.{PanelParts, Panels, size_of}
 use Rattle.panels.specs.Screen.{Values}
 use Rattle.panels.specs.Values.{value_of}
 use Rattle.panels.specs.declared.panel.Field.{Field}
@@ -23,7 +23,7 @@ use Rattle.applications.specs.Applications.{key_name, shown_character}
 abbrev pub question_on : ℕ → Host → Option Question
 question_on conn host =
     if nat_lt conn most_connections
-    then question_of (application_of host.panels) (session_at conn host) (service_at conn host) else None
+    then question_of (application_of host.panels) (session_at conn host) (state_at conn host) else None
 
 -- the ticket for a script's answer: that of the open question. If none is open, it is arbitrary, since the host takes
 -- no answer
@@ -38,18 +38,18 @@ abbrev pub unicode_of : List ℕ → List ℕ
 unicode_of bytes = flat_map (λ byte. encode_utf8 (shown_character byte)) bytes
 
 -- the row and the column of a buffer address, both 1-based
-abbrev pub row_of : ℕ → Shape → ℕ
+abbrev pub row_of : ℕ → ScreenSize → ℕ
 row_of address size = address / size.columns + 1
 
-abbrev pub column_of : ℕ → Shape → ℕ
+abbrev pub column_of : ℕ → ScreenSize → ℕ
 column_of address size = address % size.columns + 1
 
 -- the LU, the panel's name, the key, and the cursor's row and column
 abbrev pub heading : PanelParts → Question → List ℕ
 heading panel question =
     codes "question " ++ (lu_text question.lu ++ (codes " " ++ (panel.name ++ (codes " " ++ (key_name question.aid
-    ++ (codes " " ++ (decimal (row_of question.cursor (shape_of panel)) ++ (codes " "
-    ++ (decimal (column_of question.cursor (shape_of panel)) ++ codes "\n")))))))))
+    ++ (codes " " ++ (decimal (row_of question.cursor (size_of panel)) ++ (codes " "
+    ++ (decimal (column_of question.cursor (size_of panel)) ++ codes "\n")))))))))
 
 -- a field's name, and its text between quotes
 abbrev pub field_line : Values → Field → List ℕ

@@ -17,7 +17,7 @@ const PANELS_ASK: u8 = 2;
 
 /// A job that has no application.
 #[derive(Clone, Copy)]
-pub enum Refusing {
+pub enum JobWithoutApplication {
     /// `serve` without the option `--application`.
     Serve,
     /// `host`, which takes none.
@@ -32,16 +32,16 @@ struct AskedKey<'a> {
     /// The key.
     key: Aid,
     /// The job.
-    by: Refusing,
+    by: JobWithoutApplication,
 }
 
 /// The advice at the end of the line.
-fn advice_of(by: Refusing) -> &'static str
+fn advice_of(by: JobWithoutApplication) -> &'static str
     ensures { result.now ≡ advice_of by }
 {
     match by {
-        Refusing::Serve => "; give --application URL",
-        Refusing::Host => "; host has no application: use serve --application URL",
+        JobWithoutApplication::Serve => "; give --application URL",
+        JobWithoutApplication::Host => "; host has no application: use serve --application URL",
     }
 }
 
@@ -121,7 +121,12 @@ pub fn first_asked(panels: &PanelSet) -> Option<(&str, Aid)>
 
 /// Prints that a panel asks an application about a key, and returns the exit status. A line that can't be written is
 /// left out.
-pub fn refuse_asking<E: Sink>(panel: &str, key: Aid, by: Refusing, faults: &mut E) -> u8
+pub fn refuse_asking<E: Sink>(
+    panel: &str,
+    key: Aid,
+    by: JobWithoutApplication,
+    faults: &mut E,
+) -> u8
     ensures status { result ≡ panels_ask }
     ensures told { IsToldIn (E.seen faults.old) (E.seen faults.new) (asked_text panel.now key by) }
 {

@@ -24,7 +24,7 @@ pub use answer_line::answer_in;
 pub use application_fault::{Absence, ApplicationFault, FailureMessage};
 pub use application_reply::{AnswerFault, Replaced, replaced_in};
 pub use application_request::KeyName;
-pub use asked_key::{Refusing, first_asked, refuse_asking};
+pub use asked_key::{JobWithoutApplication, first_asked, refuse_asking};
 pub use exchange::IoProgress;
 pub use exchanges::{Asking, AskingServer, Exchanges};
 pub use panel_host::{application_of, host_of};

@@ -1,6 +1,6 @@
 //! What a panel text defines: its panels, a pool of their LUs, and a host that serves them.
 ghost use Rattle.std.specs.Prelude.{◌≡◌, IfOk, IfErr};
-ghost use Rattle.applications.specs.PanelHosts.{HasNoWorld, IsApplicationOf, IsHostOf, of_panels, of_pool};
+ghost use Rattle.applications.specs.PanelHosts.{DefinesNoHost, IsApplicationOf, IsHostOf, of_panels, of_pool};
 
 use host_core::{Host, Terminals};
 use job_streams::Fault;
@@ -31,7 +31,7 @@ fn of_pool(fault: PoolFault) -> Fault
 /// The panels of a panel text, and a pool of their LUs. Its faults are those of [`host_of`].
 pub fn application_of(alloc: Global, text: &str) -> Result<(PanelSet, Pool), Fault>
     ensures application { IfOk result (λ parts. IsApplicationOf text.now parts.0 parts.1) }
-    ensures fault { IfErr result (HasNoWorld text.now) }
+    ensures fault { IfErr result (DefinesNoHost text.now) }
 {
     let panels = match PanelSet::read(alloc, text) {
         Ok(panels) => panels,
@@ -49,7 +49,7 @@ pub fn application_of(alloc: Global, text: &str) -> Result<(PanelSet, Pool), Fau
 /// Panels if the text defines no panels, Pool if their LUs are no pool, and NoMemory if memory is refused.
 pub fn host_of(alloc: Global, terminals: Terminals, text: &str) -> Result<Host, Fault>
     ensures host { IfOk result (IsHostOf terminals text.now) }
-    ensures fault { IfErr result (HasNoWorld text.now) }
+    ensures fault { IfErr result (DefinesNoHost text.now) }
 {
     let (panels, pool) = match application_of(alloc, text) {
         Ok(parts) => parts,

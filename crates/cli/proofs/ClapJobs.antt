@@ -19,7 +19,7 @@ use Rattle.cli.specs.Topics.{name_of, operand_of, options_of, row_of}
 use Rattle.cli.specs.Words.{IsJobOf, program, job_by_kind, job_shape, job_taken, operand_rules, option_rule}
 use Rattle.cli.specs.ClapCommands.{AddsJobs, AddsArguments, IsCommand, IsJob, IsArgument, IsMatch, MayFail}
 use Rattle.jobs.specs.declared.job.Job.{Job}
-use Rattle.jobs.specs.declared.job.Topic.{Topic}
+use Rattle.jobs.specs.declared.job.HelpTopic.{HelpTopic}
 use Rattle.cli.specs.declared.job_table.JobOption.{JobOption}
 
 -- ---- commands
@@ -53,7 +53,7 @@ rules_of_rows [] = refl
 rules_of_rows (option ∷ options) = ap (λ (rules : List Rule). option_rule (row_of option) ∷ rules) (rules_of_rows options)
 
 -- a job of this name, with these options and then this operand
-pub job_made : (topic : Topic) (name : List ℕ) (options : List JobOption) (operand : Option (List ℕ)) (old mid new : Command)
+pub job_made : (topic : HelpTopic) (name : List ℕ) (options : List JobOption) (operand : Option (List ℕ)) (old mid new : Command)
     → name ≡ name_of topic → map row_of options ≡ options_of topic → operand ≡ operand_of topic
     → IsJob (new_shape name) old → AddsArguments (map (λ option. option_rule (row_of option)) options) old mid → AddsArguments (operand_rules operand) mid new
     → IsJob (job_shape topic) new

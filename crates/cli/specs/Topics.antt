@@ -1,7 +1,7 @@
 -- The jobs: their names and options (our profile).
 use Rattle.std.specs.Prelude.{ℕ, Bool, true, false, List, [], ◌∷◌, Option, Some, None, codes, bytes_eq, if◌then◌else◌}
-use Rattle.jobs.specs.declared.job.Topic.{Topic}
-use Rattle.jobs.specs.declared.job.Topic.TheVariants as topic
+use Rattle.jobs.specs.declared.job.HelpTopic.{HelpTopic}
+use Rattle.jobs.specs.declared.job.HelpTopic.TheVariants as topic
 use Rattle.cli.specs.declared.job_table.JobOption.{JobOption}
 use Rattle.cli.specs.declared.job_table.ValueKind.{ValueKind}
 use Rattle.cli.specs.declared.job_table.ValueKind.TheVariants as kind
@@ -11,7 +11,7 @@ use Rattle.jobs.specs.OptionValues.{address_of, model_of, port_of, reply_time_of
 -- ---- names
 
 -- the name of a topic's job; empty for the whole program
-abbrev pub name_of : Topic → List ℕ
+abbrev pub name_of : HelpTopic → List ℕ
 name_of topic.Program = []
 name_of topic.Script = codes "script"
 name_of topic.Show = codes "show"
@@ -25,13 +25,13 @@ name_of topic.Help = codes "help"
 name_of topic.Version = codes "version"
 
 -- the jobs of the program
-abbrev pub jobs : List Topic
+abbrev pub jobs : List HelpTopic
 jobs = topic.Script ∷ topic.Selfrun ∷ topic.Show ∷ topic.Check ∷ topic.Host ∷ topic.Serve ∷ topic.Term ∷ topic.Operate
     ∷ topic.Help
     ∷ topic.Version ∷ []
 
 -- the job with this name
-abbrev pub topic_named : List ℕ → Option Topic
+abbrev pub topic_named : List ℕ → Option HelpTopic
 topic_named name =
     if bytes_eq name (codes "script") then Some topic.Script else
     if bytes_eq name (codes "show") then Some topic.Show else
@@ -68,7 +68,7 @@ abbrev pub optional : List ℕ → ValueKind → OptionRow
 optional name kind = record { name = name; kind = kind; required = false }
 
 -- the options of a job
-abbrev pub options_of : Topic → List OptionRow
+abbrev pub options_of : HelpTopic → List OptionRow
 options_of topic.Script = optional (codes "any-terminal") kind.Flag ∷ []
 options_of topic.Show = optional (codes "model") kind.Model ∷ []
 options_of topic.Selfrun = optional (codes "turns") kind.Turns ∷ []
@@ -85,12 +85,12 @@ options_of topic.Serve =
 options_of topic.Term = needed (codes "port") kind.Port ∷ optional (codes "lu") kind.LuName
     ∷ optional (codes "model") kind.Model ∷ []
 options_of topic.Operate =
-    needed (codes "port") kind.Port ∷ optional (codes "lu") kind.LuName ∷ optional (codes "model") kind.Model
-    ∷ optional (codes "raw") kind.TtySize ∷ []
+    needed (codes "port") kind.ServicePort ∷ optional (codes "host") kind.Address ∷ optional (codes "lu") kind.LuName
+    ∷ optional (codes "model") kind.Model ∷ optional (codes "raw") kind.TtySize ∷ []
 options_of _ = []
 
 -- the name of a job's operand, a word without an option name: the job after `help`, the file after `check`
-abbrev pub operand_of : Topic → Option (List ℕ)
+abbrev pub operand_of : HelpTopic → Option (List ℕ)
 operand_of topic.Help = Some (codes "job")
 operand_of topic.Check = Some (codes "file")
 operand_of _ = None

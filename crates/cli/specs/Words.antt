@@ -20,9 +20,9 @@ use Rattle.jobs.specs.OptionValues.{address_of, is_same_port, model_of, port_of,
 use Rattle.cli.specs.Topics.{OptionRow, jobs, name_of, operand_of, options_of, takes_value, topic_named}
 use Rattle.jobs.specs.declared.job.Job.{Job}
 use Rattle.jobs.specs.declared.job.Job.TheVariants as job
-use Rattle.jobs.specs.declared.job.LiveOptions.{LiveOptions}
-use Rattle.jobs.specs.declared.job.Topic.{Topic}
-use Rattle.jobs.specs.declared.job.Topic.TheVariants as topic
+use Rattle.jobs.specs.declared.job.OperateOptions.{OperateOptions}
+use Rattle.jobs.specs.declared.job.HelpTopic.{HelpTopic}
+use Rattle.jobs.specs.declared.job.HelpTopic.TheVariants as topic
 use Rattle.jobs.specs.declared.service.ApplicationChoice.{ApplicationChoice}
 use Rattle.jobs.specs.declared.service.Service.{Service}
 use Rattle.jobs.specs.declared.service.TimeLimits.{TimeLimits}
@@ -45,7 +45,7 @@ operand_rules None = []
 operand_rules (Some name) = new_rule name ∷ []
 
 -- a job's shape: its name, options and operand
-abbrev pub job_shape : Topic → Shape
+abbrev pub job_shape : HelpTopic → Shape
 job_shape topic = record (new_shape (name_of topic)) {
   rules = map option_rule (options_of topic) ++ operand_rules (operand_of topic);
 }
@@ -80,8 +80,9 @@ given_model options = option_map_or model_of (first_of (codes "model") options) 
 abbrev pub given_service_port : List Row → Option ℕ
 given_service_port options = option_and_then service_port_of (first_of (codes "port") options)
 
-abbrev pub given_address : List Row → Option IpAddr
-given_address options = option_map_or address_of (first_of (codes "listen") options) (Some this_machine)
+-- the value of an option that is an address; that of this machine if it isn't given
+abbrev pub given_address : (name : List ℕ) → List Row → Option IpAddr
+given_address name options = option_map_or address_of (first_of name options) (Some this_machine)
 
 -- the value of an option in seconds; `usual` if it isn't given
 abbrev pub given_seconds : (name : List ℕ) → (usual : ℕ) → List Row → Option ℕ
@@ -132,7 +133,8 @@ given_service options =
       terminals = terminals;
       quiet = is_given (codes "quiet") options;
       metrics = metrics;
-    }) (given_terminals options)) (given_metrics options)) (given_limits options)) (given_address options))
+    }) (given_terminals options)) (given_metrics options)) (given_limits options))
+    (given_address (codes "listen") options))
     (given_service_port options)
 
 -- the service; None if a value is invalid, or if the metrics port is the port for terminals
@@ -140,14 +142,17 @@ abbrev pub sound_service : List Row → Option Service
 sound_service options = option_and_then
     (λ service. if is_same_port service.port service.metrics then None else Some service) (given_service options)
 
-abbrev pub given_live_options : List Row → Option LiveOptions
+abbrev pub given_live_options : List Row → Option OperateOptions
 given_live_options options =
-    option_and_then (λ port. option_and_then (λ lu. option_and_then (λ model. option_map (λ tty. record {
+    option_and_then (λ host. option_and_then
+    (λ port. option_and_then (λ lu. option_and_then (λ model. option_map (λ tty. record {
+      host = host;
       port = port;
       lu = lu;
       model = model;
       tty = tty;
-    }) (given_tty options)) (given_model options)) (given_lu options)) (given_port options)
+    }) (given_tty options)) (given_model options)) (given_lu options)) (given_service_port options))
+    (given_address (codes "host") options)
 
 abbrev pub given_reply_time : List Row → Option ℕ
 given_reply_time options = option_map_or reply_time_of (first_of (codes "application-timeout") options)
@@ -160,13 +165,13 @@ given_application options =
     (given_reply_time options)
 
 -- the topic after `help`: the whole program if no job is named
-abbrev pub given_topic : List Row → Option Topic
+abbrev pub given_topic : List Row → Option HelpTopic
 given_topic options = option_map_or topic_named (first_of (codes "job") options) (Some topic.Program)
 
 -- ---- jobs
 
 -- the job of a topic with these options
-abbrev pub job_of : Topic → List Row → Option Job
+abbrev pub job_of : HelpTopic → List Row → Option Job
 job_of topic.Program options = None
 job_of topic.Script options = Some (job.Script (given_script_terminals options))
 job_of topic.Show options = option_map (λ model. job.Show model) (given_model options)
@@ -203,7 +208,7 @@ abbrev pub job_taken : List (List ℕ) → Option (List ℕ × List Row) → Opt
 job_taken words named = if ends_by_dashes false words then None else job_by named
 
 -- the topic of `--help`: the job whose option it is
-abbrev pub topic_of : List (List ℕ) → Topic
+abbrev pub topic_of : List (List ℕ) → HelpTopic
 topic_of [] = topic.Program
 topic_of (word ∷ words) = unwrap_or (topic_named word) topic.Program
 

@@ -17,8 +17,8 @@ use clap::{Arg, ArgAction, ArgMatches, Command};
 use codes3270::Model;
 use host_core::Terminals;
 use jobs::{
-    ApplicationChoice, Job, LiveOptions, Port, ReplyTime, Seconds, Service, ServicePort,
-    TimeLimits, Topic, TtySize, Turns, WordText, address_of, model_of,
+    ApplicationChoice, HelpTopic, Job, Operand, OperateOptions, Port, ReplyTime, Seconds, Service,
+    ServicePort, TimeLimits, TtySize, Turns, address_of, model_of,
 };
 use std::alloc::{AllocError, Global};
 use std::net::{IpAddr, Ipv4Addr};
@@ -78,7 +78,7 @@ fn with_operand<'a>(
 }
 
 /// A job's subcommand with its options and its operand.
-fn job<'a>(alloc: Global, topic: Topic) -> Result<Command<'a>, AllocError>
+fn job<'a>(alloc: Global, topic: HelpTopic) -> Result<Command<'a>, AllocError>
     ensures { IfOk result (IsJob (job_shape topic)) }
 {
     let bare = Command::new(alloc, name_of(topic));
@@ -90,7 +90,7 @@ fn job<'a>(alloc: Global, topic: Topic) -> Result<Command<'a>, AllocError>
 fn with_jobs<'a>(
     alloc: Global,
     command: Command<'a>,
-    jobs: &[Topic],
+    jobs: &[HelpTopic],
 ) -> Result<Command<'a>, AllocError>
     ensures { IfOk result (AddsJobs (map job_shape jobs.now) command.entry) }
 {
@@ -128,10 +128,10 @@ fn given<'a>(options: &ArgMatches<'a>, name: &str) -> Option<&'a str>
 }
 
 /// The value of an option or operand whose value is any text, if it is given.
-fn text_in<'a>(options: &ArgMatches<'a>, name: &str) -> Option<WordText<'a>>
+fn text_in<'a>(options: &ArgMatches<'a>, name: &str) -> Option<Operand<'a>>
     ensures { result ≡ first_of name.now (rows_of (found_of options.now)) }
 {
-    Some(WordText::new(given(options, name)?))
+    Some(Operand::new(given(options, name)?))
 }
 
 /// The value of `--port`, 1024 to 65535.
@@ -181,18 +181,18 @@ fn tty_in(options: &ArgMatches<'_>) -> Option<Option<TtySize>>
     }
 }
 
-/// The value of `--port` of `serve`, 1 to 65535.
+/// The value of `--port` of `serve` or `operate`, 1 to 65535.
 fn service_port_in(options: &ArgMatches<'_>) -> Option<ServicePort>
     ensures { result ≡ given_service_port (rows_of (found_of options.now)) }
 {
     ServicePort::read(given(options, "port")?)
 }
 
-/// The value of `--listen`; 127.0.0.1 if it isn't given.
-fn address_in(options: &ArgMatches<'_>) -> Option<IpAddr>
-    ensures { result ≡ given_address (rows_of (found_of options.now)) }
+/// The value of an option that is an address; 127.0.0.1 if it isn't given.
+fn address_in(options: &ArgMatches<'_>, name: &str) -> Option<IpAddr>
+    ensures { result ≡ given_address name.now (rows_of (found_of options.now)) }
 {
-    match given(options, "listen") {
+    match given(options, name) {
         Some(word) => address_of(word),
         None => Some(IpAddr::V4(Ipv4Addr::LOCALHOST)),
     }
@@ -280,7 +280,7 @@ fn service_in(options: &ArgMatches<'_>) -> Option<Service>
 {
     Some(Service {
         port: service_port_in(options)?,
-        listen: address_in(options)?,
+        listen: address_in(options, "listen")?,
         limits: limits_in(options)?,
         metrics: metrics_in(options)?,
         terminals: terminals_in(options)?,
@@ -312,11 +312,12 @@ fn sound_service_in(options: &ArgMatches<'_>) -> Option<Service>
 }
 
 /// The options of `operate`.
-fn live_options_in(options: &ArgMatches<'_>) -> Option<LiveOptions>
+fn live_options_in(options: &ArgMatches<'_>) -> Option<OperateOptions>
     ensures { result ≡ given_live_options (rows_of (found_of options.now)) }
 {
-    Some(LiveOptions {
-        port: port_in(options)?,
+    Some(OperateOptions {
+        host: address_in(options, "host")?,
+        port: service_port_in(options)?,
         lu: lu_in(options)?,
         model: model_in(options)?,
         tty: tty_in(options)?,
@@ -344,60 +345,60 @@ fn application_in<'a>(options: &ArgMatches<'a>) -> Option<ApplicationChoice<'a>>
 }
 
 /// The topic after `help`: the whole program if no job is named. None if the word isn't the name of a job.
-fn topic_in(options: &ArgMatches<'_>) -> Option<Topic>
+fn topic_in(options: &ArgMatches<'_>) -> Option<HelpTopic>
     ensures { result ≡ given_topic (rows_of (found_of options.now)) }
 {
     match given(options, "job") {
         Some(word) => topic_named(word),
-        None => Some(Topic::Program),
+        None => Some(HelpTopic::Program),
     }
 }
 
 /// The topic of `--help`: the job whose option it is.
-pub(crate) fn topic_of(words: &[String]) -> Topic
+pub(crate) fn topic_of(words: &[String]) -> HelpTopic
     ensures { result ≡ topic_of (map string_bytes words.now) }
 {
     match words {
-        [first, ..] => topic_named(first.as_str()).unwrap_or(Topic::Program),
-        [] => Topic::Program,
+        [first, ..] => topic_named(first.as_str()).unwrap_or(HelpTopic::Program),
+        [] => HelpTopic::Program,
     }
 }
 
 /// The job of a topic with these options.
-fn job_of<'a>(topic: Topic, options: &ArgMatches<'a>) -> Option<Job<'a>>
+fn job_of<'a>(topic: HelpTopic, options: &ArgMatches<'a>) -> Option<Job<'a>>
     ensures { result ≡ job_of topic (rows_of (found_of options.now)) }
 {
     let job = match topic {
-        Topic::Program => return None,
-        Topic::Script => Job::Script {
+        HelpTopic::Program => return None,
+        HelpTopic::Script => Job::Script {
             terminals: script_terminals_in(options),
         },
-        Topic::Show => Job::Show {
+        HelpTopic::Show => Job::Show {
             model: model_in(options)?,
         },
-        Topic::Selfrun => Job::Selfrun {
+        HelpTopic::Selfrun => Job::Selfrun {
             turns: turns_in(options)?,
         },
-        Topic::Check => Job::Check {
+        HelpTopic::Check => Job::Check {
             file: text_in(options, "file"),
         },
-        Topic::Host => Job::Host {
+        HelpTopic::Host => Job::Host {
             port: port_in(options)?,
             turns: turns_in(options)?,
         },
-        Topic::Serve => Job::Serve {
+        HelpTopic::Serve => Job::Serve {
             service: sound_service_in(options)?,
             panels: text_in(options, "panels"),
             application: application_in(options)?,
         },
-        Topic::Term => Job::Term {
+        HelpTopic::Term => Job::Term {
             port: port_in(options)?,
             lu: lu_in(options)?,
             model: model_in(options)?,
         },
-        Topic::Operate => Job::Operate(live_options_in(options)?),
-        Topic::Help => Job::Help(topic_in(options)?),
-        Topic::Version => Job::Version,
+        HelpTopic::Operate => Job::Operate(live_options_in(options)?),
+        HelpTopic::Help => Job::Help(topic_in(options)?),
+        HelpTopic::Version => Job::Version,
     };
     Some(job)
 }

@@ -3,7 +3,7 @@ ghost use Rattle.cli.specs.Helps.{PrintsLine};
 
 use crate::job_table::{JOBS, JobOption, name_of, options_of};
 use job_streams::{Fault, Sink, WriteFailed, report_and_exit_code};
-use jobs::Topic;
+use jobs::HelpTopic;
 use std::fmt;
 
 /// The program's version.
@@ -46,58 +46,59 @@ struct JobText {
 }
 
 /// The help texts of a topic's job.
-fn text_of(topic: Topic) -> JobText {
+fn text_of(topic: HelpTopic) -> JobText {
     match topic {
-        Topic::Script => JobText {
+        HelpTopic::Script => JobText {
             summary: "serve panels to terminals, which do commands; this is the job if no word is given",
             purpose: "Serve panels to four terminals, of models 2 to 5, which do commands, and print what their \
                 operators see.",
             notes: "\n\nINPUT is panels in TOML, a line %%, and commands, one a line.",
         },
-        Topic::Selfrun => JobText {
+        HelpTopic::Selfrun => JobText {
             summary: "do the same over sockets",
             purpose: "Serve panels to four terminals, of models 2 to 5, over sockets of this machine. The terminals do \
                 commands. Print what their operators see.",
             notes: "\n\nINPUT is panels in TOML, a line %%, and commands, one a line.",
         },
-        Topic::Show => JobText {
+        HelpTopic::Show => JobText {
             summary: "apply commands of the data stream, in hexadecimal, to a blank screen, and print it",
             purpose: "Apply commands of the 3270 data stream to a blank screen, and print it.",
             notes: "\n\nINPUT is commands, one a line: pairs of hexadecimal digits, and blanks; no tab, CR or comment.",
         },
-        Topic::Check => JobText {
+        HelpTopic::Check => JobText {
             summary: "print every fault of a panel text",
             purpose: "Print every fault of a panel text, and warnings, each with its line. Without FILE the text is \
                 standard input.",
             notes: "\n\nFILE is panels in TOML. A line %% ends them.",
         },
-        Topic::Host => JobText {
+        HelpTopic::Host => JobText {
             summary: "serve panels to terminals that connect to 127.0.0.1, for a number of turns",
             purpose: "Serve panels to terminals that connect to 127.0.0.1, for a number of turns.",
             notes: "\n\nINPUT is panels in TOML.",
         },
-        Topic::Serve => JobText {
+        HelpTopic::Serve => JobText {
             summary: "serve panels to terminals that connect, without end",
             purpose: "Serve panels to terminals that connect, without end, and log each connection on standard error.",
             notes: "\n\nOther SECONDS are 0 to 1000000; 0 is no limit.\nINPUT is panels in TOML.",
         },
-        Topic::Term => JobText {
+        HelpTopic::Term => JobText {
             summary: "be a terminal of the host at 127.0.0.1, and do commands",
             purpose: "Be a terminal of the host at 127.0.0.1, and do commands.",
             notes: "\n\nINPUT is commands, one a line.",
         },
-        Topic::Operate => JobText {
-            summary: "be a terminal of the host at 127.0.0.1, for an operator at a tty",
-            purpose: "Be a terminal of the host at 127.0.0.1, for an operator at this tty. Start it by the script \
-                bin/operate [OPTION ..] PORT [LU].",
-            notes: "\n\nThe status row has the keyboard's lock, the LU and the cursor. Ctrl-] ends the program.",
+        HelpTopic::Operate => JobText {
+            summary: "be a terminal of a host, for an operator at a tty",
+            purpose: "Be a terminal of a host, for an operator at this tty. Start it by the script bin/operate \
+                [OPTION ..] [HOST:]PORT [LU].",
+            notes: "\n\nThe status row has the keyboard's lock, the LU and the cursor. ESC and ? show the keys; Ctrl-] \
+                ends the program.",
         },
-        Topic::Program | Topic::Help => JobText {
+        HelpTopic::Program | HelpTopic::Help => JobText {
             summary: "print this text, or with a job's name the help of that job",
             purpose: "Print the help of the program, or of a job.",
             notes: "",
         },
-        Topic::Version => JobText {
+        HelpTopic::Version => JobText {
             summary: "print the version",
             purpose: "Print the version of the program.",
             notes: "",
@@ -106,11 +107,11 @@ fn text_of(topic: Topic) -> JobText {
 }
 
 /// The words after the options in the usage line of a job.
-fn after_options(topic: Topic) -> &'static str {
+fn after_options(topic: HelpTopic) -> &'static str {
     match topic {
-        Topic::Check => " [FILE]",
-        Topic::Help => " [JOB]",
-        Topic::Program | Topic::Operate | Topic::Version => "",
+        HelpTopic::Check => " [FILE]",
+        HelpTopic::Help => " [JOB]",
+        HelpTopic::Program | HelpTopic::Operate | HelpTopic::Version => "",
         _ => " < INPUT",
     }
 }
@@ -160,7 +161,7 @@ impl fmt::Display for OptionList<'_> {
 
 /// Prints as the help on a topic.
 #[derive(Clone, Copy, Drop)]
-struct Help(Topic);
+struct Help(HelpTopic);
 
 impl fmt::Display for Help {
     fn fmt<W: fmt::Write>(&self, f: &mut fmt::Formatter<W>) -> fmt::Result {
@@ -193,7 +194,7 @@ fn print_line<D: fmt::Display + Drop, O: Sink, E: Sink>(text: D, out: &mut O, fa
 }
 
 /// Prints the help on a topic, and returns the exit status: 0, or 6 if the output fails.
-pub fn run_help<O: Sink, E: Sink>(topic: Topic, out: &mut O, faults: &mut E) -> u8
+pub fn run_help<O: Sink, E: Sink>(topic: HelpTopic, out: &mut O, faults: &mut E) -> u8
     ensures { PrintsLine (O.seen out.old) (O.seen out.new) (E.seen faults.old) (E.seen faults.new) result }
 {
     print_line(Help(topic), out, faults)

@@ -2,7 +2,7 @@
 ghost use Rattle.std.specs.Prelude.{◌≡◌, map, option_map};
 ghost use Rattle.cli.specs.Topics.{name_of, operand_of, options_of, row_of, takes_value, topic_named};
 
-use jobs::Topic;
+use jobs::HelpTopic;
 
 /// The kind of an option's value. A flag has none.
 #[derive(Clone, Copy)]
@@ -113,91 +113,93 @@ static SERVE: [JobOption<'static>; 12] = [
 
 static TERM: [JobOption<'static>; 3] = [PORT, LU, MODEL];
 
-static OPERATE: [JobOption<'static>; 4] = [
-    PORT,
+static OPERATE: [JobOption<'static>; 5] = [
+    option!(needs "port": ServicePort, "the port of the host, 1 to 65535"),
+    option!(takes "host": Address,
+        "the IPv4 or IPv6 address of the host; localhost is 127.0.0.1 [default: 127.0.0.1]"),
     LU,
     MODEL,
     option!(takes "raw": TtySize, "the size of the tty, which is in raw mode: bin/operate says so"),
 ];
 
 /// The jobs of the program.
-pub(crate) static JOBS: [Topic; 10] = [
-    Topic::Script,
-    Topic::Selfrun,
-    Topic::Show,
-    Topic::Check,
-    Topic::Host,
-    Topic::Serve,
-    Topic::Term,
-    Topic::Operate,
-    Topic::Help,
-    Topic::Version,
+pub(crate) static JOBS: [HelpTopic; 10] = [
+    HelpTopic::Script,
+    HelpTopic::Selfrun,
+    HelpTopic::Show,
+    HelpTopic::Check,
+    HelpTopic::Host,
+    HelpTopic::Serve,
+    HelpTopic::Term,
+    HelpTopic::Operate,
+    HelpTopic::Help,
+    HelpTopic::Version,
 ];
 
 /// The options of a job.
-pub(crate) fn options_of(topic: Topic) -> &'static [JobOption<'static>]
+pub(crate) fn options_of(topic: HelpTopic) -> &'static [JobOption<'static>]
     ensures { map row_of result.now ≡ options_of topic }
 {
     match topic {
-        Topic::Script => &SCRIPT,
-        Topic::Show => &SHOW,
-        Topic::Selfrun => &SELFRUN,
-        Topic::Host => &HOST,
-        Topic::Serve => &SERVE,
-        Topic::Term => &TERM,
-        Topic::Operate => &OPERATE,
-        Topic::Program | Topic::Check => &[],
-        Topic::Help | Topic::Version => &[],
+        HelpTopic::Script => &SCRIPT,
+        HelpTopic::Show => &SHOW,
+        HelpTopic::Selfrun => &SELFRUN,
+        HelpTopic::Host => &HOST,
+        HelpTopic::Serve => &SERVE,
+        HelpTopic::Term => &TERM,
+        HelpTopic::Operate => &OPERATE,
+        HelpTopic::Program | HelpTopic::Check => &[],
+        HelpTopic::Help | HelpTopic::Version => &[],
     }
 }
 
 /// The name of the operand of a job, which is a word without an option name; None if the job has none.
-pub(crate) fn operand_of<'a>(topic: Topic) -> Option<&'a str>
+pub(crate) fn operand_of<'a>(topic: HelpTopic) -> Option<&'a str>
     ensures { option_map (λ name. name.now) result ≡ operand_of topic }
 {
     match topic {
-        Topic::Help => Some("job"),
-        Topic::Check => Some("file"),
-        Topic::Program | Topic::Script | Topic::Show | Topic::Selfrun => None,
-        Topic::Host | Topic::Serve | Topic::Term | Topic::Operate => None,
-        Topic::Version => None,
+        HelpTopic::Help => Some("job"),
+        HelpTopic::Check => Some("file"),
+        HelpTopic::Program | HelpTopic::Script | HelpTopic::Show | HelpTopic::Selfrun => None,
+        HelpTopic::Host | HelpTopic::Serve | HelpTopic::Term | HelpTopic::Operate => None,
+        HelpTopic::Version => None,
     }
 }
 
 /// The name of a topic's job; empty for the whole program.
-pub(crate) fn name_of<'a>(topic: Topic) -> &'a str
+pub(crate) fn name_of<'a>(topic: HelpTopic) -> &'a str
     ensures { result.now ≡ name_of topic }
 {
     match topic {
-        Topic::Program => "",
-        Topic::Script => "script",
-        Topic::Show => "show",
-        Topic::Selfrun => "selfrun",
-        Topic::Check => "check",
-        Topic::Host => "host",
-        Topic::Serve => "serve",
-        Topic::Term => "term",
-        Topic::Operate => "operate",
-        Topic::Help => "help",
-        Topic::Version => "version",
+        HelpTopic::Program => "",
+        HelpTopic::Script => "script",
+        HelpTopic::Show => "show",
+        HelpTopic::Selfrun => "selfrun",
+        HelpTopic::Check => "check",
+        HelpTopic::Host => "host",
+        HelpTopic::Serve => "serve",
+        HelpTopic::Term => "term",
+        HelpTopic::Operate => "operate",
+        HelpTopic::Help => "help",
+        HelpTopic::Version => "version",
     }
 }
 
 /// The topic of the job with this name.
-pub(crate) fn topic_named(name: &str) -> Option<Topic>
+pub(crate) fn topic_named(name: &str) -> Option<HelpTopic>
     ensures { result ≡ topic_named name.now }
 {
     match name {
-        "script" => Some(Topic::Script),
-        "show" => Some(Topic::Show),
-        "selfrun" => Some(Topic::Selfrun),
-        "check" => Some(Topic::Check),
-        "host" => Some(Topic::Host),
-        "serve" => Some(Topic::Serve),
-        "term" => Some(Topic::Term),
-        "operate" => Some(Topic::Operate),
-        "help" => Some(Topic::Help),
-        "version" => Some(Topic::Version),
+        "script" => Some(HelpTopic::Script),
+        "show" => Some(HelpTopic::Show),
+        "selfrun" => Some(HelpTopic::Selfrun),
+        "check" => Some(HelpTopic::Check),
+        "host" => Some(HelpTopic::Host),
+        "serve" => Some(HelpTopic::Serve),
+        "term" => Some(HelpTopic::Term),
+        "operate" => Some(HelpTopic::Operate),
+        "help" => Some(HelpTopic::Help),
+        "version" => Some(HelpTopic::Version),
         _ => None,
     }
 }

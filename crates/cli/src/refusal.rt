@@ -10,7 +10,9 @@ use crate::job_table::{ValueKind, name_of, options_of};
 use clap::ArgMatches;
 use clap::error::ErrorKind;
 use job_streams::Sink;
-use jobs::{Port, ReplyTime, Seconds, ServicePort, Topic, TtySize, Turns, address_of, model_of};
+use jobs::{
+    HelpTopic, Port, ReplyTime, Seconds, ServicePort, TtySize, Turns, address_of, model_of,
+};
 use std::alloc::Global;
 use std::fmt;
 use thiserror::Error;
@@ -18,7 +20,7 @@ use tn3270e_msg::Lu;
 
 /// Prints as the line that says how to get help on a topic.
 #[derive(Clone, Copy)]
-struct SeeHelp(Topic);
+struct SeeHelp(HelpTopic);
 
 impl fmt::Display for SeeHelp {
     fn fmt<W: fmt::Write>(&self, f: &mut fmt::Formatter<W>) -> fmt::Result {
@@ -37,25 +39,25 @@ pub enum WordFault<'a> {
     #[error("no memory")]
     Memory,
     /// A word isn't UTF-8.
-    #[error("error: a word isn't UTF-8{help}", help = SeeHelp(Topic::Program))]
+    #[error("error: a word isn't UTF-8{help}", help = SeeHelp(HelpTopic::Program))]
     NotText,
     /// Clap doesn't accept the arguments, and gives this text.
     #[error("{text}", text = .0.as_str().trim_end())]
     NotTaken(String),
     /// `help` is given a word that isn't the name of a job.
-    #[error("error: unknown job '{0}'{help}", help = SeeHelp(Topic::Program))]
+    #[error("error: unknown job '{0}'{help}", help = SeeHelp(HelpTopic::Program))]
     UnknownJob(&'a str),
-    /// The value of this job's option is invalid.
-    #[error("error: invalid value '{2}' for '--{1}'{help}", help = SeeHelp(*.0))]
-    Invalid(Topic, &'static str, &'a str),
+    /// The value of this job's option is invalid. The last text says what is needed, if that helps.
+    #[error("error: invalid value '{2}' for '--{1}'{3}{help}", help = SeeHelp(*.0))]
+    Invalid(HelpTopic, &'static str, &'a str, &'static str),
     /// Nothing follows `--`, which ends the options of this job.
     #[error("error: unexpected word '--'{help}", help = SeeHelp(*.0))]
-    Dashes(Topic),
+    Dashes(HelpTopic),
     /// `--metrics` of `serve` has the port of `--port`.
-    #[error("error: '--metrics' has the port of '--port'{help}", help = SeeHelp(Topic::Serve))]
+    #[error("error: '--metrics' has the port of '--port'{help}", help = SeeHelp(HelpTopic::Serve))]
     OnePort,
     /// `serve` has both `--own-terminals` and `--verify`.
-    #[error("error: '--verify' excludes '--own-terminals'{help}", help = SeeHelp(Topic::Serve))]
+    #[error("error: '--verify' excludes '--own-terminals'{help}", help = SeeHelp(HelpTopic::Serve))]
     OwnVerified,
 }
 
@@ -100,13 +102,21 @@ fn is_value(kind: ValueKind, word: &str) -> bool {
     }
 }
 
+/// What a value of this kind must be, if an operator may well give another.
+fn need_of(kind: ValueKind) -> &'static str {
+    match kind {
+        ValueKind::Address => ": an IPv4 or IPv6 address is needed, or localhost",
+        _ => "",
+    }
+}
+
 /// Why the options of a job are refused although clap accepts them: the first invalid value, or otherwise two options
 /// that exclude each other.
-fn wrong_options<'a>(topic: Topic, options: &ArgMatches<'a>) -> WordFault<'a> {
+fn wrong_options<'a>(topic: HelpTopic, options: &ArgMatches<'a>) -> WordFault<'a> {
     for option in options_of(topic) {
         if let Some(word) = options.get_str(option.name) {
             if !is_value(option.kind, word) {
-                return WordFault::Invalid(topic, option.name, word);
+                return WordFault::Invalid(topic, option.name, word, need_of(option.kind));
             }
         }
     }

@@ -4,20 +4,20 @@ use Rattle.codes3270.specs.declared.size.Model.{Model}
 use Rattle.codes3270.specs.declared.size.Model.TheVariants.{M2, M3, M4, M5}
 
 -- the size of a screen: its rows, and the cells of a row
-pub record Shape : Type 0 where
+pub record ScreenSize : Type 0 where
   pub rows : ℕ
   pub columns : ℕ
 
 -- the number of cells of a screen
-abbrev pub cells_in : Shape → ℕ
+abbrev pub cells_in : ScreenSize → ℕ
 cells_in size = size.rows * size.columns
 
 -- the size at the start of every connection, and after Erase/Write
-abbrev pub model_2 : Shape
+abbrev pub model_2 : ScreenSize
 model_2 = record { rows = 24; columns = 80 }
 
 -- the size after Erase/Write Alternate
-abbrev pub alternate_of : Model → Shape
+abbrev pub alternate_of : Model → ScreenSize
 alternate_of M2 = model_2
 alternate_of M3 = record { rows = 32; columns = 80 }
 alternate_of M4 = record { rows = 43; columns = 80 }

@@ -52,9 +52,9 @@ pub struct Size {
 }
 
 impl marker::Model for Size {
-    ghost use Rattle.codes3270.specs.Size.{Shape, alternate_of, cells_in, model_with};
+    ghost use Rattle.codes3270.specs.Size.{ScreenSize, alternate_of, cells_in, model_with};
 
-    ghost Value = { Shape };
+    ghost Value = { ScreenSize };
 
     ghost view = { λ size. alternate_of size.model };
 

@@ -242,12 +242,12 @@ module _ (size : ℕ) where
   pub shorter_behind : (bytes : List ℕ) (order : Order) (rest : List ℕ) → order_at size bytes ≡ Ok (order, rest) → length (behind rest) < length bytes
   shorter_behind bytes order rest is = omega (arith, shorter size bytes order rest is, length-drop (prefix_len is_storable rest) rest)
 
-  -- a character is spelt by a byte that a cell can hold
+  -- a character is encoded by a byte that a cell can hold
   none_ahead : (byte : ℕ) (bytes : List ℕ) (others : List ℕ → List Order) (r : Result (Order × List ℕ) CommandFault) → IsRead size (byte ∷ bytes) r → is_storable byte ≡ false
       → characters_ahead (and_orders others r) ≡ []
-  none_ahead byte bytes others (Ok (Char char, rest)) (front, (storable, is), spelt, some) other =
+  none_ahead byte bytes others (Ok (Char char, rest)) (front, (storable, is), encoded, some) other =
       absurd (
-      let whole : byte ∷ bytes ≡ char ∷ rest = spelt ∙ ap (λ f. f ++ rest) is in
+      let whole : byte ∷ bytes ≡ char ∷ rest = encoded ∙ ap (λ f. f ++ rest) is in
       let same : byte ≡ char = ap (λ bs. get_or bs 0 0) whole in
       false≢true (sym other ∙ ap is_storable same ∙ storable))
   none_ahead byte bytes others (Ok (Sf attr, rest)) read other = refl

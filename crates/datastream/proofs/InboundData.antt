@@ -4,7 +4,7 @@ use Rattle.std.specs.Prelude.{MatchOption, MatchResult, All, if◌then◌else◌
 use Rattle.std.proofs.lemmas.Bool.{cases_lt, false≢true, lt-ltb, le-ltb}
 use Rattle.std.proofs.lemmas.List.{take_all}
 use Rattle.std.proofs.lemmas.List.Elements.{All-nil}
-use Rattle.codes3270.specs.Size.{Shape, cells_in}
+use Rattle.codes3270.specs.Size.{ScreenSize, cells_in}
 use Rattle.codes3270.specs.Address.{address_of}
 use Rattle.codes3270.specs.Aid.{aid_of}
 use Rattle.codes3270.specs.declared.attention.Aid.{Aid}
@@ -66,7 +66,7 @@ record IsLateFault (size : ℕ) (form : Form) (fault : InboundFault) (bytes : Li
   is : bytes ≡ byte ∷ high ∷ low ∷ text
   not_early : early_fault size form bytes ≡ None
 
-early_or_late : (size : Shape) (form : Form) (fault : InboundFault) (bytes : List ℕ) → IsNoInbound size form fault bytes → (early_fault (cells_in size) form bytes ≡ Some fault) ⊎ IsLateFault (cells_in size) form fault bytes
+early_or_late : (size : ScreenSize) (form : Form) (fault : InboundFault) (bytes : List ℕ) → IsNoInbound size form fault bytes → (early_fault (cells_in size) form bytes ≡ Some fault) ⊎ IsLateFault (cells_in size) form fault bytes
 early_or_late size form fault bytes (no_bytes which is) = inl (rw (is, which) refl)
 early_or_late size form fault bytes (unknown_aid byte more unknown which is) = inl (rw (is, which) (ap (fault_behind (cells_in size) form more) unknown))
 early_or_late size form fault bytes (not_alone aid byte next more known stands which is) = inl (rw (is, which) (behind_alone (cells_in size) form byte (next ∷ more) aid known stands))
@@ -92,10 +92,10 @@ not_early_inbound a bytes (long byte high low cursor text goes_on known is_curso
 
 -- ---- one inbound data
 
-abbrev inbound_with : Form → Shape → Aid → Option ℕ → List Part → InboundParts
+abbrev inbound_with : Form → ScreenSize → Aid → Option ℕ → List Part → InboundParts
 inbound_with form size aid cursor parts = record { form = form; size = size; aid = aid; cursor = cursor; parts = parts }
 
-same_inbound : (f g : Form) (s t : Shape) (a b : Aid) (c d : Option ℕ) (ps qs : List Part) → f ≡ g → s ≡ t → a ≡ b → c ≡ d → ps ≡ qs → inbound_with f s a c ps ≡ inbound_with g t b d qs
+same_inbound : (f g : Form) (s t : ScreenSize) (a b : Aid) (c d : Option ℕ) (ps qs : List Part) → f ≡ g → s ≡ t → a ≡ b → c ≡ d → ps ≡ qs → inbound_with f s a c ps ≡ inbound_with g t b d qs
 same_inbound f g s t a b c d ps qs e h i j k = cc
 
 same_aid : (a b : Aid) (x y : ℕ) → aid_of x ≡ Some a → aid_of y ≡ Some b → x ≡ y → a ≡ b
@@ -128,7 +128,7 @@ one_inbound a b bytes same sized (long x h l n s long_a known_a cursor_a address
     let behind = behind_is bytes x y h l c d s t is_a is_b in
     let cursors : n ≡ m = same_cursor h l c d n m address_a.0 address_b.0 behind.0 behind.1 in
     let parts : a.parts ≡ b.parts =
-    sym (parts_in-whole (cells_in a.size) a.form a.parts s are_a) ∙ ap (λ (size : Shape). parts_in (cells_in size) a.form s) sized
+    sym (parts_in-whole (cells_in a.size) a.form a.parts s are_a) ∙ ap (λ (size : ScreenSize). parts_in (cells_in size) a.form s) sized
     ∙ ap (λ f. parts_in (cells_in b.size) f s) same ∙ ap (parts_in (cells_in b.size) b.form) behind.2 ∙ parts_in-whole (cells_in b.size) b.form b.parts t are_b in
     same_inbound a.form b.form a.size b.size a.aid b.aid a.cursor b.cursor a.parts b.parts same sized (same_aid a.aid b.aid x y known_a known_b (head_is bytes x y (h ∷ l ∷ s) (c ∷ d ∷ t) is_a is_b)) (cursor_a ∙ ap Some cursors ∙ sym cursor_b) parts
 
@@ -156,7 +156,7 @@ same_late size form f g bytes late_f late_g =
     let behind = behind_is bytes late_f.byte late_g.byte late_f.high late_f.low late_g.high late_g.low late_f.text late_g.text late_f.is late_g.is in
     one_part_fault size form f g late_g.text (subst (λ u. HasPartFault size form f u) behind.2 late_f.faulty) late_g.faulty
 
-one_inbound_fault : (size : Shape) (form : Form) (f g : InboundFault) (bytes : List ℕ) → IsNoInbound size form f bytes → IsNoInbound size form g bytes → f ≡ g
+one_inbound_fault : (size : ScreenSize) (form : Form) (f g : InboundFault) (bytes : List ℕ) → IsNoInbound size form f bytes → IsNoInbound size form g bytes → f ≡ g
 one_inbound_fault size form f g bytes none_f none_g =
     elim (early_or_late size form f bytes none_f) [
       | inl early_f ↦ elim (early_or_late size form g bytes none_g) [
@@ -171,21 +171,21 @@ one_inbound_fault size form f g bytes none_f none_g =
 
 -- ---- so a reader that answers inbound data or a fault answers the one
 
-abbrev pub IsRead : Form → Shape → List ℕ → Result InboundParts InboundFault → Type 0
+abbrev pub IsRead : Form → ScreenSize → List ℕ → Result InboundParts InboundFault → Type 0
 IsRead form size bytes read = MatchResult read (λ a. (a.form ≡ form) × (a.size ≡ size) × IsInbound a bytes) (λ f. IsNoInbound size form f bytes)
 
 -- a fault of a form and a size is one of inbound data that has them
-fault_of : (a : InboundParts) (form : Form) (size : Shape) (fault : InboundFault) (bytes : List ℕ) → a.form ≡ form → a.size ≡ size
+fault_of : (a : InboundParts) (form : Form) (size : ScreenSize) (fault : InboundFault) (bytes : List ℕ) → a.form ≡ form → a.size ≡ size
     → IsNoInbound size form fault bytes → IsNoInbound a.size a.form fault bytes
 fault_of a form size fault bytes of_form of_size none =
-    subst (λ (g : Form). IsNoInbound a.size g fault bytes) (sym of_form) (subst (λ (s : Shape). IsNoInbound s form fault bytes) (sym of_size) none)
+    subst (λ (g : Form). IsNoInbound a.size g fault bytes) (sym of_form) (subst (λ (s : ScreenSize). IsNoInbound s form fault bytes) (sym of_size) none)
 
-pub only_inbound : (form : Form) (size : Shape) (r : Result InboundParts InboundFault) (bytes : List ℕ) → IsRead form size bytes r
+pub only_inbound : (form : Form) (size : ScreenSize) (r : Result InboundParts InboundFault) (bytes : List ℕ) → IsRead form size bytes r
     → (a : InboundParts) → a.form ≡ form → a.size ≡ size → IsInbound a bytes → r ≡ Ok a
 only_inbound form size (Ok b) bytes (b_form, b_size, read) a of_form of_size inbound = ap Ok (one_inbound b a bytes (b_form ∙ sym of_form) (b_size ∙ sym of_size) read inbound)
 only_inbound form size (Err f) bytes read a of_form of_size inbound = absurd (inbound_or_fault a f bytes inbound (fault_of a form size f bytes of_form of_size read))
 
-pub first_inbound_fault : (form : Form) (size : Shape) (r : Result InboundParts InboundFault) (bytes : List ℕ) → IsRead form size bytes r
+pub first_inbound_fault : (form : Form) (size : ScreenSize) (r : Result InboundParts InboundFault) (bytes : List ℕ) → IsRead form size bytes r
     → (f : InboundFault) → IsNoInbound size form f bytes → r ≡ Err f
 first_inbound_fault form size (Ok b) bytes (b_form, b_size, read) f fault = absurd (inbound_or_fault b f bytes read (fault_of b form size f bytes b_form b_size fault))
 first_inbound_fault form size (Err g) bytes read f fault = ap Err (one_inbound_fault size form g f bytes read fault)
@@ -233,12 +233,12 @@ pub are_none : (size : ℕ) (form : Form) (rest : List ℕ) → length rest ≡ 
 are_none size form [] none = subst (λ ps. AreParts size form ps []) (sym (parts_in-nil size form)) refl
 are_none size form (next ∷ more) none = absurd (omega arith)
 
-pub alone_read : (size : Shape) (form : Form) (aid : Aid) (byte : ℕ) (rest : List ℕ) → aid_of byte ≡ Some aid → stands_alone form aid ≡ true → length rest ≡ 0
+pub alone_read : (size : ScreenSize) (form : Form) (aid : Aid) (byte : ℕ) (rest : List ℕ) → aid_of byte ≡ Some aid → stands_alone form aid ≡ true → length rest ≡ 0
     → IsInbound (record { form = form; size = size; aid = aid; cursor = None; parts = parts_in (cells_in size) form rest }) (byte ∷ rest)
 alone_read size form aid byte [] known stands none = alone byte stands known refl (parts_in-nil (cells_in size) form) refl
 alone_read size form aid byte (next ∷ more) known stands none = absurd (omega arith)
 
-pub not_alone_read : (size : Shape) (form : Form) (aid : Aid) (byte : ℕ) (rest : List ℕ) → aid_of byte ≡ Some aid → stands_alone form aid ≡ true → 0 < length rest
+pub not_alone_read : (size : ScreenSize) (form : Form) (aid : Aid) (byte : ℕ) (rest : List ℕ) → aid_of byte ≡ Some aid → stands_alone form aid ≡ true → 0 < length rest
     → IsNoInbound size form BadForm (byte ∷ rest)
 not_alone_read size form aid byte [] known stands some = absurd (omega arith)
 not_alone_read size form aid byte (next ∷ more) known stands some = not_alone aid byte next more known stands refl refl
@@ -253,10 +253,10 @@ two_up [] enough = absurd (omega arith)
 two_up (high ∷ []) enough = absurd (omega arith)
 two_up (high ∷ low ∷ rest) enough = ap (λ r. high ∷ low ∷ r) (sym (take_all (length (high ∷ low ∷ rest) - 2) rest (omega arith)))
 
-pub moved : (form : Form) (size : Shape) (r : Result InboundParts InboundFault) (a b : List ℕ) → a ≡ b → IsRead form size a r → IsRead form size b r
+pub moved : (form : Form) (size : ScreenSize) (r : Result InboundParts InboundFault) (a b : List ℕ) → a ≡ b → IsRead form size a r → IsRead form size b r
 moved form size r a b same read = subst (λ bytes. IsRead form size bytes r) same read
 
-pub long_read : (size : Shape) (form : Form) (aid : Aid) (byte : ℕ) (rest : List ℕ) (cursor high low : ℕ) (text : List ℕ) → aid_of byte ≡ Some aid → stands_alone form aid ≡ false
+pub long_read : (size : ScreenSize) (form : Form) (aid : Aid) (byte : ℕ) (rest : List ℕ) (cursor high low : ℕ) (text : List ℕ) → aid_of byte ≡ Some aid → stands_alone form aid ≡ false
     → rest ≡ high ∷ low ∷ text → address_of high low < cells_in size → cursor ≡ address_of high low
     → AreParts (cells_in size) form (parts_in (cells_in size) form text) text → IsWhole (cells_in size) form (parts_in (cells_in size) form text)
     → IsInbound (record { form = form; size = size; aid = aid; cursor = Some cursor; parts = parts_in (cells_in size) form text }) (byte ∷ rest)
@@ -264,12 +264,12 @@ long_read size form aid byte rest cursor high low text known goes_on is below va
     let in_range : cursor < cells_in size = rw value below in
     long byte high low cursor text goes_on known refl (value, in_range) are whole (ap (λ r. byte ∷ r) is)
 
-pub long_text_fault : (size : Shape) (form : Form) (aid : Aid) (byte : ℕ) (rest : List ℕ) (high low : ℕ) (text : List ℕ) (fault : InboundFault) → aid_of byte ≡ Some aid → stands_alone form aid ≡ false
+pub long_text_fault : (size : ScreenSize) (form : Form) (aid : Aid) (byte : ℕ) (rest : List ℕ) (high low : ℕ) (text : List ℕ) (fault : InboundFault) → aid_of byte ≡ Some aid → stands_alone form aid ≡ false
     → rest ≡ high ∷ low ∷ text → address_of high low < cells_in size → HasPartFault (cells_in size) form fault text → IsNoInbound size form fault (byte ∷ rest)
 long_text_fault size form aid byte rest high low text fault known goes_on is below faulty =
     faulty_text aid byte high low text known goes_on below faulty (ap (λ r. byte ∷ r) is)
 
-pub cursor_beyond_read : (size : Shape) (form : Form) (aid : Aid) (byte : ℕ) (rest : List ℕ) (high low : ℕ) (text : List ℕ) → aid_of byte ≡ Some aid → stands_alone form aid ≡ false
+pub cursor_beyond_read : (size : ScreenSize) (form : Form) (aid : Aid) (byte : ℕ) (rest : List ℕ) (high low : ℕ) (text : List ℕ) → aid_of byte ≡ Some aid → stands_alone form aid ≡ false
     → rest ≡ high ∷ low ∷ text → (address_of high low < cells_in size → ⊥) → IsNoInbound size form BadAddress (byte ∷ rest)
 cursor_beyond_read size form aid byte rest high low text known goes_on is beyond =
     elim (cases_lt (address_of high low) (cells_in size)) [
@@ -277,9 +277,9 @@ cursor_beyond_read size form aid byte rest high low text known goes_on is beyond
       | inr above ↦ cursor_too_large aid byte high low text known goes_on above refl (ap (λ r. byte ∷ r) is)
     ]
 
-pub cursor_missing : (size : Shape) (form : Form) (aid : Aid) (byte : ℕ) (rest : List ℕ) → aid_of byte ≡ Some aid → stands_alone form aid ≡ false → length rest < 2
+pub cursor_missing : (size : ScreenSize) (form : Form) (aid : Aid) (byte : ℕ) (rest : List ℕ) → aid_of byte ≡ Some aid → stands_alone form aid ≡ false → length rest < 2
     → IsNoInbound size form Short (byte ∷ rest)
 cursor_missing size form aid byte rest known goes_on short = no_cursor aid byte rest known goes_on short refl refl
 
-pub aid_unknown : (size : Shape) (form : Form) (bytes : List ℕ) (byte : ℕ) (rest : List ℕ) → bytes ≡ byte ∷ rest → aid_of byte ≡ None → IsNoInbound size form BadAid bytes
+pub aid_unknown : (size : ScreenSize) (form : Form) (bytes : List ℕ) (byte : ℕ) (rest : List ℕ) → bytes ≡ byte ∷ rest → aid_of byte ≡ None → IsNoInbound size form BadAid bytes
 aid_unknown size form bytes byte rest is unknown = unknown_aid byte rest unknown refl is

@@ -111,16 +111,16 @@ module _ (size : ℕ) where
   cells_next : (byte : ℕ) (bytes : List ℕ) → is_storable byte ≡ true → cells_of (byte ∷ bytes) ≡ CharCell byte ∷ cells_of bytes
   cells_next byte bytes is = ap cells_sent (parts_in-next size Buffer (byte ∷ bytes) (Char byte) bytes (part_again size Buffer (Char byte) (byte ∷ []) bytes (is, refl)))
 
-  -- a character is spelt by a byte that a cell can hold
+  -- a character is encoded by a byte that a cell can hold
   none_ahead : (byte : ℕ) (bytes : List ℕ) (others : List ℕ → List Part) (r : Result (Part × List ℕ) InboundFault) → IsRead size Buffer (byte ∷ bytes) r → is_storable byte ≡ false
       → text_before_attribute (cells_sent (and_parts others r)) ≡ []
-  none_ahead byte bytes others (Ok (Char char, rest)) (front, (storable, is), spelt, some) other =
+  none_ahead byte bytes others (Ok (Char char, rest)) (front, (storable, is), encoded, some) other =
       absurd (
-      let whole : byte ∷ bytes ≡ char ∷ rest = spelt ∙ ap (λ (f : List ℕ). f ++ rest) is in
+      let whole : byte ∷ bytes ≡ char ∷ rest = encoded ∙ ap (λ (f : List ℕ). f ++ rest) is in
       let same : byte ≡ char = ap (λ (bs : List ℕ). get_or bs 0 0) whole in
       false≢true (sym other ∙ ap is_storable same ∙ storable))
   none_ahead byte bytes others (Ok (Attr attr, rest)) read other = refl
-  none_ahead byte bytes others (Ok (At address, rest)) (front, none, spelt, some) other = absurd none
+  none_ahead byte bytes others (Ok (At address, rest)) (front, none, encoded, some) other = absurd none
   none_ahead byte bytes others (Err fault) read other = refl
 
   pub cells_ahead : (text : List ℕ) → text_before_attribute (cells_of text) ≡ take (prefix_len is_storable text) text

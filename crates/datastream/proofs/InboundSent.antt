@@ -6,7 +6,7 @@ use Rattle.std.proofs.Math.Nat.{mod-lt}
 use Rattle.std.proofs.lemmas.Bool.{cond_both, and_from, false≢true}
 use Rattle.std.proofs.lemmas.List.{append-nil, length-map}
 use Rattle.std.proofs.lemmas.List.Elements.{All-head, All-tail, All-nil, All-cons}
-use Rattle.codes3270.specs.Size.{Shape, cells_in, most_cells}
+use Rattle.codes3270.specs.Size.{ScreenSize, cells_in, most_cells}
 use Rattle.codes3270.specs.Address.{address_bytes}
 use Rattle.codes3270.specs.Aid.{byte_of_aid, is_short_aid}
 use Rattle.codes3270.specs.Attribute.{attr_byte}
@@ -25,7 +25,7 @@ use Rattle.datastream.specs.Fields.{Field, fields_from}
 use Rattle.datastream.specs.Inbound.{without_nulls, is_modified, modified_field, modified_text, read_modified, cell_bytes, read_buffer}
 use Rattle.datastream.specs.InboundText.{is_text_char, IsTextPart, IsPart, AreParts, IsWhole, stands_alone, IsInbound}
 use Rattle.datastream.specs.InboundText.IsInbound.{alone, long}
-use Rattle.datastream.specs.InboundFields.{field_parts, parts_of_fields, part_of_cell, parts_of_cells, lead_of, is_modified_field, returned_field, returned_of, modified_data, buffer_data, IsStorableCell, IsSendable, SentIsRead}
+use Rattle.datastream.specs.InboundFields.{field_parts, parts_of_fields, part_of_cell, parts_of_cells, leading_text_of, is_modified_field, returned_field, returned_of, modified_data, buffer_data, IsStorableCell, IsSendable, SentIsRead}
 use Rattle.datastream.proofs.Texts.{All-ring}
 
 -- ---- parts of texts
@@ -123,7 +123,7 @@ no_fields whole at (CharCell byte ∷ cells) none = no_fields whole (at + 1) cel
 no_fields whole at (AttrCell attribute ∷ cells) none = absurd (false≢true none)
 
 text_is_parts : (size : ℕ) → size ≤ most_cells → (form : Form) (cells : List Cell) → (form ≡ Buffer → ⊥) → length cells ≡ size → All IsStorableCell cells
-    → AreParts size form (parts_of_fields (lead_of cells) (returned_of cells)) (modified_text cells)
+    → AreParts size form (parts_of_fields (leading_text_of cells) (returned_of cells)) (modified_text cells)
 text_is_parts size few form cells other sized storable = by (list_all is_char cells) refl
   where
     by : (b : Bool) → list_all is_char cells ≡ b
@@ -143,27 +143,27 @@ modified_not_buffer e = cc
 all_not_buffer : AllModified ≡ Buffer → ⊥
 all_not_buffer e = cc
 
-long_sent : (size : Shape) (form : Form) (screen : Screen) → (form ≡ Buffer → ⊥) → length screen.cells ≡ cells_in size → IsSendable screen → stands_alone form screen.aid ≡ false
-    → IsInbound (record { form = form; size = size; aid = screen.aid; cursor = Some screen.cursor; parts = parts_of_fields (lead_of screen.cells) (returned_of screen.cells) })
+long_sent : (size : ScreenSize) (form : Form) (screen : Screen) → (form ≡ Buffer → ⊥) → length screen.cells ≡ cells_in size → IsSendable screen → stands_alone form screen.aid ≡ false
+    → IsInbound (record { form = form; size = size; aid = screen.aid; cursor = Some screen.cursor; parts = parts_of_fields (leading_text_of screen.cells) (returned_of screen.cells) })
     (byte_of_aid screen.aid ∷ address_bytes screen.cursor ++ modified_text screen.cells)
 long_sent size form screen other sized sendable goes_on =
     long (byte_of_aid screen.aid) _ _ screen.cursor (modified_text screen.cells) goes_on (aid_read_back screen.aid sendable.aid) refl
     (sym (address_read_back screen.cursor (omega (arith, sendable.cursor, sendable.few))), subst (λ (n : ℕ). screen.cursor < n) sized sendable.cursor)
     (text_is_parts (cells_in size) (subst (λ (n : ℕ). n ≤ most_cells) sized sendable.few) form screen.cells other sized sendable.storable) (whole_text (cells_in size) form _ other) refl
 
-modified_sent : (size : Shape) (screen : Screen) → length screen.cells ≡ cells_in size → IsSendable screen → IsInbound (modified_data Modified size screen) (read_modified false screen)
+modified_sent : (size : ScreenSize) (screen : Screen) → length screen.cells ≡ cells_in size → IsSendable screen → IsInbound (modified_data Modified size screen) (read_modified false screen)
 modified_sent size screen sized sendable = by (is_short_aid screen.aid) refl
   where
     by : (b : Bool) → is_short_aid screen.aid ≡ b
-        → IsInbound (cond b (record { form = Modified; size = size; aid = screen.aid; cursor = None; parts = [] }) (record { form = Modified; size = size; aid = screen.aid; cursor = Some screen.cursor; parts = parts_of_fields (lead_of screen.cells) (returned_of screen.cells) }))
+        → IsInbound (cond b (record { form = Modified; size = size; aid = screen.aid; cursor = None; parts = [] }) (record { form = Modified; size = size; aid = screen.aid; cursor = Some screen.cursor; parts = parts_of_fields (leading_text_of screen.cells) (returned_of screen.cells) }))
         (cond (b && not false) (byte_of_aid screen.aid ∷ []) (byte_of_aid screen.aid ∷ address_bytes screen.cursor ++ modified_text screen.cells))
     by true short = alone (byte_of_aid screen.aid) short (aid_read_back screen.aid sendable.aid) refl refl refl
     by false other = long_sent size Modified screen modified_not_buffer sized sendable other
 
-all_sent : (size : Shape) (screen : Screen) → length screen.cells ≡ cells_in size → IsSendable screen → IsInbound (modified_data AllModified size screen) (read_modified true screen)
+all_sent : (size : ScreenSize) (screen : Screen) → length screen.cells ≡ cells_in size → IsSendable screen → IsInbound (modified_data AllModified size screen) (read_modified true screen)
 all_sent size screen sized sendable = by (is_short_aid screen.aid)
   where
-    by : (b : Bool) → IsInbound (record { form = AllModified; size = size; aid = screen.aid; cursor = Some screen.cursor; parts = parts_of_fields (lead_of screen.cells) (returned_of screen.cells) })
+    by : (b : Bool) → IsInbound (record { form = AllModified; size = size; aid = screen.aid; cursor = Some screen.cursor; parts = parts_of_fields (leading_text_of screen.cells) (returned_of screen.cells) })
         (cond (b && not true) (byte_of_aid screen.aid ∷ []) (byte_of_aid screen.aid ∷ address_bytes screen.cursor ++ modified_text screen.cells))
     by true = long_sent size AllModified screen all_not_buffer sized sendable refl
     by false = long_sent size AllModified screen all_not_buffer sized sendable refl
@@ -177,7 +177,7 @@ cells_are_parts size (CharCell byte ∷ cells) storable =
 cells_are_parts size (AttrCell attribute ∷ cells) storable =
     (cell_bytes (AttrCell attribute), flat_map cell_bytes cells, (attr_byte attribute, sym (attr_read_back attribute), refl), cells_are_parts size cells (All-tail IsStorableCell (AttrCell attribute) cells storable), refl)
 
-buffer_sent : (size : Shape) (screen : Screen) → length screen.cells ≡ cells_in size → IsSendable screen → IsInbound (buffer_data size screen) (read_buffer screen)
+buffer_sent : (size : ScreenSize) (screen : Screen) → length screen.cells ≡ cells_in size → IsSendable screen → IsInbound (buffer_data size screen) (read_buffer screen)
 buffer_sent size screen sized sendable =
     long (byte_of_aid screen.aid) _ _ screen.cursor (flat_map cell_bytes screen.cells) refl (aid_read_back screen.aid sendable.aid) refl
     (sym (address_read_back screen.cursor (omega (arith, sendable.cursor, sendable.few))), subst (λ (n : ℕ). screen.cursor < n) sized sendable.cursor)

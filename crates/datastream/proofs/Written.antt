@@ -2,7 +2,7 @@
 use Rattle.std.proofs.Common.{◌≡◌, ◌<◌, ◌≤◌, ℕ, arith, List, [], ◌∷◌, ◌++◌, ◌∙◌, refl, sym, Bool, true, false, All, inr, Some, ap, map, append_assoc}
 use Rattle.std.proofs.lemmas.List.Elements.{All-head, All-tail, All-nil, All-append}
 use Rattle.codes3270.proofs.RoundTrips.{address_read_back, attr_read_back, wcc_read_back}
-use Rattle.codes3270.specs.Size.{Shape, cells_in, most_cells}
+use Rattle.codes3270.specs.Size.{ScreenSize, cells_in, most_cells}
 use Rattle.codes3270.specs.declared.write_control.Wcc.{Wcc}
 use Rattle.datastream.specs.declared.order.Order.{Order}
 use Rattle.datastream.specs.declared.order.Order.TheVariants.{Sf, Sba, Ic, Pt, Ra, Eua, Char}
@@ -48,7 +48,7 @@ calls_proper size (call ∷ calls) allowed =
     All-append (IsProper size) (orders_of call) (flat_map orders_of calls) (All-head (IsAllowed size) call calls allowed) (calls_proper size calls (All-tail (IsAllowed size) call calls allowed))
 
 -- What is written in any calls spells the command that they name.
-pub calls_written : (now alternate : Shape) (code : CommandCode) (wcc : Wcc) (calls : List Call) → cells_in (size_after code now alternate) ≤ most_cells
+pub calls_written : (now alternate : ScreenSize) (code : CommandCode) (wcc : Wcc) (calls : List Call) → cells_in (size_after code now alternate) ≤ most_cells
     → All (IsAllowed (cells_in (size_after code now alternate))) calls
     → IsCommand now alternate (command_of_calls (size_after code now alternate) code wcc calls) (command_bytes code wcc calls)
 calls_written now alternate code wcc calls few allowed = by_kind (is_write code) refl

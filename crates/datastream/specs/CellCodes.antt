@@ -4,7 +4,7 @@
 use Rattle.std.specs.Prelude.{◌≡◌, ℕ, Bool, true, false, not, List}
 use Rattle.std.proofs.Common.{refl}
 use Rattle.codes3270.specs.Attribute.{attr_of, attr_byte}
-use Rattle.codes3270.specs.Size.{Shape}
+use Rattle.codes3270.specs.Size.{ScreenSize}
 use Rattle.codes3270.specs.declared.attribute.Cell.{Cell}
 use Rattle.codes3270.specs.declared.attribute.Cell.TheVariants.{Char, Attr}
 use Rattle.datastream.specs.Screen.{is_char}
@@ -26,6 +26,6 @@ has_attribute false code = refl
 
 -- a stored screen: its size, a code for each cell, and a bit for each cell that is set if the code is an attribute's
 pub record Packed : Type 0 where
-  pub size : Shape
+  pub size : ScreenSize
   pub codes : List ℕ
   pub attributes : List ℕ

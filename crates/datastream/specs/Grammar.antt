@@ -1,7 +1,7 @@
 -- Which bytes are commands of the 3270 data stream (GA23-0059-07, "3270 Data Stream Commands" and "Buffer Control
 -- Orders and Order Codes"), and which fault others have, in reading order (our profile).
 use Rattle.std.specs.Prelude.{◌≡◌, ℕ, ◌<◌, ◌≤◌, List, [], ◌∷◌, ◌++◌, length, Bool, true, false, ◌==◌, ◌||◌, ◌⊎◌, Option, Some, None}
-use Rattle.codes3270.specs.Size.{Shape, cells_in, model_2}
+use Rattle.codes3270.specs.Size.{ScreenSize, cells_in, model_2}
 use Rattle.codes3270.specs.Address.{address_of}
 use Rattle.codes3270.specs.Attribute.{attr_of}
 use Rattle.codes3270.specs.Storable.{is_storable}
@@ -103,7 +103,7 @@ HasFault size fault text = (orders : List Order) × (front back : List ℕ) × A
 -- the content of a command, and the size that the screen has after it
 pub record CommandParts : Type 0 where
   pub code : CommandCode
-  pub size : Shape
+  pub size : ScreenSize
   pub wcc : Option Wcc
   pub orders : List Order
 
@@ -133,7 +133,7 @@ is_write EraseAllUnprotected = false
 
 -- The size of a screen after a command: Erase/Write sets 24 rows of 80 columns, Erase/Write Alternate the alternate
 -- size, and the others keep the present size `now` (GA23-0059-07 on Erase/Write and on Erase/Write Alternate).
-abbrev pub size_after : CommandCode → Shape → Shape → Shape
+abbrev pub size_after : CommandCode → ScreenSize → ScreenSize → ScreenSize
 size_after Write now alternate = now
 size_after EraseWrite now alternate = model_2
 size_after EraseWriteAlternate now alternate = alternate
@@ -144,7 +144,7 @@ size_after EraseAllUnprotected now alternate = now
 
 -- Holds if the bytes encode the command, for a screen of these two sizes. Addresses are checked against the size after
 -- the erase (our profile).
-pub data IsCommand (now alternate : Shape) (command : CommandParts) (bytes : List ℕ) : Type 0 where
+pub data IsCommand (now alternate : ScreenSize) (command : CommandParts) (bytes : List ℕ) : Type 0 where
   write : (byte wcc : ℕ) (text : List ℕ) → is_write command.code ≡ true → IsCode command.code byte
       → command.size ≡ size_after command.code now alternate
       → command.wcc ≡ Some (wcc_of wcc) → AreOrders (cells_in command.size) command.orders text
@@ -156,10 +156,10 @@ pub data IsCommand (now alternate : Shape) (command : CommandParts) (bytes : Lis
 
 -- holds if some bytes encode the command, for a screen of some sizes
 abbrev pub IsSpelt : CommandParts → Type 0
-IsSpelt command = (now alternate : Shape) × (bytes : List ℕ) × IsCommand now alternate command bytes
+IsSpelt command = (now alternate : ScreenSize) × (bytes : List ℕ) × IsCommand now alternate command bytes
 
 -- holds if the bytes encode no command for screens of these sizes, and this is the first fault in them (our profile)
-pub data IsNoCommand (now alternate : Shape) (fault : CommandFault) (bytes : List ℕ) : Type 0 where
+pub data IsNoCommand (now alternate : ScreenSize) (fault : CommandFault) (bytes : List ℕ) : Type 0 where
   no_bytes : fault ≡ Truncated → bytes ≡ [] → IsNoCommand now alternate fault bytes
   unknown_command : (byte : ℕ) (more : List ℕ) → ((code : CommandCode) → IsCode code byte → ⊥)
       → fault ≡ BadCommand → bytes ≡ byte ∷ more → IsNoCommand now alternate fault bytes

@@ -2,7 +2,7 @@
 -- with its first address and its text, and the cells of a buffer.
 use Rattle.std.specs.Prelude.{◌≡◌, ⊤, ◌+◌, ◌%◌, ◌<◌, ◌≤◌, ℕ, Bool, true, false, List, [], ◌∷◌, ◌++◌, length, map, filter, All, Option, Some, None, if◌then◌else◌}
 use Rattle.std.specs.List.{flat_map, list_all}
-use Rattle.codes3270.specs.Size.{Shape, cells_in, most_cells}
+use Rattle.codes3270.specs.Size.{ScreenSize, cells_in, most_cells}
 use Rattle.codes3270.specs.Aid.{IsRealAid}
 use Rattle.codes3270.specs.Storable.{is_storable}
 use Rattle.codes3270.specs.declared.attribute.Cell.{Cell}
@@ -88,8 +88,8 @@ pub record PartsAreFields : Type 0 where
 -- ---- what a screen sends
 
 -- the characters that are sent before any address: on an unformatted screen all but nulls, else none
-abbrev pub lead_of : List Cell → List ℕ
-lead_of cells = if list_all is_char cells then without_nulls (text_before_attribute cells) else []
+abbrev pub leading_text_of : List Cell → List ℕ
+leading_text_of cells = if list_all is_char cells then without_nulls (text_before_attribute cells) else []
 
 -- whether a field's MDT is on
 abbrev pub is_modified_field : Field → Bool
@@ -104,7 +104,7 @@ abbrev pub returned_of : List Cell → List Returned
 returned_of cells = map (returned_field (length cells)) (filter is_modified_field (fields cells))
 
 -- the answer of a screen to Read Modified or Read Modified All
-abbrev pub modified_data : Form → Shape → Screen → InboundParts
+abbrev pub modified_data : Form → ScreenSize → Screen → InboundParts
 modified_data form size screen =
     if stands_alone form screen.aid
     then record { form = form; size = size; aid = screen.aid; cursor = None; parts = [] }
@@ -113,11 +113,11 @@ modified_data form size screen =
       size = size;
       aid = screen.aid;
       cursor = Some screen.cursor;
-      parts = parts_of_fields (lead_of screen.cells) (returned_of screen.cells);
+      parts = parts_of_fields (leading_text_of screen.cells) (returned_of screen.cells);
     }
 
 -- the answer of a screen to Read Buffer
-abbrev pub buffer_data : Shape → Screen → InboundParts
+abbrev pub buffer_data : ScreenSize → Screen → InboundParts
 buffer_data size screen =
     record {
       form = Buffer;
@@ -141,9 +141,9 @@ pub record IsSendable (screen : Screen) : Type 0 where
 
 -- What a screen sends in answer to a read is read back as exactly that screen's data.
 pub record SentIsRead : Type 0 where
-  pub modified : (size : Shape) (screen : Screen) → length screen.cells ≡ cells_in size → IsSendable screen
+  pub modified : (size : ScreenSize) (screen : Screen) → length screen.cells ≡ cells_in size → IsSendable screen
       → IsInbound (modified_data Modified size screen) (read_modified false screen)
-  pub all : (size : Shape) (screen : Screen) → length screen.cells ≡ cells_in size → IsSendable screen
+  pub all : (size : ScreenSize) (screen : Screen) → length screen.cells ≡ cells_in size → IsSendable screen
       → IsInbound (modified_data AllModified size screen) (read_modified true screen)
-  pub buffer : (size : Shape) (screen : Screen) → length screen.cells ≡ cells_in size → IsSendable screen
+  pub buffer : (size : ScreenSize) (screen : Screen) → length screen.cells ≡ cells_in size → IsSendable screen
       → IsInbound (buffer_data size screen) (read_buffer screen)

@@ -1,7 +1,7 @@
 -- Which bytes are inbound data, in each of three forms (GA23-0059-07 on inbound data streams): the answers to Read
 -- Modified, Read Modified All and Read Buffer. The order of faults is our profile.
 use Rattle.std.specs.Prelude.{◌≡◌, ⊤, ℕ, ◌<◌, ◌≤◌, List, [], ◌∷◌, ◌++◌, length, Bool, true, false, not, ◌==◌, ◌&&◌, ◌||◌, Option, Some, None}
-use Rattle.codes3270.specs.Size.{Shape, cells_in}
+use Rattle.codes3270.specs.Size.{ScreenSize, cells_in}
 use Rattle.codes3270.specs.Address.{address_of}
 use Rattle.codes3270.specs.Aid.{aid_of, is_short_aid}
 use Rattle.codes3270.specs.Attribute.{attr_of}
@@ -114,7 +114,7 @@ pub data HasPartFault (size : ℕ) (form : Form) (fault : InboundFault) (text : 
 -- the content of inbound data, and the size of its screen
 pub record InboundParts : Type 0 where
   pub form : Form
-  pub size : Shape
+  pub size : ScreenSize
   pub aid : Aid
   pub cursor : Option ℕ
   pub parts : List Part
@@ -141,7 +141,7 @@ abbrev pub IsSent : InboundParts → Type 0
 IsSent inbound = (bytes : List ℕ) × IsInbound inbound bytes
 
 -- holds if the bytes are no inbound data of this form and size, and this is the first fault in them (our profile)
-pub data IsNoInbound (size : Shape) (form : Form) (fault : InboundFault) (bytes : List ℕ) : Type 0 where
+pub data IsNoInbound (size : ScreenSize) (form : Form) (fault : InboundFault) (bytes : List ℕ) : Type 0 where
   no_bytes : fault ≡ Short → bytes ≡ [] → IsNoInbound size form fault bytes
   unknown_aid : (byte : ℕ) (more : List ℕ) → aid_of byte ≡ None
       → fault ≡ BadAid → bytes ≡ byte ∷ more → IsNoInbound size form fault bytes

@@ -1,7 +1,7 @@
 -- A wanted screen, cell by cell (our profile).
 use Rattle.std.specs.Prelude.{◌≡◌, ◌<◌, ◌≤◌, ℕ, Bool, true, false, IsTrue, List, All, length, map}
 use Rattle.codes3270.specs.Attribute.{attr_of, attr_byte}
-use Rattle.codes3270.specs.Size.{Shape, cells_in, most_cells}
+use Rattle.codes3270.specs.Size.{ScreenSize, cells_in, most_cells}
 use Rattle.codes3270.specs.Storable.{is_storable}
 use Rattle.datastream.specs.CellBits.{has_bit, kept, Marks}
 use Rattle.datastream.specs.declared.wanted.Want.{Want}
@@ -19,7 +19,7 @@ IsProper want = IsTrue (is_proper want)
 
 -- a wanted screen: its size, its cells, its cursor's address, and whether MDT of all fields is reset first
 pub record WantedScreen : Type 0 where
-  pub size : Shape
+  pub size : ScreenSize
   pub cells : List Want
   pub cursor : ℕ
   pub reset : Bool

@@ -4,7 +4,7 @@ use Rattle.std.specs.Prelude.{◌≡◌, ℕ, List, [], ◌∷◌, ◌++◌, map
 use Rattle.std.specs.Borrow.{MutBor}
 use Rattle.std.specs.List.{flat_map}
 use Rattle.codes3270.specs.Address.{address_bytes}
-use Rattle.codes3270.specs.Size.{Shape}
+use Rattle.codes3270.specs.Size.{ScreenSize}
 use Rattle.codes3270.specs.Appending.{Appends}
 use Rattle.codes3270.specs.Attribute.{attr_byte}
 use Rattle.codes3270.specs.declared.attribute.Attr.{Attr}
@@ -72,7 +72,7 @@ abbrev pub command_bytes : CommandCode → Wcc → List Call → List ℕ
 command_bytes code wcc calls = command_start code wcc ++ flat_map call_bytes calls
 
 -- the command that these calls name, for a screen that has this size after it; if it is no write, its code alone
-abbrev pub command_of_calls : Shape → CommandCode → Wcc → List Call → CommandParts
+abbrev pub command_of_calls : ScreenSize → CommandCode → Wcc → List Call → CommandParts
 command_of_calls size code wcc calls =
     if is_write code then record { code = code; size = size; wcc = Some wcc; orders = flat_map orders_of calls }
     else record { code = code; size = size; wcc = None; orders = [] }

@@ -49,7 +49,7 @@ impl<'a> Command<'a> {
     pub fn code(&self) -> CommandCode
         ensures code { result ≡ self.now.code }
         // There are bytes that encode the command.
-        ensures spelt { IsSpelt self.now }
+        ensures encoded { IsSpelt self.now }
     {
         self.code
     }
@@ -57,7 +57,7 @@ impl<'a> Command<'a> {
     /// The size that the screen has after the command. The addresses in its orders are below its number of cells.
     pub fn size(&self) -> Size
         ensures size { result ≡ self.now.size }
-        ensures spelt { IsSpelt self.now }
+        ensures encoded { IsSpelt self.now }
     {
         self.size
     }
@@ -65,7 +65,7 @@ impl<'a> Command<'a> {
     /// The write control character, or `None` if the command is no write.
     pub fn wcc(&self) -> Option<Wcc>
         ensures wcc { result ≡ self.now.wcc }
-        ensures spelt { IsSpelt self.now }
+        ensures encoded { IsSpelt self.now }
     {
         self.wcc
     }
@@ -75,7 +75,7 @@ impl<'a> Command<'a> {
         ensures orders { result ≡ self.now.orders }
         ensures proper { All (IsProper (cells_in self.now.size)) result }
         ensures few { length result < 2 ^ 64 }
-        ensures spelt { IsSpelt self.now }
+        ensures encoded { IsSpelt self.now }
     {
         // For the contract: the text has less than 2^64 bytes.
         let _bytes = self.text.len();

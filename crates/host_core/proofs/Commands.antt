@@ -1,6 +1,6 @@
 -- What the bytes of a command that the host sends are read as.
 use Rattle.std.proofs.Common.{◌≡◌, ℕ, true, List, ◌++◌, drop, Some, refl, ap, sym, subst, ◌∙◌}
-use Rattle.codes3270.specs.Size.{Shape, cells_in}
+use Rattle.codes3270.specs.Size.{ScreenSize, cells_in}
 use Rattle.codes3270.specs.declared.write_control.Wcc.{Wcc}
 use Rattle.codes3270.specs.WriteControl.{wcc_of, wcc_byte}
 use Rattle.datastream.proofs.Sequences.{orders_in-whole}
@@ -30,10 +30,10 @@ code_again ReadModifiedAll is = absurd (cc)
 code_again EraseAllUnprotected is = absurd (cc)
 
 -- such a write, for a screen of this shape
-abbrev pub sent_command : Shape → CommandCode → Wcc → List Order → CommandParts
+abbrev pub sent_command : ScreenSize → CommandCode → Wcc → List Order → CommandParts
 sent_command shape code wcc orders = record { code = code; size = size_after code shape shape; wcc = Some wcc; orders = orders }
 
-orders_again : (shape : Shape) (code : CommandCode) (wcc : Wcc) (orders : List Order) → is_write code ≡ true
+orders_again : (shape : ScreenSize) (code : CommandCode) (wcc : Wcc) (orders : List Order) → is_write code ≡ true
     → IsCommand shape shape (sent_command shape code wcc orders) (write_bytes code wcc orders)
     → (wcc ≡ wcc_of (wcc_byte wcc)) × (orders_in (cells_in (size_after code shape shape)) (orders_bytes orders) ≡ orders)
 orders_again shape code wcc orders writes (write byte control text is_one stands sized read are is) =
@@ -44,11 +44,11 @@ orders_again shape code wcc orders writes (write byte control text is_one stands
 orders_again shape code wcc orders writes (other byte ignored is_none stands sized none few is) = absurd (cc)
 
 -- the write that is sent is the one that its bytes are read as
-pub write_again : (shape : Shape) (code : CommandCode) (wcc : Wcc) (orders : List Order) → IsSentCode code
+pub write_again : (shape : ScreenSize) (code : CommandCode) (wcc : Wcc) (orders : List Order) → IsSentCode code
     → IsCommand shape shape (sent_command shape code wcc orders) (write_bytes code wcc orders)
     → command_in shape (write_bytes code wcc orders) ≡ sent_command shape code wcc orders
-write_again shape code wcc orders sent spelt =
-    let again = orders_again shape code wcc orders sent spelt in
+write_again shape code wcc orders sent encoded =
+    let again = orders_again shape code wcc orders sent encoded in
     ap (λ (c : CommandCode). record { code = c; size = size_after c shape shape; wcc = Some (wcc_of (wcc_byte wcc)); orders = orders_in (cells_in (size_after c shape shape)) (orders_bytes orders) })
     (code_again code sent)
     ∙ ap (λ (w : Wcc). record { code = code; size = size_after code shape shape; wcc = Some w; orders = orders_in (cells_in (size_after code shape shape)) (orders_bytes orders) }) (sym again.0)
@@ -63,25 +63,25 @@ behind_header header bytes = refl
 abbrev pub write_record : ℕ → CommandCode → Wcc → List Order → List ℕ
 write_record number code wcc orders = spelling (command_header always_response number) ++ write_bytes code wcc orders
 
-pub read_behind : (shape : Shape) (number : ℕ) (code : CommandCode) (wcc : Wcc) (orders : List Order) (sent : List ℕ) → IsSentCode code
+pub read_behind : (shape : ScreenSize) (number : ℕ) (code : CommandCode) (wcc : Wcc) (orders : List Order) (sent : List ℕ) → IsSentCode code
     → IsCommand shape shape (sent_command shape code wcc orders) (write_bytes code wcc orders)
     → sent ≡ write_record number code wcc orders → command_in shape (drop 5 sent) ≡ sent_command shape code wcc orders
-read_behind shape number code wcc orders sent is spelt begun =
+read_behind shape number code wcc orders sent is encoded begun =
     ap (λ (bytes : List ℕ). command_in shape (drop 5 bytes)) begun
     ∙ ap (command_in shape) (behind_header (command_header always_response number) (write_bytes code wcc orders))
-    ∙ write_again shape code wcc orders is spelt
+    ∙ write_again shape code wcc orders is encoded
 
-pub plain_behind : (shape : Shape) (number : ℕ) (code : CommandCode) (wcc : Wcc) (orders : List Order) (sent : List ℕ) → IsSentCode code
+pub plain_behind : (shape : ScreenSize) (number : ℕ) (code : CommandCode) (wcc : Wcc) (orders : List Order) (sent : List ℕ) → IsSentCode code
     → IsCommand shape shape (sent_command shape code wcc orders) (write_bytes code wcc orders)
     → is_plain (sent_command shape code wcc orders) ≡ true → size_after code shape shape ≡ shape
     → sent ≡ write_record number code wcc orders → IsPlainWrite shape (drop 5 sent)
-plain_behind shape number code wcc orders sent is spelt plain sized begun =
-    let same : command_in shape (drop 5 sent) ≡ sent_command shape code wcc orders = read_behind shape number code wcc orders sent is spelt begun in
+plain_behind shape number code wcc orders sent is encoded plain sized begun =
+    let same : command_in shape (drop 5 sent) ≡ sent_command shape code wcc orders = read_behind shape number code wcc orders sent is encoded begun in
     let bytes : drop 5 sent ≡ write_bytes code wcc orders =
     ap (λ (all : List ℕ). drop 5 all) begun ∙ behind_header (command_header always_response number) (write_bytes code wcc orders) in
     record {
-      spelt = subst (λ (command : CommandParts). IsCommand shape shape command (drop 5 sent)) (sym same)
-          (subst (λ (all : List ℕ). IsCommand shape shape (sent_command shape code wcc orders) all) (sym bytes) spelt);
+      encoded = subst (λ (command : CommandParts). IsCommand shape shape command (drop 5 sent)) (sym same)
+          (subst (λ (all : List ℕ). IsCommand shape shape (sent_command shape code wcc orders) all) (sym bytes) encoded);
       plain = ap is_plain same ∙ plain;
       size = ap (λ (command : CommandParts). command.size) same ∙ sized;
     }

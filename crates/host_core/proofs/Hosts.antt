@@ -11,7 +11,7 @@ use Rattle.host_core.specs.declared.connection.Service.{Service as ServiceValue}
 use Rattle.host_core.specs.Session.{agreed_lu}
 use Rattle.host_core.specs.Sound.{HoldsJust, IsShown, IsSound, NobodyShares}
 use Rattle.host_core.specs.declared.terminals.Terminals.{Terminals}
-use Rattle.host_core.specs.State.{Service, Connection, Host, Sessions, counted, most_connections, unused, connection_at, service_at, lu_of, phase_of, phase_agreed}
+use Rattle.host_core.specs.State.{Service, Connection, Host, Sessions, counted, most_connections, unused, connection_at, state_at, lu_of, phase_of, phase_agreed}
 use Rattle.host_core.specs.declared.phase.Phase.TheVariants as phase
 use Rattle.host_core.specs.Reports.{Reports}
 
@@ -86,10 +86,10 @@ free_phase (Service.Open rest conn) e = absurd (by_lu (agreed_lu conn.talk.state
     by_lu (Some lu) e = cc
 free_phase (Service.Closed cause) e = absurd (cc)
 
-pub is_free : (number : ℕ) (host now : Host) (connection : Connection) → host ≡ now → connection ≡ connection_at number host → phase_of (service_at number now) ≡ phase.Free
+pub is_free : (number : ℕ) (host now : Host) (connection : Connection) → host ≡ now → connection ≡ connection_at number host → phase_of (state_at number now) ≡ phase.Free
     → connection.service ≡ Service.Free
 is_free number host now connection same at free =
-    ap (λ (l : Connection). l.service) at ∙ free_phase (service_at number host) (subst (λ (h : Host). phase_of (service_at number h) ≡ phase.Free) (sym same) free)
+    ap (λ (l : Connection). l.service) at ∙ free_phase (state_at number host) (subst (λ (h : Host). phase_of (state_at number h) ≡ phase.Free) (sym same) free)
 
 pub shown_here : (number : ℕ) (old : Connection) (host : Host) → IsSound host → old ≡ connection_at number host → IsShown host.panels old.service
 shown_here number old host sound is = subst (λ (l : Connection). IsShown host.panels l.service) (sym is) (sound.shown number)

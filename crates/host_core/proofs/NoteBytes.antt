@@ -6,7 +6,7 @@ use Rattle.std.specs.declared.alloc.Global.{Global}
 use Rattle.std.proofs.lemmas.List.{take-replicate}
 use Rattle.std.proofs.lemmas.List.Elements.{All-take}
 use Rattle.codes3270.proofs.RoundTrips.{wcc_read_back}
-use Rattle.codes3270.specs.Size.{Shape, cells_in, most_columns}
+use Rattle.codes3270.specs.Size.{ScreenSize, cells_in, most_columns}
 use Rattle.datastream.proofs.Written.{orders_written, orders_bytes-chars}
 use Rattle.datastream.specs.Grammar.{CommandParts, IsCommand, write}
 use Rattle.datastream.specs.Note.{quiet}
@@ -18,7 +18,7 @@ use Rattle.telnet_wire.specs.Items.{Record, sent_bytes}
 use Rattle.tn3270e_msg.specs.Header.{next_number}
 use Rattle.host_core.proofs.Commands.{write_record, read_behind, plain_behind}
 use Rattle.host_core.proofs.Notes.{IsStored, few_taken, graphic_stored, orders_proper}
-use Rattle.host_core.specs.Application.{IsShape, message_place}
+use Rattle.host_core.specs.Application.{IsValidSize, message_place}
 use Rattle.host_core.specs.Representation.{command_in, pending_in, IsPlainWrite, IsSentOn}
 use Rattle.host_core.specs.Notes.{IsNoteText, in_cells, note_orders, note_command, noted_as}
 use Rattle.host_core.specs.Rooms.{note_room}
@@ -57,7 +57,7 @@ row_cells room text front nulls is behind =
 in_parts : (old start place front nulls : List ℕ) → (((old ++ start) ++ place) ++ front) ++ nulls ≡ old ++ (start ++ (place ++ (front ++ nulls)))
 in_parts old start place front nulls = simp append_assoc
 
-pub note_written : (shape : Shape) (text front nulls old begun placed put new : List ℕ)
+pub note_written : (shape : ScreenSize) (text front nulls old begun placed put new : List ℕ)
     → front ≡ take (shape.columns - 1) text → nulls ≡ replicate (shape.columns - 1 - length front) 0
     → begun ≡ old ++ command_start Write quiet → placed ≡ begun ++ order_bytes (Sba (message_place shape + 1))
     → put ≡ placed ++ front → new ≡ put ++ nulls
@@ -76,23 +76,23 @@ each_plain : (text : List ℕ) → list_all is_plain_order (map CharData text) �
 each_plain [] = refl
 each_plain (byte ∷ text) = each_plain text
 
-note_plain : (shape : Shape) (text : List ℕ) → is_plain (note_command shape text) ≡ true
+note_plain : (shape : ScreenSize) (text : List ℕ) → is_plain (note_command shape text) ≡ true
 note_plain shape text = each_plain (in_cells (shape.columns - 1) text)
 
-note_spelt : (shape : Shape) (text : List ℕ) → IsShape shape → IsNoteText text → IsCommand shape shape (note_command shape text) (write_bytes Write quiet (note_orders shape text))
+note_spelt : (shape : ScreenSize) (text : List ℕ) → IsValidSize shape → IsNoteText text → IsCommand shape shape (note_command shape text) (write_bytes Write quiet (note_orders shape text))
 note_spelt shape text shaped is =
     write _ _ _ refl (inr refl) refl (ap Some (sym (wcc_read_back quiet))) (orders_written (cells_in shape) shaped.addresses (note_orders shape text) (orders_proper shape text shaped is)) refl
 
-note_again : (shape : Shape) (number : ℕ) (text sent : List ℕ) → IsShape shape → IsNoteText text → sent ≡ write_record number Write quiet (note_orders shape text)
+note_again : (shape : ScreenSize) (number : ℕ) (text sent : List ℕ) → IsValidSize shape → IsNoteText text → sent ≡ write_record number Write quiet (note_orders shape text)
     → command_in shape (drop 5 sent) ≡ note_command shape text
 note_again shape number text sent shaped is begun = read_behind shape number Write quiet (note_orders shape text) sent refl (note_spelt shape text shaped is) begun
 
-pub note_is_kept : (shape : Shape) (number : ℕ) (text sent : List ℕ) → IsShape shape → IsNoteText text → sent ≡ write_record number Write quiet (note_orders shape text)
+pub note_is_kept : (shape : ScreenSize) (number : ℕ) (text sent : List ℕ) → IsValidSize shape → IsNoteText text → sent ≡ write_record number Write quiet (note_orders shape text)
     → IsPlainWrite shape (drop 5 sent)
 note_is_kept shape number text sent shaped is begun =
     plain_behind shape number Write quiet (note_orders shape text) sent refl (note_spelt shape text shaped is) (note_plain shape text) refl begun
 
-pub note_sent : (conn new : Session) (text sent : List ℕ) (before after : Vec ℕ Global) → IsShape conn.size → IsNoteText text
+pub note_sent : (conn new : Session) (text sent : List ℕ) (before after : Vec ℕ Global) → IsValidSize conn.size → IsNoteText text
     → sent ≡ write_record conn.next_seq Write quiet (note_orders conn.size text)
     → new ≡ record conn { pending = pending_in conn.size (unanswered.Noting conn.next_seq) sent; next_seq = next_number conn.next_seq }
     → after.items ≡ before.items ++ sent_bytes (Record sent ∷ [])
@@ -105,14 +105,14 @@ note_sent conn new text sent before after shaped is begun changed put = record {
 
 -- ---- its length
 
-note_length : (shape : Shape) (text : List ℕ) → length (written (note_command shape text)) ≤ 5 + (shape.columns - 1)
+note_length : (shape : ScreenSize) (text : List ℕ) → length (written (note_command shape text)) ≤ 5 + (shape.columns - 1)
 note_length shape text =
     let cells = few_taken (shape.columns - 1) (text ++ replicate (shape.columns - 1) 0) in
     let bytes : length (orders_bytes (map CharData (in_cells (shape.columns - 1) text))) ≡ length (in_cells (shape.columns - 1) text) =
     ap (λ (some : List ℕ). length some) (orders_bytes-chars (in_cells (shape.columns - 1) text)) in
     omega arith
 
-pub note_record_fits : (shape : Shape) (number : ℕ) (text sent : List ℕ) → shape.columns ≤ most_columns → sent ≡ write_record number Write quiet (note_orders shape text)
+pub note_record_fits : (shape : ScreenSize) (number : ℕ) (text sent : List ℕ) → shape.columns ≤ most_columns → sent ≡ write_record number Write quiet (note_orders shape text)
     → 2 * length sent + 2 ≤ note_room
 note_record_fits shape number text sent narrow begun =
     let whole : length sent ≡ length (write_record number Write quiet (note_orders shape text)) = ap (λ (some : List ℕ). length some) begun in

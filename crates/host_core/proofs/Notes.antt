@@ -8,7 +8,7 @@ use Rattle.std.proofs.Math.Nat.{mod-eq_of_lt}
 use Rattle.std.proofs.lemmas.Bool.{and_parts}
 use Rattle.std.proofs.lemmas.Bool.Decides.{nat_tests}
 use Rattle.std.proofs.lemmas.List.Elements.{All-nil, All-cons, All-map, All-take, All-append, All-replicate}
-use Rattle.codes3270.specs.Size.{Shape, cells_in, most_cells}
+use Rattle.codes3270.specs.Size.{ScreenSize, cells_in, most_cells}
 use Rattle.codes3270.specs.Storable.{is_storable, stored_controls}
 use Rattle.codes3270.specs.declared.attribute.Attr.{Attr as Attribute}
 use Rattle.codes3270.specs.declared.attribute.Cell.{Cell}
@@ -23,7 +23,7 @@ use Rattle.datastream.specs.declared.command_code.CommandCode.TheVariants.{Write
 use Rattle.datastream.specs.declared.order.Order.{Order}
 use Rattle.datastream.specs.declared.order.Order.TheVariants.{Sba, Char as CharData}
 use Rattle.shadow.specs.Notes.{NoteOverwritesProtected, NoteOverwritesBare}
-use Rattle.host_core.specs.Application.{IsShape, message_place}
+use Rattle.host_core.specs.Application.{IsValidSize, message_place}
 use Rattle.host_core.specs.NoteLaws.{IsProtectedRow, HasMessageRow, formatted, unformatted, IsNoteOf, IsProperNote, NotesAreNotes, NotesOverwrite, NotesAreOverCharacters, NotesWriteProtected}
 use Rattle.host_core.specs.Notes.{is_graphic, IsNoteText, in_cells, note_orders, note_command}
 
@@ -56,13 +56,13 @@ few_taken (suc room) (byte ∷ text) = let rest = few_taken room text in omega a
 address_on : (cells columns : ℕ) → 1 < columns → columns ≤ cells → cells - columns + 1 < cells
 address_on cells columns room row = omega arith
 
-pub orders_proper : (shape : Shape) (text : List ℕ) → IsShape shape → IsNoteText text → All (IsProper (cells_in shape)) (note_orders shape text)
+pub orders_proper : (shape : ScreenSize) (text : List ℕ) → IsValidSize shape → IsNoteText text → All (IsProper (cells_in shape)) (note_orders shape text)
 orders_proper shape text shaped is =
     All-cons (IsProper (cells_in shape)) (Sba (message_place shape + 1)) (map CharData (in_cells (shape.columns - 1) text))
     (address_on (cells_in shape) shape.columns shaped.columns shaped.row)
     (All-map (IsProper (cells_in shape)) CharData (in_cells (shape.columns - 1) text) (text_stored (shape.columns - 1) text is))
 
-is_note : (shape : Shape) (text : List ℕ) → IsNote (note_command shape text)
+is_note : (shape : ScreenSize) (text : List ℕ) → IsNote (note_command shape text)
 is_note shape text = record {
   first = message_place shape + 1;
   others = map CharData (in_cells (shape.columns - 1) text);
@@ -72,7 +72,7 @@ is_note shape text = record {
   each = All-map IsNoteOrder CharData (in_cells (shape.columns - 1) text) (λ k d below. tt);
 }
 
-note_of : (shape : Shape) (command : CommandParts) → IsNoteOf shape command → IsNote command
+note_of : (shape : ScreenSize) (command : CommandParts) → IsNoteOf shape command → IsNote command
 note_of shape command note = subst IsNote (sym note.is) (is_note shape note.text)
 
 pub notes_are_notes : NotesAreNotes
@@ -85,10 +85,10 @@ text_allowed : (size : ℕ) (text : List ℕ) → All IsStored text → IsAllowe
 text_allowed size text each = All-map (IsProper size) CharData text each
 
 -- a note that begins at an address, for a screen of this shape
-note_at : Shape → ℕ → List Order → CommandParts
+note_at : ScreenSize → ℕ → List Order → CommandParts
 note_at shape address more = record { code = Write; size = shape; wcc = Some quiet; orders = Sba address ∷ more }
 
-spelt_call : WrittenIsRead → (shape : Shape) (address : ℕ) (text : List ℕ) → cells_in shape ≤ most_cells → address < cells_in shape → All IsStored text → IsSpelt (note_at shape address (map CharData text))
+spelt_call : WrittenIsRead → (shape : ScreenSize) (address : ℕ) (text : List ℕ) → cells_in shape ≤ most_cells → address < cells_in shape → All IsStored text → IsSpelt (note_at shape address (map CharData text))
 unfolding note_at
 spelt_call law shape address text few on each =
     let calls : List Call = sba address ∷ chars text ∷ [] in
@@ -102,7 +102,7 @@ spelt_call law shape address text few on each =
           (law shape shape Write quiet calls few allowed),
     )
 
-note_spelt : WrittenIsRead → (shape : Shape) (command : CommandParts) → IsShape shape → IsNoteOf shape command → IsSpelt command
+note_spelt : WrittenIsRead → (shape : ScreenSize) (command : CommandParts) → IsValidSize shape → IsNoteOf shape command → IsSpelt command
 unfolding note_at
 note_spelt law shape command shaped note =
     subst IsSpelt (sym note.is)
@@ -123,7 +123,7 @@ each_place P size at (byte ∷ other ∷ text) few each =
 in_row : (cells columns count : ℕ) → 1 < columns → columns ≤ cells → count ≤ columns - 1 → cells - columns + 1 + count ≤ cells
 in_row cells columns count room row few = omega arith
 
-pub each_noted : (P : ℕ → Type 0) (shape : Shape) (command : CommandParts) (size : ℕ) → IsShape shape → IsNoteOf shape command → size ≡ cells_in shape
+pub each_noted : (P : ℕ → Type 0) (shape : ScreenSize) (command : CommandParts) (size : ℕ) → IsValidSize shape → IsNoteOf shape command → size ≡ cells_in shape
     → ((place : ℕ) → message_place shape < place → place < size → P place) → All P (places_noted size command)
 each_noted P shape command size shaped note sized each =
     subst (λ (c : CommandParts). All P (places_noted size c)) (sym note.is)
@@ -179,7 +179,7 @@ row_protects cells row place is after =
     let last = row_last cells row (place + 1) is (omega arith) in
     ap protects (last_behind (drop (place + 1) cells) (take (place + 1) cells) last.0 last.2) ∙ last.1
 
-row_over : (shape : Shape) (cells : List Cell) (place : ℕ) → HasMessageRow shape cells → message_place shape < place → place < length cells → IsProtectedChar cells place
+row_over : (shape : ScreenSize) (cells : List Cell) (place : ℕ) → HasMessageRow shape cells → message_place shape < place → place < length cells → IsProtectedChar cells place
 row_over shape cells place is after within = record {
   inside = within;
   character = row_char cells (message_place shape) place is after;

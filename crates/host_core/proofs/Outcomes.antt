@@ -1,7 +1,7 @@
 -- What a record, an item, a byte and bytes make of a host is determined.
 use Rattle.std.proofs.Common.{◌≡◌, ℕ, Bool, true, false, List, [], ◌∷◌, sym, ◌∙◌, ap, subst, refl, Ok}
 use Rattle.datastream.proofs.InboundData.{first_inbound_fault}
-use Rattle.codes3270.specs.Size.{Shape}
+use Rattle.codes3270.specs.Size.{ScreenSize}
 use Rattle.datastream.specs.InboundText.{InboundParts, IsInbound, IsNoInbound}
 use Rattle.datastream.specs.Laws.{OneInbound}
 use Rattle.datastream.specs.declared.inbound_part.Form.{Form}
@@ -36,10 +36,10 @@ no_other_response kind other is = subst IsOther is other
 data_or_response : (kind : DataType) → kind ≡ Data3270 → kind ≡ Response → ⊥
 data_or_response kind data_is response_is = cc
 
-inbound_or_fault : (size : Shape) (form : Form) (parts : InboundParts) (fault : InboundFault) (bytes : List ℕ) → parts.form ≡ form → parts.size ≡ size → IsInbound parts bytes → IsNoInbound size form fault bytes → ⊥
+inbound_or_fault : (size : ScreenSize) (form : Form) (parts : InboundParts) (fault : InboundFault) (bytes : List ℕ) → parts.form ≡ form → parts.size ≡ size → IsInbound parts bytes → IsNoInbound size form fault bytes → ⊥
 inbound_or_fault size form parts fault bytes read sized is wrong = let both = first_inbound_fault form size (Ok parts) bytes (read, sized, is) fault wrong in cc
 
-key_or_none : (size : Shape) (may : Bool) (parts : InboundParts) (body : List ℕ) → may ≡ true → parts.form ≡ Modified → parts.size ≡ size → IsInbound parts body → IsNoSecondKey may size body → ⊥
+key_or_none : (size : ScreenSize) (may : Bool) (parts : InboundParts) (body : List ℕ) → may ≡ true → parts.form ≡ Modified → parts.size ≡ size → IsInbound parts body → IsNoSecondKey may size body → ⊥
 key_or_none size true parts body may read sized is none = inbound_or_fault size Modified parts none.0 body read sized is none.1
 key_or_none size false parts body may read sized is none = cc
 

@@ -2,7 +2,7 @@
 use Rattle.std.proofs.Common.{◌≡◌, ◌==◌, ℕ, Bool, true, false, List, [], ◌∷◌, ◌++◌, drop, refl, ap, sym, subst, ◌∙◌, Vec, if◌then◌else◌}
 use Rattle.std.specs.declared.alloc.Global.{Global}
 use Rattle.std.proofs.lemmas.Bool.{and_parts, eqb-true}
-use Rattle.codes3270.specs.Size.{Shape, cells_in, model_2}
+use Rattle.codes3270.specs.Size.{ScreenSize, cells_in, model_2}
 use Rattle.codes3270.specs.declared.write_control.Wcc.{Wcc}
 use Rattle.datastream.specs.Grammar.{CommandParts, IsCommand, size_after}
 use Rattle.datastream.specs.declared.command_code.CommandCode.TheVariants.{Write, EraseWrite, EraseWriteAlternate}
@@ -26,7 +26,7 @@ use Rattle.host_core.specs.declared.turn.Turn.TheVariants as whose
 
 -- ---- the size that it sets
 
-base_is : (size : Shape) → is_base_size size ≡ true → size ≡ model_2
+base_is : (size : ScreenSize) → is_base_size size ≡ true → size ≡ model_2
 base_is size is =
     let parts = and_parts (size.rows == model_2.rows) (size.columns == model_2.columns) is in
     ap (λ (rows : ℕ). record { rows = rows; columns = size.columns }) (eqb-true size.rows model_2.rows parts.0)
@@ -66,7 +66,7 @@ control wanted = record { alarm = false; restore = true; reset = wanted.reset }
 -- a paint is the write that is read from its bytes, for a screen of the wanted size
 same_paint : (n : ℕ) (shadow : Shadow) (wanted : WantedScreen) → sent_command wanted.size (paint_code n shadow wanted) (control wanted) (paint n shadow wanted).orders ≡ paint n shadow wanted
 unfolding control
-same_paint n shadow wanted = ap (λ (size : Shape). record (paint n shadow wanted) { size = size }) (sets n shadow wanted)
+same_paint n shadow wanted = ap (λ (size : ScreenSize). record (paint n shadow wanted) { size = size }) (sets n shadow wanted)
 
 -- its bytes spell it for a screen of the wanted size
 abbrev pub IsPaintSpelt : ℕ → Shadow → WantedScreen → Type 0
@@ -74,20 +74,20 @@ IsPaintSpelt n shadow wanted = IsCommand wanted.size wanted.size (paint n shadow
 
 spelt_so : (n : ℕ) (shadow : Shadow) (wanted : WantedScreen) → IsPaintSpelt n shadow wanted
     → IsCommand wanted.size wanted.size (sent_command wanted.size (paint_code n shadow wanted) (control wanted) (paint n shadow wanted).orders) (paint_bytes n shadow wanted)
-spelt_so n shadow wanted spelt = subst (λ (command : CommandParts). IsCommand wanted.size wanted.size command (paint_bytes n shadow wanted)) (sym (same_paint n shadow wanted)) spelt
+spelt_so n shadow wanted encoded = subst (λ (command : CommandParts). IsCommand wanted.size wanted.size command (paint_bytes n shadow wanted)) (sym (same_paint n shadow wanted)) encoded
 
 paint_again : (n number : ℕ) (shadow : Shadow) (wanted : WantedScreen) (sent : List ℕ) → IsPaintSpelt n shadow wanted → sent ≡ paint_record n number shadow wanted
     → command_in wanted.size (drop 5 sent) ≡ paint n shadow wanted
 unfolding control
-paint_again n number shadow wanted sent spelt begun =
-    read_behind wanted.size number (paint_code n shadow wanted) (control wanted) (paint n shadow wanted).orders sent (is_sent n shadow wanted) (spelt_so n shadow wanted spelt) begun
+paint_again n number shadow wanted sent encoded begun =
+    read_behind wanted.size number (paint_code n shadow wanted) (control wanted) (paint n shadow wanted).orders sent (is_sent n shadow wanted) (spelt_so n shadow wanted encoded) begun
     ∙ same_paint n shadow wanted
 
 pub paint_is_kept : (n number : ℕ) (shadow : Shadow) (wanted : WantedScreen) (sent : List ℕ) → IsPaintSpelt n shadow wanted → is_plain (paint n shadow wanted) ≡ true
     → sent ≡ paint_record n number shadow wanted → IsPlainWrite wanted.size (drop 5 sent)
 unfolding control
-paint_is_kept n number shadow wanted sent spelt plain begun =
-    plain_behind wanted.size number (paint_code n shadow wanted) (control wanted) (paint n shadow wanted).orders sent (is_sent n shadow wanted) (spelt_so n shadow wanted spelt)
+paint_is_kept n number shadow wanted sent encoded plain begun =
+    plain_behind wanted.size number (paint_code n shadow wanted) (control wanted) (paint n shadow wanted).orders sent (is_sent n shadow wanted) (spelt_so n shadow wanted encoded)
     (ap is_plain (same_paint n shadow wanted) ∙ plain) (sets n shadow wanted) begun
 
 -- a paint is a Write only where what is believed has the wanted size
@@ -110,12 +110,12 @@ over_size n (Shadow.Formatted beliefs) wanted writes = by_size (cells_of_fields 
 
 pub paint_believes : (number : ℕ) (shadow : Shadow) (wanted : WantedScreen) (sent : List ℕ) → IsPaintSpelt (cells_in wanted.size) shadow wanted
     → sent ≡ paint_record (cells_in wanted.size) number shadow wanted → BelievesTheSize wanted.size (unanswered.Writing number) sent shadow
-paint_believes number shadow wanted sent spelt begun writes =
+paint_believes number shadow wanted sent encoded begun writes =
     over_size (cells_in wanted.size) shadow wanted
-    (sym (ap (λ (command : CommandParts). command.code) (paint_again (cells_in wanted.size) number shadow wanted sent spelt begun)) ∙ writes)
+    (sym (ap (λ (command : CommandParts). command.code) (paint_again (cells_in wanted.size) number shadow wanted sent encoded begun)) ∙ writes)
 
 -- the connection once a panel is shown
-shown_conn : Session → Shape → ℕ → Message → Values → Pending → Session
+shown_conn : Session → ScreenSize → ℕ → Message → Values → Pending → Session
 shown_conn conn size panel message values pending =
     record conn { size = size; turn = whose.Terminal; pending = pending; next_seq = next_number conn.next_seq; panel = panel; message = message; values = values }
 
@@ -134,11 +134,11 @@ pub shows : (app : Application) (conn new : Session) (asked : ℕ) (message : Me
     → after.items ≡ before.items ++ sent_bytes (Record sent ∷ [])
     → IsSentOn (painted app conn asked message keep values) before after new
 unfolding shown_conn
-shows app conn new asked message keep values wanted sent before after chosen spelt begun is put =
+shows app conn new asked message keep values wanted sent before after chosen encoded begun is put =
     let panel : ℕ = app.shown (model_in conn) asked in
     record {
       conn = is ∙ ap (λ (command : CommandParts). shown_conn conn wanted.size panel message values (Pending.Writing conn.next_seq command))
-          (paint_again (cells_in wanted.size) conn.next_seq conn.shadow wanted sent spelt begun)
+          (paint_again (cells_in wanted.size) conn.next_seq conn.shadow wanted sent encoded begun)
           ∙ ap (λ (w : WantedScreen). shown_conn conn w.size panel message values (Pending.Writing conn.next_seq (paint (cells_in w.size) conn.shadow w))) chosen;
       bytes = put ∙ ap (λ (bytes : List ℕ). before.items ++ sent_bytes (Record bytes ∷ [])) begun
           ∙ ap (λ (w : WantedScreen). before.items ++ sent_bytes (item_sent (ToTerminal.Paint conn.next_seq w conn.shadow) ∷ [])) chosen;

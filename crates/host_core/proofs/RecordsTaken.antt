@@ -2,7 +2,7 @@
 use Rattle.std.proofs.Common.{◌≡◌, ◌≢◌, ◌-◌, ℕ, Bool, true, false, List, length, take, drop, refl, ap, ◌∙◌, Option, Some, None, Result, Ok, Err, arith}
 use Rattle.std.specs.Option.{is_some}
 use Rattle.std.proofs.lemmas.List.{take_all, length-drop}
-use Rattle.codes3270.specs.Size.{Shape}
+use Rattle.codes3270.specs.Size.{ScreenSize}
 use Rattle.datastream.specs.InboundText.{InboundParts, IsInbound, IsNoInbound}
 use Rattle.datastream.specs.declared.inbound_part.Form.{Form}
 use Rattle.datastream.specs.declared.inbound_part.Form.TheVariants.{Modified}
@@ -60,7 +60,7 @@ pub behind : (bytes : List ℕ) → take (length bytes - 5) (drop 5 bytes) ≡ d
 behind bytes = take_all (length bytes - 5) (drop 5 bytes) (omega (arith, length-drop 5 bytes))
 
 -- its bytes are there
-pub write_kept : (shape : Shape) (pending : PendingKind) (sent : List ℕ) → IsKept shape pending sent → IsWrite (pending_in shape pending sent) → IsPlainWrite shape (drop 5 sent)
+pub write_kept : (shape : ScreenSize) (pending : PendingKind) (sent : List ℕ) → IsKept shape pending sent → IsWrite (pending_in shape pending sent) → IsPlainWrite shape (drop 5 sent)
 write_kept shape unanswered.Nothing sent kept is = absurd is
 write_kept shape (unanswered.Writing number) sent kept is = kept
 write_kept shape (unanswered.Reading number) sent kept is = absurd is
@@ -90,11 +90,11 @@ pub of_second_key : (old new : Session) (after : AfterRecord) (body : List ℕ) 
     → step_of new after ≡ second_key parts.aid old.pending old → TakesData old body (step_of new after)
 of_second_key old new after body fault parts wrong may form sized is came = TakesData.is_second_key fault parts wrong may form sized is came
 
-no_second_key : (may : Bool) (shape : Shape) (body : List ℕ) → may ≡ false → IsNoSecondKey may shape body
+no_second_key : (may : Bool) (shape : ScreenSize) (body : List ℕ) → may ≡ false → IsNoSecondKey may shape body
 no_second_key true shape body is = absurd (cc)
 no_second_key false shape body is = tt
 
-still_no_key : (may : Bool) (shape : Shape) (body : List ℕ) (fault : InboundFault) → IsNoInbound shape Modified fault body → IsNoSecondKey may shape body
+still_no_key : (may : Bool) (shape : ScreenSize) (body : List ℕ) (fault : InboundFault) → IsNoInbound shape Modified fault body → IsNoSecondKey may shape body
 still_no_key true shape body fault wrong = (fault, wrong)
 still_no_key false shape body fault wrong = tt
 

@@ -6,7 +6,7 @@ use Rattle.std.specs.Option.{option_or, option_map_or}
 use Rattle.std.proofs.lemmas.List.Elements.{All-nil}
 use Rattle.std.proofs.lemmas.List.FromFn.{length-map-range_with_len, get_or-map-range_with_len}
 use Rattle.std.proofs.lemmas.Option.{slice_get-get_or}
-use Rattle.codes3270.specs.Size.{Shape, alternate_of, cells_in, model_2}
+use Rattle.codes3270.specs.Size.{ScreenSize, alternate_of, cells_in, model_2}
 use Rattle.codes3270.specs.declared.size.Model.{Model}
 use Rattle.codes3270.specs.declared.size.Model.TheVariants.{M2, M3, M4, M5}
 use Rattle.codes3270.specs.declared.attribute.Attr.{Attr}
@@ -18,11 +18,11 @@ use Rattle.panels.specs.declared.message.Message.{Message}
 use Rattle.panels.specs.declared.panel.Field.{Field}
 use Rattle.panels.specs.MessageRow.{PanelsLeaveTheRow}
 use Rattle.panels.specs.KeptFields.{FieldsAreKeptWhole, NothingElseIsKept, IsOfField}
-use Rattle.panels.specs.Panel.{PanelParts, Panels, AreLaidOut, HaveOtherwise, IsAbove, IsLaidOut, IsOtherwise, HasItemsApart, AreApart, is_shown, shape_of, shown_in, shown_of}
+use Rattle.panels.specs.Panel.{PanelParts, Panels, AreLaidOut, HaveOtherwise, IsAbove, IsLaidOut, IsOtherwise, HasItemsApart, AreApart, is_shown, size_of, shown_in, shown_of}
 use Rattle.panels.proofs.Putting.{cursor_within}
 use Rattle.panels.specs.Screen.{Values, distance_in, item_cell, autoskip_attr, shown, text_cell, field_attr, field_content, field_cell, stopper_cell, message_text, message_cell, first_some, wanted_cell, screen_of}
 use Rattle.panels.specs.Size.{message_start}
-use Rattle.host_core.specs.Application.{IsMessageRow, IsShape, IsShowable, is_wanted_char, message_place, no_panel, panel_at}
+use Rattle.host_core.specs.Application.{IsMessageRow, IsValidSize, IsShowable, is_wanted_char, message_place, no_panel, panel_at}
 use Rattle.host_core.proofs.KeptWhole.{IsInRun, KeptInRuns, kept_whole}
 use Rattle.host_core.specs.Laws.{PanelsAreShown, ScreensAreWanted}
 
@@ -77,8 +77,8 @@ cell_kept panel values message cell =
     (any_kept (text_cell values cell) (λ text. items_kept (autoskip_attr text.bright) (shown values text.content) (distance_in text.extent cell)) panel.texts)
     (or_kept (first_some (field_cell values message false cell) panel.fields) _
     (any_kept (field_cell values message false cell) (λ field. items_kept (field_attr values message false field) (field_content values message field) (distance_in field.extent cell)) panel.fields)
-    (or_kept (message_cell (message_start (shape_of panel)) panel.fields message cell) (first_some (stopper_cell cell) panel.fields)
-    (message_kept (message_start (shape_of panel)) panel.fields message cell)
+    (or_kept (message_cell (message_start (size_of panel)) panel.fields message cell) (first_some (stopper_cell cell) panel.fields)
+    (message_kept (message_start (size_of panel)) panel.fields message cell)
     (any_kept (stopper_cell cell) (stoppers_kept cell) panel.fields))))
 
 none_kept : (cell_of : ℕ → Want) → ((cell : ℕ) → is_keep (cell_of cell) ≡ false) → (cells : List ℕ) → list_any is_keep (map cell_of cells) ≡ false
@@ -113,13 +113,13 @@ row_start M4 = refl
 row_start M5 = refl
 
 message_row : PanelsLeaveTheRow → (panel : PanelParts) (values : Values) (message : Message) (keep : Bool) → IsLaidOut panel
-    → IsMessageRow (drop (message_place (shape_of panel)) (screen_of panel values message keep).cells)
+    → IsMessageRow (drop (message_place (size_of panel)) (screen_of panel values message keep).cells)
 message_row leave panel values message keep laid =
     let row = leave panel values message keep laid in
-    let size : ℕ = cells_in (shape_of panel) in
+    let size : ℕ = cells_in (size_of panel) in
     let long : length (screen_of panel values message keep).cells ≡ size = length-map-range_with_len (wanted_cell panel values message keep) 0 size in
     subst (λ (start : ℕ). IsMessageRow (drop start (screen_of panel values message keep).cells)) (row_start panel.model)
-    (row_there (autoskip_attr true) (message_start (shape_of panel)) (screen_of panel values message keep).cells refl row.attribute
+    (row_there (autoskip_attr true) (message_start (size_of panel)) (screen_of panel values message keep).cells refl row.attribute
     (λ cell after within. row.characters cell after (subst (λ (n : ℕ). cell < n) long within)))
 
 -- ---- what is kept
@@ -154,10 +154,10 @@ keeps_whole_of whole nothing panel values message keep apart laid =
 -- ---- screens
 
 shows : PanelsLeaveTheRow → (panel : PanelParts) (values : Values) (message : Message) (keep : Bool) → IsLaidOut panel → keeps_whole_fields (screen_of panel values message keep) ≡ true
-    → IsShowable (shape_of panel) (screen_of panel values message keep)
+    → IsShowable (size_of panel) (screen_of panel values message keep)
 shows leave panel values message keep laid kept = record {
   size = refl;
-  cells = length-map-range_with_len (wanted_cell panel values message keep) 0 (cells_in (shape_of panel));
+  cells = length-map-range_with_len (wanted_cell panel values message keep) 0 (cells_in (size_of panel));
   cursor = cursor_within panel message laid;
   messages = message_row leave panel values message keep laid;
   kept = kept;
@@ -187,7 +187,7 @@ all_apart set number apart = at_panel HasItemsApart (slice_get set.panels number
 -- ---- which panel is shown
 
 -- the size of a model that may have it
-abbrev HasSize : Model → Shape → Type 0
+abbrev HasSize : Model → ScreenSize → Type 0
 HasSize session size = (size ≡ model_2) ⊎ (size ≡ alternate_of session)
 
 size_of_shown : (model session : Model) → is_shown model session ≡ true → HasSize session (alternate_of model)
@@ -206,38 +206,38 @@ size_of_shown M5 M3 is = absurd (cc)
 size_of_shown M5 M4 is = absurd (cc)
 
 -- the panel that is shown is of model 2, or of the session's
-pub size_shown : (set : Panels) (session : Model) (number : ℕ) → HaveOtherwise set → HasSize session (shape_of (panel_at set (shown_in set session number)))
+pub size_shown : (set : Panels) (session : Model) (number : ℕ) → HaveOtherwise set → HasSize session (size_of (panel_at set (shown_in set session number)))
 size_shown set session number have = by_panel (slice_get set.panels number) refl
   where
-    size_at : Option PanelParts → Shape
-    size_at found = shape_of (unwrap_or found no_panel)
+    size_at : Option PanelParts → ScreenSize
+    size_at found = size_of (unwrap_or found no_panel)
 
     by_shown : (panel : PanelParts) (b : Bool) → slice_get set.panels number ≡ Some panel → is_shown panel.model session ≡ b
-        → HasSize session (shape_of (panel_at set (if b then number else unwrap_or panel.otherwise number)))
+        → HasSize session (size_of (panel_at set (if b then number else unwrap_or panel.otherwise number)))
     by_shown panel true there is = subst (HasSize session) (sym (ap size_at there)) (size_of_shown panel.model session is)
     by_shown panel false there is = by_otherwise panel.otherwise (have number panel there)
       where
-        by_otherwise : (otherwise : Option ℕ) → IsOtherwise set.panels panel.model otherwise → HasSize session (shape_of (panel_at set (unwrap_or otherwise number)))
+        by_otherwise : (otherwise : Option ℕ) → IsOtherwise set.panels panel.model otherwise → HasSize session (size_of (panel_at set (unwrap_or otherwise number)))
         by_otherwise None base =
             let shown : is_shown panel.model session ≡ true = ap (λ (model : Model). is_shown model session) base in
             absurd (cc)
         by_otherwise (Some q) (differs, other, at, base) = inl (ap size_at at ∙ ap alternate_of base)
 
-    by_panel : (found : Option PanelParts) → slice_get set.panels number ≡ found → HasSize session (shape_of (panel_at set (option_map_or (shown_of session number) found number)))
+    by_panel : (found : Option PanelParts) → slice_get set.panels number ≡ found → HasSize session (size_of (panel_at set (option_map_or (shown_of session number) found number)))
     by_panel None none = inl (ap size_at none)
     by_panel (Some panel) there = by_shown panel (is_shown panel.model session) there refl
 
 -- that in a session of model 2 has 24 rows of 80 cells
-pub shape_at : (set : Panels) (number : ℕ) → HaveOtherwise set → shape_of (panel_at set (shown_in set M2 number)) ≡ model_2
-shape_at set number have = by_either (size_shown set M2 number have)
+pub size_at : (set : Panels) (number : ℕ) → HaveOtherwise set → size_of (panel_at set (shown_in set M2 number)) ≡ model_2
+size_at set number have = by_either (size_shown set M2 number have)
   where
-    by_either : HasSize M2 (shape_of (panel_at set (shown_in set M2 number))) → shape_of (panel_at set (shown_in set M2 number)) ≡ model_2
+    by_either : HasSize M2 (size_of (panel_at set (shown_in set M2 number))) → size_of (panel_at set (shown_in set M2 number)) ≡ model_2
     by_either (inl e) = e
     by_either (inr e) = e
 
 -- ---- the application
 
-has_a_row : (model : Model) → IsShape (alternate_of model)
+has_a_row : (model : Model) → IsValidSize (alternate_of model)
 has_a_row M2 = record { columns = omega arith; row = omega arith; addresses = omega arith }
 has_a_row M3 = record { columns = omega arith; row = omega arith; addresses = omega arith }
 has_a_row M4 = record { columns = omega arith; row = omega arith; addresses = omega arith }
@@ -253,7 +253,7 @@ panels_shown leave whole_fields nothing set have laid apart = record {
       let out = laid_out_at set number laid in
       shows leave panel values message keep out (keeps_whole_of whole_fields nothing panel values message keep (all_apart set number apart) out);
   whole = λ number values message.
-      none_kept (wanted_cell (panel_at set number) values message false) (cell_kept (panel_at set number) values message) (range_with_len 0 (cells_in (shape_of (panel_at set number))));
+      none_kept (wanted_cell (panel_at set number) values message false) (cell_kept (panel_at set number) values message) (range_with_len 0 (cells_in (size_of (panel_at set number))));
 }
 
 -- ---- what panels ask for
@@ -262,7 +262,7 @@ pub screens_wanted : ScreensAreWanted
 screens_wanted panel values message keep = record {
   size = refl;
   cells = λ cell within.
-      let size : ℕ = cells_in (shape_of panel) in
+      let size : ℕ = cells_in (size_of panel) in
       let cells : List Want = (screen_of panel values message keep).cells in
       let long : length cells ≡ size = length-map-range_with_len (wanted_cell panel values message keep) 0 size in
       slice_get-get_or cells cell (want.Char 0) (rw long within)

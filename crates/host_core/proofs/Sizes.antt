@@ -1,13 +1,13 @@
 -- What is believed has the size of the screen, and so has what is shown there.
 use Rattle.std.proofs.Common.{◌≡◌, ◌<◌, ◌≤◌, ◌-◌, ◌*◌, ℕ, zero, suc, List, Option, Some, None, sym, subst, arith}
 use Rattle.std.specs.Prelude.{IfSome, slice_index_or}
-use Rattle.codes3270.specs.Size.{Shape, cells_in, most_cells}
-use Rattle.panels.specs.Panel.{PanelParts, Panels, AreLaidOut, IsAbove, IsLaidOut, shape_of}
+use Rattle.codes3270.specs.Size.{ScreenSize, cells_in, most_cells}
+use Rattle.panels.specs.Panel.{PanelParts, Panels, AreLaidOut, IsAbove, IsLaidOut, size_of}
 use Rattle.panels.specs.Size.{message_start}
 use Rattle.panels.specs.declared.panel.Field.{Field}
 use Rattle.shadow.specs.Belief.{IsOfSize, Shadow, cells_believed}
 use Rattle.host_core.proofs.Showing.{laid_out_at}
-use Rattle.host_core.specs.Application.{IsShape, panel_at}
+use Rattle.host_core.specs.Application.{IsValidSize, panel_at}
 use Rattle.host_core.specs.Representation.{BelievesTheSize}
 use Rattle.host_core.specs.Learning.{HaveFields}
 use Rattle.host_core.specs.Session.{Session}
@@ -18,7 +18,7 @@ use Rattle.host_core.specs.declared.pending.Pending.TheVariants as unanswered
 -- ---- a size
 
 -- what the getters of a size say makes it one with a row for messages
-pub is_shape : (size : Shape) → cells_in size ≤ most_cells → 0 < cells_in size → 1 < size.columns → IsShape size
+pub is_shape : (size : ScreenSize) → cells_in size ≤ most_cells → 0 < cells_in size → 1 < size.columns → IsValidSize size
 is_shape size few some several = record { columns = several; row = by_rows size.rows size.columns some; addresses = few }
   where
     by_rows : (rows columns : ℕ) → 0 < rows * columns → columns ≤ rows * columns
@@ -27,7 +27,7 @@ is_shape size few some several = record { columns = several; row = by_rows size.
 
 -- ---- what is believed
 
-pub believes_any : (shape : Shape) (pending : PendingKind) (sent : List ℕ) (shadow : Shadow) → IsOfSize (cells_in shape) shadow → BelievesTheSize shape pending sent shadow
+pub believes_any : (shape : ScreenSize) (pending : PendingKind) (sent : List ℕ) (shadow : Shadow) → IsOfSize (cells_in shape) shadow → BelievesTheSize shape pending sent shadow
 believes_any shape unanswered.Nothing sent shadow is = is
 believes_any shape (unanswered.Writing number) sent shadow is = λ writes. is
 believes_any shape (unanswered.Reading number) sent shadow is = is
@@ -35,7 +35,7 @@ believes_any shape (unanswered.Noting number) sent shadow is = is
 
 -- ---- the fields of a panel
 
-field_believed : (cells : Option ℕ) (size : Shape) (field : Field) → IfSome cells (λ count. count ≡ cells_in size) → IsAbove size field.extent
+field_believed : (cells : Option ℕ) (size : ScreenSize) (field : Field) → IfSome cells (λ count. count ≡ cells_in size) → IsAbove size field.extent
     → 0 < cells_in size → message_start size ≤ cells_in size → IfSome cells (λ count. field.extent.first - 1 < count)
 field_believed None size field sized above some rows = tt
 field_believed (Some count) size field sized above some rows = omega (arith, sized, above, some, rows)
@@ -52,7 +52,7 @@ pub fields_believed : (panels : Panels) (conn : Session) → AreLaidOut panels �
 fields_believed panels conn laid on known =
     let panel : PanelParts = panel_at panels conn.panel in
     let is : IsLaidOut panel = laid_out_at panels conn.panel laid in
-    let sized : IsOfSize (cells_in (shape_of panel)) conn.shadow = subst (λ (size : Shape). IsOfSize (cells_in size) conn.shadow) (sym on.size) known in
+    let sized : IsOfSize (cells_in (size_of panel)) conn.shadow = subst (λ (size : ScreenSize). IsOfSize (cells_in size) conn.shadow) (sym on.size) known in
     λ k d below.
-    field_believed (cells_believed conn.shadow) (shape_of panel) (slice_index_or panel.fields k d) sized (is.fields k d below)
-    (omega (arith, is.cursor)) (rows_within (shape_of panel).rows (shape_of panel).columns)
+    field_believed (cells_believed conn.shadow) (size_of panel) (slice_index_or panel.fields k d) sized (is.fields k d below)
+    (omega (arith, is.cursor)) (rows_within (size_of panel).rows (size_of panel).columns)

@@ -21,7 +21,7 @@ use Rattle.datastream.specs.declared.wanted.Want.TheVariants as want
 use Rattle.panels.proofs.Codes.{character_of_code}
 use Rattle.panels.specs.Characters.{is_character, AreCharacters}
 use Rattle.panels.proofs.Putting.{cursor_within}
-use Rattle.panels.specs.Panel.{PanelParts, HasCharacters, IsLaidOut, IsOfCharacters, shape_of}
+use Rattle.panels.specs.Panel.{PanelParts, HasCharacters, IsLaidOut, IsOfCharacters, size_of}
 use Rattle.panels.specs.Screen.{Values, distance_in, item_cell, kept_cell, autoskip_attr, shown, text_cell, is_fresh, field_attr, field_content, field_cell, stopper_cell, coded, field_numbered, message_text, message_cell, first_some, wanted_cell, screen_of}
 use Rattle.panels.specs.Size.{message_start}
 use Rattle.panels.specs.Values.{value_of}
@@ -159,8 +159,8 @@ cell_held panel values message keep cell is texts =
     (any_held (λ text. HasCharacters text.content) (text_cell values cell) (λ text has. text_held values cell text texts has) panel.texts is.texts)
     (or_held (first_some (field_cell values message keep cell) panel.fields) _
     (any_held (λ field. AreCharacters field.fill) (field_cell values message keep cell) (λ field fill. field_held values message keep cell field texts fill) panel.fields is.fills)
-    (or_held (message_cell (message_start (shape_of panel)) panel.fields message cell) (first_some (stopper_cell cell) panel.fields)
-    (message_held (message_start (shape_of panel)) panel.fields message cell)
+    (or_held (message_cell (message_start (size_of panel)) panel.fields message cell) (first_some (stopper_cell cell) panel.fields)
+    (message_held (message_start (size_of panel)) panel.fields message cell)
     (any_held (λ field. ⊤) (stopper_cell cell) (λ field it. stopper_held cell field) panel.fields (λ k d below. tt)))))
 
 -- ---- screens
@@ -176,9 +176,9 @@ few M5 = omega arith
 
 asks : (panel : PanelParts) (values : Values) (message : Message) (keep : Bool) → AreTexts values → IsLaidOut panel → IsOfCharacters panel → IsScreen (screen_of panel values message keep)
 asks panel values message keep texts laid is = record {
-  size = length-map-range_with_len (wanted_cell panel values message keep) 0 (cells_in (shape_of panel));
+  size = length-map-range_with_len (wanted_cell panel values message keep) 0 (cells_in (size_of panel));
   few = few panel.model;
-  proper = all_held (wanted_cell panel values message keep) (λ cell. cell_held panel values message keep cell is texts) (range_with_len 0 (cells_in (shape_of panel)));
+  proper = all_held (wanted_cell panel values message keep) (λ cell. cell_held panel values message keep cell is texts) (range_with_len 0 (cells_in (size_of panel)));
   cursor_in_range = cursor_within panel message laid;
 }
 

@@ -2,7 +2,7 @@
 use Rattle.std.specs.Prelude.{◌≡◌, ◌⊎◌, ◌<◌, ◌≤◌, ◌-◌, nat_lt, ℕ, Bool, true, false, List, [], ◌∷◌, length, drop, None, slice_get, unwrap_or, All}
 use Rattle.std.specs.List.{list_any, list_all}
 use Rattle.std.specs.Map.{values_of}
-use Rattle.codes3270.specs.Size.{Shape, alternate_of, cells_in, model_2, most_cells}
+use Rattle.codes3270.specs.Size.{ScreenSize, alternate_of, cells_in, model_2, most_cells}
 use Rattle.codes3270.specs.declared.size.Model.{Model}
 use Rattle.codes3270.specs.declared.size.Model.TheVariants.{M2}
 use Rattle.codes3270.specs.declared.attention.Aid.{Aid}
@@ -26,8 +26,8 @@ use Rattle.panels.specs.Screen.{Values, screen_of}
 -- a terminal of a model is shown if a panel is asked for; `fields` are a panel's; `next` is where a key leads from it,
 -- and `screen` is the screen that it asks for; with `keep`, fields keep what the operator left there.
 pub record Application : Type 0 where
-  pub begins : Shape
-  pub alternate : Model → Shape
+  pub begins : ScreenSize
+  pub alternate : Model → ScreenSize
   pub start : ℕ
   pub has_panel : ℕ → Bool
   pub shown : Model → (panel : ℕ) → ℕ
@@ -38,7 +38,7 @@ pub record Application : Type 0 where
 -- ---- the last row is for messages
 
 -- where the last row starts
-abbrev pub message_place : Shape → ℕ
+abbrev pub message_place : ScreenSize → ℕ
 message_place size = cells_in size - size.columns
 
 -- a character is wanted in this cell
@@ -57,13 +57,13 @@ IsMessageRow (Attr attribute ∷ wants) = (attribute.protected ≡ true) × (lis
 -- ---- applications
 
 -- a size with at least one whole row, with room after an attribute in a row, and with an address for each cell
-pub record IsShape (size : Shape) : Type 0 where
+pub record IsValidSize (size : ScreenSize) : Type 0 where
   pub columns : 1 < size.columns
   pub row : size.columns ≤ cells_in size
   pub addresses : cells_in size ≤ most_cells
 
 -- a screen of that size: the cursor is on it, the last row is for messages, and fields are kept whole or not at all
-pub record IsShowable (now : Shape) (wanted : WantedScreen) : Type 0 where
+pub record IsShowable (now : ScreenSize) (wanted : WantedScreen) : Type 0 where
   pub size : wanted.size ≡ now
   pub cells : length wanted.cells ≡ cells_in now
   pub cursor : wanted.cursor < cells_in now
@@ -75,13 +75,13 @@ abbrev pub KeepsNothing : WantedScreen → Type 0
 KeepsNothing wanted = list_any is_keep wanted.cells ≡ false
 
 -- holds if the size is one of the two that a terminal of this model may have
-abbrev pub IsSizeOf : Application → Model → Shape → Type 0
+abbrev pub IsSizeOf : Application → Model → ScreenSize → Type 0
 IsSizeOf app model size = (size ≡ app.begins) ⊎ (size ≡ app.alternate model)
 
 -- An application: what is shown to a terminal has a size that it may have, and without `keep` keeps nothing.
 pub record IsApplication (app : Application) : Type 0 where
-  pub begins : IsShape app.begins
-  pub alternates : (model : Model) → IsShape (app.alternate model)
+  pub begins : IsValidSize app.begins
+  pub alternates : (model : Model) → IsValidSize (app.alternate model)
   pub sizes : (model : Model) (panel : ℕ) (values : Values) (message : Message) (keep : Bool)
       → IsSizeOf app model (app.screen (app.shown model panel) values message keep).size
   pub showable : (panel : ℕ) (values : Values) (message : Message) (keep : Bool)

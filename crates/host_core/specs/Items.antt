@@ -1,7 +1,7 @@
 -- How a host takes the items of the stream: options and subnegotiations (RFC 1647, section 7), and records (sections
 -- 8.1 and 10.4). That others are dropped, and the causes of closing, are our profile.
 use Rattle.std.specs.Prelude.{◌≡◌, ◌==◌, ◌&&◌, ⊤, ℕ, Bool, true, false, List, if◌then◌else◌}
-use Rattle.codes3270.specs.Size.{Shape, alternate_of}
+use Rattle.codes3270.specs.Size.{ScreenSize, alternate_of}
 use Rattle.datastream.specs.InboundText.{InboundParts, IsInbound, IsNoInbound}
 use Rattle.datastream.specs.declared.inbound_part.Form.TheVariants.{Modified}
 use Rattle.datastream.specs.declared.inbound_part.InboundFault.{InboundFault}
@@ -41,14 +41,14 @@ may_be_second_key conn = may_have_changed conn.unheard && is_paint_or_read conn.
 -- The size by which a second key's data is read. While a paint is pending, the key may have been pressed on the screen
 -- before it, of another size; the largest size of the terminal's model has the addresses of both. If none is pending,
 -- the terminal has answered each erase before it sent the data, so its screen has the size of the last erase.
-abbrev pub second_key_size : Session → Pending → Shape
+abbrev pub second_key_size : Session → Pending → ScreenSize
 second_key_size conn (Pending.Writing number command) = alternate_of (model_in conn)
 second_key_size conn Pending.Nothing = conn.size
 second_key_size conn (Pending.Reading number) = conn.size
 second_key_size conn (Pending.Noting number command) = conn.size
 
 -- holds if the data can't be a second key's either
-abbrev pub IsNoSecondKey : Bool → Shape → List ℕ → Type 0
+abbrev pub IsNoSecondKey : Bool → ScreenSize → List ℕ → Type 0
 IsNoSecondKey false size body = ⊤
 IsNoSecondKey true size body = (fault : InboundFault) × IsNoInbound size Modified fault body
 

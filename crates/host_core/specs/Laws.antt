@@ -1,6 +1,6 @@
 -- What holds of a host's acts (our profile).
 use Rattle.std.specs.Prelude.{◌≡◌, ⊤, Bool, true}
-use Rattle.codes3270.specs.Size.{Shape}
+use Rattle.codes3270.specs.Size.{ScreenSize}
 use Rattle.datastream.specs.KeptByKeys.{KeptByKeys}
 use Rattle.datastream.specs.Screen.{Screen}
 use Rattle.datastream.specs.Wanted.{WantedScreen}
@@ -18,12 +18,12 @@ use Rattle.host_core.specs.declared.unheard.Unheard.{Unheard}
 use Rattle.host_core.specs.declared.unheard.Unheard.TheVariants as unheards
 
 -- holds if the wanted screen fits the belief or keeps nothing, and is a screen of this size
-pub record IsPaintable (size : Shape) (shadow : Shadow) (wanted : WantedScreen) : Type 0 where
+pub record IsPaintable (size : ScreenSize) (shadow : Shadow) (wanted : WantedScreen) : Type 0 where
   pub fits : is_paintable shadow wanted ≡ true
   pub showable : IsShowable size wanted
 
 -- holds for a Read Buffer, and for a paint over this belief that is paintable
-abbrev pub PaintsWhatFits : Shape → Shadow → ToTerminal → Type 0
+abbrev pub PaintsWhatFits : ScreenSize → Shadow → ToTerminal → Type 0
 PaintsWhatFits size shadow (ToTerminal.Paint number wanted over) = IsPaintable size shadow wanted × (over ≡ shadow)
 PaintsWhatFits size shadow (ToTerminal.ReadBuffer number) = Unit {0}
 PaintsWhatFits size shadow (ToTerminal.TalksDown saying) = ⊥

@@ -4,12 +4,12 @@ use Rattle.datastream.specs.Grammar.{CommandParts}
 use Rattle.datastream.specs.InboundText.{InboundParts}
 use Rattle.datastream.specs.Wanted.{WantedScreen}
 use Rattle.shadow.specs.Belief.{Shadow}
-use Rattle.tn3270e_msg.specs.Talk.{Saying}
+use Rattle.tn3270e_msg.specs.Talk.{NegotiationMessage}
 
 -- A paint carries its sequence number, the wanted screen, and the belief over which it was sent; a Read Buffer its
 -- number; a note its number and its command.
 pub data ToTerminal : Type 0 where
-  TalksDown : Saying → ToTerminal
+  TalksDown : NegotiationMessage → ToTerminal
   Paint : ℕ → WantedScreen → Shadow → ToTerminal
   ReadBuffer : ℕ → ToTerminal
   Note : ℕ → CommandParts → ToTerminal
@@ -21,6 +21,6 @@ pub data Verdict : Type 0 where
 
 -- a response carries the sequence number of the command that it answers
 pub data ToHost : Type 0 where
-  TalksUp : Saying → ToHost
+  TalksUp : NegotiationMessage → ToHost
   Data : InboundParts → ToHost
   Response : ℕ → Verdict → ToHost

@@ -1,6 +1,6 @@
 -- Notes (our profile): a host writes a short text into the last row while the operator has the turn.
 use Rattle.std.specs.Prelude.{◌≤◌, ◌-◌, ◌+◌, nat_lt, ◌&&◌, not, ℕ, Bool, false, IsTrue, List, ◌∷◌, ◌++◌, length, map, take, replicate, All, Option, Some, None, if◌then◌else◌}
-use Rattle.codes3270.specs.Size.{Shape}
+use Rattle.codes3270.specs.Size.{ScreenSize}
 use Rattle.datastream.specs.Grammar.{CommandParts}
 use Rattle.datastream.specs.Note.{quiet}
 use Rattle.datastream.specs.declared.command_code.CommandCode.TheVariants.{Write}
@@ -32,11 +32,11 @@ abbrev pub in_cells : ℕ → List ℕ → List ℕ
 in_cells room text = take room (text ++ replicate room 0)
 
 -- the orders that write a text over the last row after its attribute
-abbrev pub note_orders : Shape → List ℕ → List Order
+abbrev pub note_orders : ScreenSize → List ℕ → List Order
 note_orders size text = Sba (message_place size + 1) ∷ map CharData (in_cells (size.columns - 1) text)
 
 -- A note's command: a Write that restores no keyboard, resets no MDT and moves no cursor.
-abbrev pub note_command : Shape → List ℕ → CommandParts
+abbrev pub note_command : ScreenSize → List ℕ → CommandParts
 note_command size text = record { code = Write; size = size; wcc = Some quiet; orders = note_orders size text }
 
 -- a note may be sent: it is the operator's turn, and no command waits for its answer

@@ -2,7 +2,7 @@
 use Rattle.std.specs.Prelude.{◌≡◌, ◌≢◌, ◌==◌, ◌↔◌, ◌<◌, ◌+◌, ⊤, ℕ, true, List, [], ◌∷◌, ◌++◌, drop, Option, Some, None, map, Vec, vec_len, if◌then◌else◌}
 use Rattle.std.specs.Vec.{vec_capacity}
 use Rattle.std.specs.declared.alloc.Global.{Global}
-use Rattle.codes3270.specs.Size.{Shape, cells_in}
+use Rattle.codes3270.specs.Size.{ScreenSize, cells_in}
 use Rattle.codes3270.specs.WriteControl.{wcc_of}
 use Rattle.datastream.specs.Grammar.{CommandParts, IsCommand, codes_of, size_after}
 use Rattle.datastream.specs.Reading.{orders_in}
@@ -48,14 +48,14 @@ code_in byte =
     else Write
 
 -- the command that these bytes spell, for a screen whose size now and whose alternate size are this one
-abbrev pub command_in : Shape → List ℕ → CommandParts
+abbrev pub command_in : ScreenSize → List ℕ → CommandParts
 command_in now (code ∷ wcc ∷ text) =
     let size = size_after (code_in code) now now in
     record { code = code_in code; size = size; wcc = Some (wcc_of wcc); orders = orders_in (cells_in size) text }
 command_in now _ = record { code = Write; size = now; wcc = None; orders = [] }
 
 -- the pending command; its bytes are those after the header of the record that was sent last
-abbrev pub pending_in : Shape → PendingKind → List ℕ → Pending
+abbrev pub pending_in : ScreenSize → PendingKind → List ℕ → Pending
 pending_in size unanswered.Nothing sent = Pending.Nothing
 pending_in size (unanswered.Writing number) sent = Pending.Writing number (command_in size (drop header_length sent))
 pending_in size (unanswered.Reading number) sent = Pending.Reading number
@@ -68,20 +68,20 @@ number_kept (unanswered.Reading number) = Some number
 number_kept (unanswered.Noting number) = Some number
 
 -- holds for a write that the belief can take, and that leaves a screen of this size
-pub record IsPlainWrite (now : Shape) (bytes : List ℕ) : Type 0 where
-  pub spelt : IsCommand now now (command_in now bytes) bytes
+pub record IsPlainWrite (now : ScreenSize) (bytes : List ℕ) : Type 0 where
+  pub encoded : IsCommand now now (command_in now bytes) bytes
   pub plain : is_plain (command_in now bytes) ≡ true
   pub size : (command_in now bytes).size ≡ now
 
 -- holds if the record that was sent last has the pending write, if one is pending
-abbrev pub IsKept : Shape → PendingKind → List ℕ → Type 0
+abbrev pub IsKept : ScreenSize → PendingKind → List ℕ → Type 0
 IsKept size unanswered.Nothing sent = ⊤
 IsKept size (unanswered.Writing number) sent = IsPlainWrite size (drop header_length sent)
 IsKept size (unanswered.Reading number) sent = ⊤
 IsKept size (unanswered.Noting number) sent = IsPlainWrite size (drop header_length sent)
 
 -- Holds if the belief has the size of the screen, unless an erase waits for its answer, which sets that size.
-abbrev pub BelievesTheSize : Shape → PendingKind → List ℕ → Shadow → Type 0
+abbrev pub BelievesTheSize : ScreenSize → PendingKind → List ℕ → Shadow → Type 0
 BelievesTheSize size unanswered.Nothing sent shadow = IsOfSize (cells_in size) shadow
 BelievesTheSize size (unanswered.Writing number) sent shadow = (command_in size (drop header_length sent)).code ≡ Write
     → IsOfSize (cells_in size) shadow

@@ -1,7 +1,7 @@
 -- What a host sends on the wire (RFC 1647, sections 7, 8.1 and 10.4; the commands are those of GA23-0059-07; which
 -- response a record asks for is our profile).
 use Rattle.std.specs.Prelude.{ℕ, List, [], ◌∷◌, ◌++◌, Option, Some, None}
-use Rattle.codes3270.specs.Size.{Shape, cells_in}
+use Rattle.codes3270.specs.Size.{ScreenSize, cells_in}
 use Rattle.codes3270.specs.WriteControl.{wcc_byte}
 use Rattle.codes3270.specs.declared.write_control.Wcc.{Wcc}
 use Rattle.datastream.specs.Grammar.{CommandParts, codes_of}
@@ -28,7 +28,7 @@ abbrev pub written : CommandParts → List ℕ
 written command = (codes_of command.code).1 ∷ behind_code command.wcc command.orders
 
 -- a Read Buffer, to a screen of this size
-abbrev pub read_buffer_command : Shape → CommandParts
+abbrev pub read_buffer_command : ScreenSize → CommandParts
 read_buffer_command size = record { code = ReadBufferCode; size = size; wcc = None; orders = [] }
 
 -- its bytes: its code only

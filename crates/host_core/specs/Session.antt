@@ -1,6 +1,6 @@
 -- An open connection as the host has it, apart from its stream (our profile).
 use Rattle.std.specs.Prelude.{ℕ, Bool, true, false, [], unwrap_or}
-use Rattle.codes3270.specs.Size.{Shape}
+use Rattle.codes3270.specs.Size.{ScreenSize}
 use Rattle.codes3270.specs.declared.size.Model.{Model}
 use Rattle.codes3270.specs.declared.size.Model.TheVariants.{M2}
 use Rattle.datastream.specs.Grammar.{CommandParts}
@@ -32,7 +32,7 @@ pub data Pending : Type 0 where
 -- the session of an open connection: the negotiation, the screen and its belief, the turn, and what is shown
 pub record Session : Type 0 where
   pub talk : Talk HostState
-  pub size : Shape  -- of the terminal's screen, as the host's last erase set it
+  pub size : ScreenSize  -- of the terminal's screen, as the host's last erase set it
   pub turn : Turn
   pub pending : Pending
   pub next_seq : ℕ  -- of the next command

@@ -2,10 +2,10 @@
 use Rattle.std.specs.Prelude.{◌≡◌, ◌<◌, ◌↔◌, ⊤, ℕ, List, length, Option, Some}
 use Rattle.lu_pool.specs.Pool.{Holds}
 use Rattle.lu_pool.specs.declared.entry.Entry.{Entry}
-use Rattle.panels.specs.Panel.{Panels, shape_of}
+use Rattle.panels.specs.Panel.{Panels, size_of}
 use Rattle.host_core.specs.Application.{panel_at}
 use Rattle.host_core.specs.Session.{Session}
-use Rattle.host_core.specs.State.{Service, Host, most_connections, service_at, lu_of}
+use Rattle.host_core.specs.State.{Service, Host, most_connections, state_at, lu_of}
 
 -- Holds if the pool holds exactly this LU for the connection with this number; or none.
 abbrev pub HoldsJust : ℕ → List Entry → Option (List ℕ) → Type 0
@@ -13,12 +13,12 @@ HoldsJust number pool held = (lu : List ℕ) → Holds pool number lu ↔ (held 
 
 -- Holds if each connection holds exactly the LU that is granted there; so the LU of a closed connection is free.
 abbrev pub LusAreHeld : Host → Type 0
-LusAreHeld host = (number : ℕ) → HoldsJust number host.pool (lu_of (service_at number host))
+LusAreHeld host = (number : ℕ) → HoldsJust number host.pool (lu_of (state_at number host))
 
 -- holds if the connection's panel exists, and has the size of the connection's screen
 pub record IsShownOn (panels : Panels) (conn : Session) : Type 0 where
   pub there : conn.panel < length panels.panels
-  pub size : shape_of (panel_at panels conn.panel) ≡ conn.size
+  pub size : size_of (panel_at panels conn.panel) ≡ conn.size
 
 -- holds if the number isn't open, or its connection is shown such a panel
 abbrev pub IsShown : Panels → Service → Type 0
@@ -28,7 +28,7 @@ IsShown panels (Service.Closed cause) = ⊤
 
 -- Holds if each open connection is shown such a panel.
 abbrev pub PanelsAreShown : Host → Type 0
-PanelsAreShown host = (number : ℕ) → IsShown host.panels (service_at number host)
+PanelsAreShown host = (number : ℕ) → IsShown host.panels (state_at number host)
 
 -- what holds of each host
 pub record IsSound (host : Host) : Type 0 where
@@ -39,5 +39,5 @@ pub record IsSound (host : Host) : Type 0 where
 
 -- Holds if no two connections are granted the same LU.
 abbrev pub NobodyShares : Host → Type 0
-NobodyShares host = (one other : ℕ) (lu : List ℕ) → lu_of (service_at one host) ≡ Some lu
-    → lu_of (service_at other host) ≡ Some lu → one ≡ other
+NobodyShares host = (one other : ℕ) (lu : List ℕ) → lu_of (state_at one host) ≡ Some lu
+    → lu_of (state_at other host) ≡ Some lu → one ≡ other

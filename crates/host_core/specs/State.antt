@@ -109,8 +109,8 @@ shadow_of (Service.Closed cause) = Shadow.NothingKnown
 abbrev pub connection_at : ℕ → Host → Connection
 connection_at number host = slice_index_or host.connections number unused
 
-abbrev pub service_at : ℕ → Host → Service
-service_at number host = (connection_at number host).service
+abbrev pub state_at : ℕ → Host → Service
+state_at number host = (connection_at number host).service
 
 -- the host with another state of one connection number
 abbrev pub with_connection : ℕ → Connection → Host → Host

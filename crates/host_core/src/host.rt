@@ -8,7 +8,7 @@ ghost use Rattle.host_core.specs.Notes.{IsNoteText};
 ghost use Rattle.host_core.specs.Questions.{HasTexts, answered_by, question_of};
 ghost use Rattle.host_core.specs.Reports.{events_of, oldest, without_oldest};
 ghost use Rattle.host_core.specs.Sound.{IsSound, NobodyShares};
-ghost use Rattle.host_core.specs.State.{host_for, new_host, most_connections, restarted, session_at, unused, given_up, connection_at, reports_at, service_at, with_connection, with_opened, with_reports, model_of, phase_of, turn_of, pending_of, shadow_of};
+ghost use Rattle.host_core.specs.State.{host_for, new_host, most_connections, restarted, session_at, unused, given_up, connection_at, reports_at, state_at, with_connection, with_opened, with_reports, model_of, phase_of, turn_of, pending_of, shadow_of};
 ghost use Rattle.host_core.specs.declared.phase.Phase.TheVariants as phase;
 
 use crate::acted::Acted;
@@ -134,7 +134,7 @@ impl Host {
     /// memory is refused, nothing has changed.
     pub fn open(&mut self, conn: usize) -> Result<(), Memory>
         requires number { conn < most_connections }
-        requires free { phase_of (service_at conn self.old) ≡ phase.Free }
+        requires free { phase_of (state_at conn self.old) ≡ phase.Free }
         ensures opened { OnOk result (self.new ≡ with_opened conn self.old) }
         ensures unchanged { OnErr result (self.new ≡ self.old) }
     {
@@ -165,7 +165,7 @@ impl Host {
     /// (1,024 bytes may wait), or if a field's value has to grow; if it is refused, nothing has changed.
     pub fn act(&mut self, conn: usize) -> Acted
         requires number { conn < most_connections }
-        ensures acted { Does (acted_by (application_of self.old.panels) (service_at conn self.old))
+        ensures acted { Does (acted_by (application_of self.old.panels) (state_at conn self.old))
             (connection_at conn self.old) result (connection_at conn self.new) }
         ensures others { self.new ≡ with_connection conn (connection_at conn self.new) self.old }
     {
@@ -180,9 +180,9 @@ impl Host {
     pub fn question(&self, conn: usize) -> Result<Option<Question>, Memory>
         requires number { conn < most_connections }
         ensures question { IfOk result (λ question. question
-            ≡ question_of (application_of self.now.panels) (session_at conn self.now) (service_at conn self.now)) }
+            ≡ question_of (application_of self.now.panels) (session_at conn self.now) (state_at conn self.now)) }
         ensures memory { OnErr result (HasTexts
-            (question_of (application_of self.now.panels) (session_at conn self.now) (service_at conn self.now))) }
+            (question_of (application_of self.now.panels) (session_at conn self.now) (state_at conn self.now))) }
     {
         let session = self.sessions.at(conn);
         self.connections[conn].question(&self.panels, session)
@@ -198,7 +198,7 @@ impl Host {
         requires number { conn < most_connections }
         ensures answered { DoesAnswer (application_of self.old.panels) answer.now
             (answered_by (application_of self.old.panels) (session_at conn self.old) ticket answer.now
-            (service_at conn self.old)) (connection_at conn self.old) result (connection_at conn self.new) }
+            (state_at conn self.old)) (connection_at conn self.old) result (connection_at conn self.new) }
         ensures others { self.new ≡ with_connection conn (connection_at conn self.new) self.old }
     {
         let session = self.sessions.at(conn);
@@ -219,7 +219,7 @@ impl Host {
     pub fn note(&mut self, conn: usize, text: &[u8]) -> Acted
         requires number { conn < most_connections }
         requires text { IsNoteText text.now }
-        ensures noted { Does (noted_by text.now (service_at conn self.old)) (connection_at conn self.old) result
+        ensures noted { Does (noted_by text.now (state_at conn self.old)) (connection_at conn self.old) result
             (connection_at conn self.new) }
         ensures others { self.new ≡ with_connection conn (connection_at conn self.new) self.old }
     {
@@ -283,7 +283,7 @@ impl Host {
     /// The phase of a connection: free, negotiating, bound to an LU, or closed.
     pub fn phase(&self, conn: usize) -> Phase
         requires number { conn < most_connections }
-        ensures { result ≡ phase_of (service_at conn self.now) }
+        ensures { result ≡ phase_of (state_at conn self.now) }
     {
         self.connections[conn].phase()
     }
@@ -291,7 +291,7 @@ impl Host {
     /// Whose turn it is on a connection: the host's before agreement, and on a number that is free or closed.
     pub fn turn(&self, conn: usize) -> Turn
         requires number { conn < most_connections }
-        ensures { result ≡ turn_of (service_at conn self.now) }
+        ensures { result ≡ turn_of (state_at conn self.now) }
     {
         self.connections[conn].turn()
     }
@@ -301,7 +301,7 @@ impl Host {
     /// own model; in place of any other panel it is shown that panel's `otherwise`.
     pub fn model(&self, conn: usize) -> Option<TerminalModel>
         requires number { conn < most_connections }
-        ensures { result ≡ model_of (service_at conn self.now) }
+        ensures { result ≡ model_of (state_at conn self.now) }
     {
         self.connections[conn].model()
     }
@@ -309,7 +309,7 @@ impl Host {
     /// The sequence number of the command that waits for its answer, `0..=32_767`; None if none waits.
     pub fn pending(&self, conn: usize) -> Option<u16>
         requires number { conn < most_connections }
-        ensures { result ≡ pending_of (service_at conn self.now) }
+        ensures { result ≡ pending_of (state_at conn self.now) }
     {
         self.connections[conn].pending()
     }
@@ -317,7 +317,7 @@ impl Host {
     /// What the host believes of a connection's screen; nothing is known if the number isn't open.
     pub fn shadow(&self, conn: usize) -> &Shadow
         requires number { conn < most_connections }
-        ensures { result.now ≡ shadow_of (service_at conn self.now) }
+        ensures { result.now ≡ shadow_of (state_at conn self.now) }
     {
         match self.connections[conn].shadow() {
             Some(shadow) => shadow,

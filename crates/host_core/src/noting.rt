@@ -4,7 +4,7 @@ ghost use Rattle.std.specs.Vec.{vec_capacity};
 ghost use Rattle.codes3270.specs.Size.{cells_in, most_columns};
 ghost use Rattle.codes3270.specs.Storable.{is_storable};
 ghost use Rattle.shadow.specs.Belief.{IsOfSize};
-ghost use Rattle.host_core.specs.Application.{IsShape, message_place};
+ghost use Rattle.host_core.specs.Application.{IsValidSize, message_place};
 ghost use Rattle.host_core.specs.Representation.{DoesOn, IsSentOn};
 ghost use Rattle.host_core.specs.Notes.{IsNoteText, may_note, note_command, noted, noted_as};
 ghost use Rattle.host_core.specs.Rooms.{HasRoomFor, note_room};
@@ -32,7 +32,7 @@ fn room_in(size: Size) -> usize
 /// The buffer address of a note on a screen of this size: after the attribute of the last row.
 fn note_place(size: Size) -> Addr
     ensures place { result ≡ message_place size + 1 }
-    ensures size { IsShape size }
+    ensures size { IsValidSize size }
     ensures narrow { size.columns ≤ most_columns }
 {
     match Addr::new(size.cells() - size.cols() + 1, size) {
@@ -85,7 +85,7 @@ fn write_note(writer: &mut CommandWriter<'_>, text: &[u8], size: Size)
     requires room { vec_len writer.old.out.now + (4 + most_columns) ≤ vec_capacity writer.old.out.now }
     ensures same_vector { writer.new.out.ghost_name ≡ writer.old.out.ghost_name }
     ensures appended { writer.new.out.now.items ≡ writer.old.out.now.items ++ written (note_command size text.now) }
-    ensures size { IsShape size }
+    ensures size { IsValidSize size }
     ensures narrow { size.columns ≤ most_columns }
     ensures capacity { vec_capacity writer.old.out.now ≤ vec_capacity writer.new.out.now }
 {
@@ -107,7 +107,7 @@ pub(crate) fn put_note(bytes: &mut Vec<u8>, text: &[u8], size: Size)
     requires text { IsNoteText text.now }
     requires room { vec_len bytes.old + (4 + most_columns) ≤ vec_capacity bytes.old }
     ensures appended { bytes.new.items ≡ bytes.old.items ++ written (note_command size text.now) }
-    ensures size { IsShape size }
+    ensures size { IsValidSize size }
     ensures narrow { size.columns ≤ most_columns }
     ensures capacity { vec_capacity bytes.old ≤ vec_capacity bytes.new }
 {

@@ -1,5 +1,5 @@
 ghost use Rattle.std.specs.Prelude.{◌≡◌, ℕ, List};
-ghost use Rattle.codes3270.specs.Size.{Shape};
+ghost use Rattle.codes3270.specs.Size.{ScreenSize};
 ghost use Rattle.host_core.specs.Does.{is_paint};
 ghost use Rattle.host_core.specs.Items.{is_paint_or_read};
 ghost use Rattle.host_core.specs.Representation.{number_kept, pending_in};
@@ -32,7 +32,7 @@ impl Pending {
 
     /// Whether a paint waits for its answer.
     pub(crate) fn is_paint(self) -> bool
-        ensures { (size : Shape) (sent : List ℕ) → result ≡ is_paint (pending_in size self sent) }
+        ensures { (size : ScreenSize) (sent : List ℕ) → result ≡ is_paint (pending_in size self sent) }
     {
         match self {
             Pending::Writing(_) => true,
@@ -42,7 +42,7 @@ impl Pending {
 
     /// Whether a paint or a Read Buffer waits for its answer.
     pub(crate) fn is_paint_or_read(self) -> bool
-        ensures { (size : Shape) (sent : List ℕ) → result ≡ is_paint_or_read (pending_in size self sent) }
+        ensures { (size : ScreenSize) (sent : List ℕ) → result ≡ is_paint_or_read (pending_in size self sent) }
     {
         match self {
             Pending::Writing(_) | Pending::Reading(_) => true,

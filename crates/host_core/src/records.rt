@@ -51,7 +51,7 @@ fn write_in(sent: &[u8], size: Size) -> Command<'_>
     ensures command { result ≡ command_in size (drop header_length sent.now) }
     ensures plain { is_plain result ≡ true }
     ensures size { result.size ≡ size }
-    ensures spelt { IsSpelt result }
+    ensures encoded { IsSpelt result }
 {
     read_command(&sent[HEADER_LENGTH..], size, size).unwrap()
 }

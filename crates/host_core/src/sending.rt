@@ -8,7 +8,7 @@ ghost use Rattle.datastream.specs.declared.wanted.Want.TheVariants.{Char};
 ghost use Rattle.shadow.specs.Belief.{IsOfSize};
 ghost use Rattle.shadow.specs.Fits.{is_paintable};
 ghost use Rattle.panels.specs.Keys.{IsKey};
-ghost use Rattle.panels.specs.Panel.{IsLaidOut, shape_of, target_of};
+ghost use Rattle.panels.specs.Panel.{IsLaidOut, size_of, target_of};
 ghost use Rattle.telnet_wire.specs.Items.{Record, sent_bytes};
 ghost use Rattle.tn3270e_msg.specs.Header.{always_response, spelling};
 ghost use Rattle.host_core.specs.Acts.{Act as ActValue, done, painted, wanted_by, when_shown};

@@ -1,7 +1,7 @@
 //! Serving connections, a turn at a time.
 ghost use Rattle.std.specs.Prelude.{◌≡◌, ◌≢◌, ◌<◌, ◌↔◌};
 ghost use Rattle.host_core.specs.Serves.{Serves, Receives, ReceiveCounts, Responds, SendsOut, SendCounts, IsLost, OthersCount};
-ghost use Rattle.host_core.specs.State.{most_connections, service_at, phase_of};
+ghost use Rattle.host_core.specs.State.{most_connections, state_at, phase_of};
 ghost use Rattle.host_core.specs.declared.serving.Served.TheVariants as served;
 
 use crate::acted::Acted;
@@ -29,7 +29,7 @@ fn send_out<L: Links>(host: &mut Host, links: &mut L, conn: usize) -> bool
     ensures sends { SendsOut L.gave L.took conn host.old links.old host.new links.new }
     ensures counts { SendCounts conn result (L.ends links.old) (L.ends links.new) (L.failures links.old)
         (L.failures links.new) }
-    ensures phase { phase_of (service_at conn host.new) ≡ phase_of (service_at conn host.old) }
+    ensures phase { phase_of (state_at conn host.new) ≡ phase_of (state_at conn host.old) }
 {
     if host.out(conn).is_empty() {
         return true;
@@ -82,7 +82,7 @@ pub fn serve_turn<L: Links>(host: &mut Host, links: &mut L, conn: usize) -> Serv
     requires number { conn < most_connections }
     ensures serves { Serves L.gave L.took conn host.old links.old result host.new links.new }
     ensures lost { result ≢ served.Memory → (result ≡ served.Lost) ↔ IsLost conn (L.ends links.old) (L.ends links.new)
-        (L.failures links.old) (L.failures links.new) (phase_of (service_at conn host.new)) }
+        (L.failures links.old) (L.failures links.new) (phase_of (state_at conn host.new)) }
     ensures ends { OthersCount conn (L.ends links.old) (L.ends links.new) }
     ensures failures { OthersCount conn (L.failures links.old) (L.failures links.new) }
 {

@@ -1,6 +1,6 @@
 //! An open connection as the host has it, apart from its stream.
 ghost use Rattle.std.specs.Prelude.{◌≡◌, IfOk, ◌-◌, ◌+◌, ◌<◌, ◌≤◌, ◌++◌, take, replicate, length, All, true, vec_len, ◌*◌, ◌∷◌, [], ℕ};
-ghost use Rattle.host_core.specs.Application.{application_of, IsShape, message_place, Application, panel_at};
+ghost use Rattle.host_core.specs.Application.{application_of, IsValidSize, message_place, Application, panel_at};
 ghost use Rattle.host_core.specs.Session.{agreed_lu, model_in, new_conn, is_agreed};
 ghost use Rattle.host_core.specs.Sound.{IsShownOn};
 ghost use Rattle.tn3270e_msg.specs.HostTable.{model_asked};
@@ -17,7 +17,7 @@ ghost use Rattle.datastream.specs.Wanted.{IsScreen};
 ghost use Rattle.datastream.specs.declared.wanted.Want.TheVariants.{Char};
 ghost use Rattle.shadow.specs.Fits.{is_paintable};
 ghost use Rattle.panels.specs.Keys.{IsKey};
-ghost use Rattle.panels.specs.Panel.{IsLaidOut, shape_of, target_of};
+ghost use Rattle.panels.specs.Panel.{IsLaidOut, size_of, target_of};
 ghost use Rattle.telnet_wire.specs.Items.{Record, sent_bytes};
 ghost use Rattle.tn3270e_msg.specs.Header.{always_response, spelling};
 ghost use Rattle.host_core.specs.Acts.{Act as ActValue, done, painted, wanted_by, when_shown};
@@ -234,7 +234,7 @@ impl Session {
     /// Fills a wanted screen of nulls: with kept fields, if that is asked for and fits the belief, else whole.
     fn put_wanted(&self, wanted: &mut Wanted, panels: &PanelSet, shown: &Shown, values: &Values)
         requires shown { CanBeShown (length panels.now.panels) shown.now }
-        requires size { wanted.old.size ≡ shape_of (panel_at panels.now shown.now.panel) }
+        requires size { wanted.old.size ≡ size_of (panel_at panels.now shown.now.panel) }
         requires nulls { wanted.old.cells ≡ replicate (cells_in wanted.old.size) (Char 0) }
         ensures { wanted.new ≡ wanted_by
             (application_of panels.now) self.now shown.now.panel shown.now.message shown.now.keep values.now }
@@ -249,13 +249,13 @@ impl Session {
     /// Fills a wanted screen of nulls. It then fits the belief or keeps no cell, and is one of our profile.
     fn put_fitting(&self, wanted: &mut Wanted, panels: &PanelSet, shown: &Shown, values: &Values)
         requires shown { CanBeShown (length panels.now.panels) shown.now }
-        requires size { wanted.old.size ≡ shape_of (panel_at panels.now shown.now.panel) }
+        requires size { wanted.old.size ≡ size_of (panel_at panels.now shown.now.panel) }
         requires nulls { wanted.old.cells ≡ replicate (cells_in wanted.old.size) (Char 0) }
         ensures wanted { wanted.new ≡ wanted_by
             (application_of panels.now) self.now shown.now.panel shown.now.message shown.now.keep values.now }
         ensures fits { is_paintable self.now.shadow wanted.new ≡ true }
         ensures screen { IsScreen wanted.new }
-        ensures size { wanted.new.size ≡ shape_of (panel_at panels.now shown.now.panel) }
+        ensures size { wanted.new.size ≡ size_of (panel_at panels.now shown.now.panel) }
     {
         panels_are_shown();
         panels.panels_are_sound();

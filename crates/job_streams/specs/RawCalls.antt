@@ -44,20 +44,20 @@ WritesText old text (Err error) new = ⊤
 -- ---- connections
 
 -- whether the error means only that the call did nothing and will be repeated
-abbrev pub is_passing : ErrorKind → Bool
-is_passing WouldBlock = true
-is_passing Interrupted = true
-is_passing _ = false
+abbrev pub is_transient : ErrorKind → Bool
+is_transient WouldBlock = true
+is_transient Interrupted = true
+is_transient _ = false
 
 -- The meaning of the answer to a read of a connection, if the buffer has room: no bytes are the end.
 abbrev pub link_read : Result ℕ Error → LinkRead
 link_read (Ok count) = if count == 0 then read.Ended else read.Got count
-link_read (Err error) = if is_passing (error_kind error) then read.NotNow else read.Failed
+link_read (Err error) = if is_transient (error_kind error) then read.NotNow else read.Failed
 
 -- the meaning of the answer to a write of at least one byte
 abbrev pub link_write : Result ℕ Error → LinkWrite
 link_write (Ok count) = if count == 0 then write.NotNow else write.Took count
-link_write (Err error) = if is_passing (error_kind error) then write.NotNow else write.Failed
+link_write (Err error) = if is_transient (error_kind error) then write.NotNow else write.Failed
 
 -- ---- streams
 

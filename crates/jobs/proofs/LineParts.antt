@@ -72,11 +72,11 @@ some_words (char ∷ line) = by_test (char == blank) refl (some_words line)
     )
 
 -- a line has no blank, or is cut at its first
-abbrev pub IsWhole : List ℕ → Type 0
-IsWhole line = position_or_len (λ char. char == blank) line ≡ length line
+abbrev pub HasNoBlank : List ℕ → Type 0
+HasNoBlank line = position_or_len (λ char. char == blank) line ≡ length line
 
-abbrev pub IsCut : List ℕ → List ℕ → List ℕ → Type 0
-IsCut line front back = (position_or_len (λ char. char == blank) line < length line) × (front ≡ before_first (λ char. char == blank) line) × (back ≡ behind line)
+abbrev pub SplitsAtBlank : List ℕ → List ℕ → List ℕ → Type 0
+SplitsAtBlank line front back = (position_or_len (λ char. char == blank) line < length line) × (front ≡ before_first (λ char. char == blank) line) × (back ≡ behind line)
 
-pub word_more : (line front back : List ℕ) → IsCut line front back → words_of line ≡ front ∷ words_of back
+pub word_more : (line front back : List ℕ) → SplitsAtBlank line front back → words_of line ≡ front ∷ words_of back
 word_more line front back cut = slice_split_first (λ char. char == blank) line 0 cut.0 ∙ (λ i. sym cut.1 i ∷ words_of (sym cut.2 i))

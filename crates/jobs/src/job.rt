@@ -2,13 +2,14 @@
 ghost use Rattle.std.specs.Prelude.{◌≡◌};
 ghost use Rattle.jobs.specs.OptionValues.{model_numbered, model_of};
 
-use crate::number::{Port, Turns};
+use crate::number::{Port, ServicePort, Turns};
 use crate::service::{ApplicationChoice, Service};
 use crate::tty_size::TtySize;
 use crate::word::number_of;
 use codes3270::Model;
 use host_core::Terminals;
 use std::marker;
+use std::net::IpAddr;
 use tn3270e_msg::Lu;
 
 /// The 3278 model with this number, 2 to 5; None for any other number.
@@ -33,11 +34,11 @@ pub fn model_of(word: &str) -> Option<Model>
 
 /// A word of the command line: a file name, or a URL. Contracts see its text.
 #[derive(Debug, Drop)]
-pub struct WordText<'a> {
+pub struct Operand<'a> {
     text: &'a str,
 }
 
-impl<'a> marker::Model for WordText<'a> {
+impl<'a> marker::Model for Operand<'a> {
     ghost use Rattle.std.specs.Prelude.{ℕ, List};
 
     ghost Value = { List ℕ };
@@ -45,12 +46,12 @@ impl<'a> marker::Model for WordText<'a> {
     ghost view = { λ word. word.text.now };
 }
 
-impl<'a> WordText<'a> {
+impl<'a> Operand<'a> {
     /// The word with this text.
-    pub fn new(text: &'a str) -> WordText<'a>
+    pub fn new(text: &'a str) -> Operand<'a>
         ensures { result ≡ text.entry.now }
     {
-        WordText { text }
+        Operand { text }
     }
 
     /// The text of the word.
@@ -63,7 +64,7 @@ impl<'a> WordText<'a> {
 
 /// A topic of the program's help: the whole program, or one job.
 #[derive(Clone, Copy, Debug)]
-pub enum Topic {
+pub enum HelpTopic {
     Program,
     Script,
     Show,
@@ -77,11 +78,13 @@ pub enum Topic {
     Version,
 }
 
-/// The options of `operate`: the host's port, the terminal, and its tty.
+/// The options of `operate`: the host's address and port, the terminal, and its tty.
 #[derive(Clone, Copy, Debug)]
-pub struct LiveOptions {
+pub struct OperateOptions {
+    /// The address of the host.
+    pub host: IpAddr,
     /// The port of the host.
-    pub port: Port,
+    pub port: ServicePort,
     /// The LU that the terminal requests; None to get any LU.
     pub lu: Option<Lu>,
     /// The model of the terminal.
@@ -107,7 +110,7 @@ pub enum Job<'a> {
     },
     /// Checks the panel text of a file, or of the standard input if there is none.
     Check {
-        file: Option<WordText<'a>>,
+        file: Option<Operand<'a>>,
     },
     /// Serves panels to terminals that connect, for this number of turns.
     Host {
@@ -117,7 +120,7 @@ pub enum Job<'a> {
     /// Serves the panels of a file, or of the standard input if there is none, to terminals that connect, without end.
     Serve {
         service: Service,
-        panels: Option<WordText<'a>>,
+        panels: Option<Operand<'a>>,
         application: ApplicationChoice<'a>,
     },
     /// Runs a terminal of this model at a host, and executes the commands of a script.
@@ -127,9 +130,9 @@ pub enum Job<'a> {
         model: Model,
     },
     /// Runs a terminal at a host, for an operator at a tty.
-    Operate(LiveOptions),
+    Operate(OperateOptions),
     /// Prints help.
-    Help(Topic),
+    Help(HelpTopic),
     /// Prints the program's version.
     Version,
 }

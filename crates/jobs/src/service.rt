@@ -2,7 +2,7 @@
 ghost use Rattle.std.specs.Prelude.{◌≡◌};
 ghost use Rattle.jobs.specs.OptionValues.{address_of, written_address};
 
-use crate::job::WordText;
+use crate::job::Operand;
 use crate::number::{ReplyTime, Seconds, ServicePort};
 use host_core::Terminals;
 use std::net::{IpAddr, Ipv4Addr};
@@ -39,7 +39,7 @@ pub struct Service {
 #[derive(Debug, Drop)]
 pub struct ApplicationChoice<'a> {
     /// The application's URL; None if there is no application.
-    pub url: Option<WordText<'a>>,
+    pub url: Option<Operand<'a>>,
     /// How long the application may take for a reply.
     pub reply_time: ReplyTime,
 }

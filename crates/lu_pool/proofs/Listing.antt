@@ -16,7 +16,7 @@ use Rattle.std.specs.Prelude.{String}
 use Rattle.std.specs.String.{string_bytes}
 use Rattle.std.proofs.lemmas.Option.{slice_get_read}
 use Rattle.tn3270e_msg.specs.Lu.{lu_of}
-use Rattle.lu_pool.specs.Reading.{readings, IsReadFrom, IsRight, IsRightBelow, IsFirstFault, IsTextFault, no_name, named_before, IsNew}
+use Rattle.lu_pool.specs.Reading.{parsed_names, IsReadFrom, IsRight, HasNoFaultBefore, IsFirstFault, IsTextFault, no_name, named_before, IsNew}
 
 -- what stands at a place of a list that grew by one
 push_get : {X : Type 0} (xs : List X) (y : X) (j : ℕ) (e : X) → slice_get (xs ++ y ∷ []) j ≡ Some e → (slice_get xs j ≡ Some e) ⊎ ((j ≡ length xs) × (y ≡ e))
@@ -98,7 +98,7 @@ entry_of entries j None r lu i e h = absurd (cc)
 entry_of entries j (Some at) r lu i e h = (at, i, let same : Some (Some at.lu) ≡ Some (Some lu) = sym e ∙ h in let inner : Some at.lu ≡ Some lu = cc in cc)
 
 -- no text that is listed is wrong
-pub right_below : (read : List (Option (List ℕ))) (place : ℕ) (entries : List Entry) → IsListed read place entries → IsRightBelow read place
+pub right_below : (read : List (Option (List ℕ))) (place : ℕ) (entries : List Entry) → IsListed read place entries → HasNoFaultBefore read place
 right_below read place entries l before h = (
   λ bad. no_bad_name (slice_get entries before) (slice_get read before) (entry_at read place entries l before h) bad,
   λ twice.
@@ -158,11 +158,11 @@ fails_lu at lu h e = false≢true (sym h ∙ (bytes_eq-Decides at lu).1 e)
 
 -- the text at a place, as it is read
 pub reading_at : {Z : Type 0} (names : List (String Z)) (place : ℕ) (name : String Z) (bytes : List ℕ) → place < length names → name ≡ get_or names place name → bytes ≡ string_bytes name
-    → slice_get (readings names) place ≡ Some (lu_of bytes)
+    → slice_get (parsed_names names) place ≡ Some (lu_of bytes)
 reading_at names place name bytes h is e =
     slice_get-map (λ (text : String _). lu_of (string_bytes text)) names place
     ∙ ap (option_map (λ (text : String _). lu_of (string_bytes text))) (slice_get_read names (length names) place name refl h is)
     ∙ ap (λ (x : List ℕ). Some (lu_of x)) (sym e)
 
-pub readings_length : {Z : Type 0} (names : List (String Z)) → length (readings names) ≡ length names
+pub readings_length : {Z : Type 0} (names : List (String Z)) → length (parsed_names names) ≡ length names
 readings_length names = length-map names (λ (text : String _). lu_of (string_bytes text))

@@ -8,8 +8,8 @@ use Rattle.lu_pool.specs.declared.fault.PoolFault.TheVariants.{BadName, Twice, B
 use Rattle.lu_pool.specs.Pool.{entry, IsCount}
 
 -- the LU that each of these texts names, or `None` for a text that is no LU name
-abbrev pub readings : {Z : Type 0} → List (String Z) → List (Option (List ℕ))
-readings names = map (λ name. lu_of (string_bytes name)) names
+abbrev pub parsed_names : {Z : Type 0} → List (String Z) → List (Option (List ℕ))
+parsed_names names = map (λ name. lu_of (string_bytes name)) names
 
 -- holds if the pool has the LUs that were read, in their order, and no connection holds one
 pub record IsReadFrom (read : List (Option (List ℕ))) (pool : List Entry) : Type 0 where
@@ -30,15 +30,15 @@ abbrev pub IsRight : List (Option (List ℕ)) → Type 0
 IsRight read = (fault : PoolFault) → HasFault read fault → ⊥
 
 -- holds if no text before this index has a fault
-abbrev pub IsRightBelow : List (Option (List ℕ)) → ℕ → Type 0
-IsRightBelow read place = (before : ℕ) → before < place → (HasFault read (BadName before) → ⊥)
+abbrev pub HasNoFaultBefore : List (Option (List ℕ)) → ℕ → Type 0
+HasNoFaultBefore read place = (before : ℕ) → before < place → (HasFault read (BadName before) → ⊥)
     × (HasFault read (Twice before) → ⊥)
 
 -- holds if this is the first fault: the number of texts, or else the first text with a fault; or memory was refused
 abbrev pub IsFirstFault : List (Option (List ℕ)) → PoolFault → Type 0
 IsFirstFault read BadCount = HasFault read BadCount
-IsFirstFault read (BadName place) = IsCount (length read) × HasFault read (BadName place) × IsRightBelow read place
-IsFirstFault read (Twice place) = IsCount (length read) × HasFault read (Twice place) × IsRightBelow read place
+IsFirstFault read (BadName place) = IsCount (length read) × HasFault read (BadName place) × HasNoFaultBefore read place
+IsFirstFault read (Twice place) = IsCount (length read) × HasFault read (Twice place) × HasNoFaultBefore read place
 IsFirstFault read Memory = IsCount (length read)
 
 -- holds if a text after those of these entries has this fault

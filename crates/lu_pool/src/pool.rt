@@ -5,7 +5,7 @@ ghost use Rattle.tn3270e_msg.specs.Lu.{is_lu, lu_of};
 ghost use Rattle.lu_pool.specs.Asking.{answer_to, Grants, Frees};
 ghost use Rattle.lu_pool.specs.Holders.{granted_to, given_back, all_free};
 ghost use Rattle.lu_pool.specs.Pool.{Holds, HoldsNone, OneHolder, OneLu, IsCount, IsPool, entry};
-ghost use Rattle.lu_pool.specs.Reading.{readings, IsReadFrom, IsRight, IsFirstFault, IsTextFault, IsNew};
+ghost use Rattle.lu_pool.specs.Reading.{parsed_names, IsReadFrom, IsRight, IsFirstFault, IsTextFault, IsNew};
 ghost use Rattle.lu_pool.specs.declared.fault.PoolFault.{PoolFault};
 
 use crate::entry::Entry;
@@ -42,12 +42,12 @@ impl Pool {
     /// unless there are 1 to 64 texts; else with the fault of the first text that is no LU name (`BadName`), or names
     /// an LU that an earlier text names (`Twice`); or with `Memory`.
     pub fn read(alloc: Global, names: &[String]) -> Result<Pool, PoolFault>
-        ensures read { IfOk result (IsReadFrom (readings names.now)) }
-        ensures right { OnOk result (IsRight (readings names.now)) }
+        ensures read { IfOk result (IsReadFrom (parsed_names names.now)) }
+        ensures right { OnOk result (IsRight (parsed_names names.now)) }
         ensures one_holder { IfOk result OneHolder }
         ensures one_lu { IfOk result OneLu }
         ensures is_pool { IfOk result IsPool }
-        ensures fault { IfErr result (IsFirstFault (readings names.now)) }
+        ensures fault { IfErr result (IsFirstFault (parsed_names names.now)) }
     {
         if !is_count(names.len()) {
             return Err(PoolFault::BadCount);

@@ -5,8 +5,9 @@ use Rattle.std.specs.Option.{option_to_list}
 use Rattle.tty_keys.specs.Reading.{after_pause, keystrokes_of, read_byte, read_bytes}
 use Rattle.tty_keys.specs.declared.keystroke.Keystroke.{Keystroke}
 use Rattle.tty_keys.specs.declared.keystroke.Keystroke.TheVariants.{Unknown}
-use Rattle.tty_keys.specs.declared.keystroke.Pushed.{Pushed}
-use Rattle.operate.specs.Live.{Live, ReadsTyped, Seat, Types, after_keystroke, after_keystrokes, is_quit}
+use Rattle.tty_keys.specs.declared.keystroke.PushResult.{PushResult}
+use Rattle.keyboard.specs.declared.key.Key.{Key}
+use Rattle.operate.specs.Live.{Live, ReadsTyped, Seat, Types, after_keystroke, after_keystrokes, after_typing, all_typed, is_quit}
 
 -- what means nothing changes nothing
 either_way : (seat : Seat) (quits : Bool) → (if quits then seat else seat) ≡ seat
@@ -36,7 +37,7 @@ taken_behind false keystroke seat = option_taken keystroke seat
 taken_behind true keystroke seat = ap (λ (s : Seat). after_keystrokes (option_to_list keystroke) s) (unknown_is_nothing seat) ∙ option_taken keystroke seat
 
 -- what a byte breaks off means nothing
-pub pushed_taken : (pushed : Pushed) (strokes : List Keystroke) (seat : Seat) → keystrokes_of pushed ≡ strokes
+pub pushed_taken : (pushed : PushResult) (strokes : List Keystroke) (seat : Seat) → keystrokes_of pushed ≡ strokes
     → after_option pushed.keystroke seat ≡ after_keystrokes strokes seat
 pushed_taken pushed strokes seat is =
     sym (taken_behind pushed.interrupted pushed.keystroke seat) ∙ ap (λ (all : List Keystroke). after_keystrokes all seat) is
@@ -73,3 +74,13 @@ no_more typed place live above =
 pub typed_some : (typed : List ℕ) (old new : Live) → (typed ≡ [] → ⊥) → ReadsTyped typed old new → Types typed old new
 typed_some [] old new some reads = absurd (some refl)
 typed_some (byte ∷ bytes) old new some reads = reads
+
+-- keys from a place on
+pub keys_more : (keys : List Key) (place : ℕ) (other key : Key) (old mid : Seat) → place < length keys → key ≡ get_or keys place other
+    → mid ≡ after_typing key old → all_typed (drop (place + 1) keys) mid ≡ all_typed (drop place keys) old
+keys_more keys place other key old mid below is typed =
+    ap (λ (s : Seat). all_typed (drop (place + 1) keys) s) (typed ∙ ap (λ (it : Key). after_typing it old) is)
+    ∙ ap (λ (rest : List Key). all_typed rest old) (sym (drop_more keys place other below))
+
+pub keys_done : (keys : List Key) (place : ℕ) (seat : Seat) → length keys ≤ place → all_typed (drop place keys) seat ≡ seat
+keys_done keys place seat above = ap (λ (rest : List Key). all_typed rest seat) (drop_all place keys above)

@@ -1,2 +1,3 @@
+pub mod KeyTable
 pub mod Live
 pub mod LiveSessions

@@ -1,16 +1,18 @@
 -- A live terminal: the effect of bytes from the operator's tty and from the host, and the bytes written to the tty (our
 -- profile).
-use Rattle.std.specs.Prelude.{◌≡◌, ℕ, Bool, true, false, List, [], ◌∷◌, ◌++◌, Option, None, Some, codes, if◌then◌else◌}
+use Rattle.std.specs.Prelude.{◌≡◌, ℕ, ◌&&◌, not, Bool, true, false, List, [], ◌∷◌, ◌++◌, length, nat_lt, Option, None, Some, codes, if◌then◌else◌}
 use Rattle.std.specs.Option.{option_to_list}
 use Rattle.keyboard.specs.declared.key.Key.{Key}
 use Rattle.keyboard.specs.declared.key.Key.TheVariants as key
+use Rattle.keyboard.specs.declared.key.Lock.{Lock}
+use Rattle.keyboard.specs.declared.key.Lock.TheVariants as lock
 use Rattle.keyboard.specs.declared.key.Pressed.{Pressed}
 use Rattle.keyboard.specs.declared.key.Pressed.TheVariants as pressed
 use Rattle.keyboard.specs.declared.key.Refusal.{Refusal}
 use Rattle.keyboard.specs.declared.key.Refusal.TheVariants as refusal
 use Rattle.term_core.specs.Feeds.{Feeds}
 use Rattle.term_core.specs.Presses.{after_key, answer_to_key}
-use Rattle.term_core.specs.State.{Terminal, new_terminal, phase_of}
+use Rattle.term_core.specs.State.{Terminal, new_terminal, phase_of, silenced}
 use Rattle.term_core.specs.declared.phase.TermPhase.{TermPhase}
 use Rattle.term_core.specs.declared.phase.TermPhase.TheVariants as phase
 use Rattle.codes3270.specs.declared.size.Model.{Model}
@@ -20,18 +22,28 @@ use Rattle.tty_keys.specs.Reading.{after_pause, read_bytes}
 use Rattle.tty_keys.specs.declared.keystroke.Keystroke.{Keystroke}
 use Rattle.tty_keys.specs.declared.keystroke.Keystroke.TheVariants as stroke
 use Rattle.tty_screen.specs.Changes.{drawing_of}
-use Rattle.tty_screen.specs.Painting.{picture_of}
+use Rattle.tty_screen.specs.Painting.{page_of, picture_of}
 use Rattle.tty_screen.specs.Pictures.{PictureParts}
-use Rattle.tty_screen.specs.Spelling.{all_spelt}
+use Rattle.tty_screen.specs.Spelling.{all_spelt, encoded}
+use Rattle.tty_screen.specs.Tty.{Control}
+use Rattle.tty_screen.specs.declared.status.StatusPlace.{StatusPlace}
+use Rattle.tty_screen.specs.declared.status.StatusPlace.TheVariants as place
+use Rattle.operate.specs.KeyTable.{key_table}
+use Rattle.operate.specs.declared.live.Overlay.{Overlay}
+use Rattle.operate.specs.declared.live.Overlay.TheVariants as over
 use Rattle.operate.specs.declared.live.OperatorRequest.{OperatorRequest}
 use Rattle.operate.specs.declared.live.OperatorRequest.TheVariants as asked
 
--- An operator's seat: the terminal, the refusal that the status row shows, what the operator asks of the program, and
--- the picture that the tty shows, if it is known.
+-- An operator's seat: the terminal, the keys that were typed ahead, the refusal that the status row shows, what is
+-- shown over the screen, what the operator asks of the program, the rows of the tty, and the picture that it shows, if
+-- it is known.
 pub record Seat : Type 0 where
   pub terminal : Terminal
+  pub typeahead : List Key
   pub refusal : Option Refusal
+  pub overlay : Overlay
   pub asks : OperatorRequest
+  pub rows : ℕ
   pub shown : Option PictureParts
 
 -- a seat, the bytes of an incomplete keystroke, and the capacity of the terminal's output buffer
@@ -41,8 +53,16 @@ pub record Live : Type 0 where
   pub room : ℕ
 
 -- the seat at the start; it isn't known what the tty shows
-abbrev pub first_seat : Model → Seat
-first_seat model = record { terminal = new_terminal model; refusal = None; asks = asked.Nothing; shown = None }
+abbrev pub first_seat : Model → (rows : ℕ) → Seat
+first_seat model rows = record {
+  terminal = new_terminal model;
+  typeahead = [];
+  refusal = None;
+  overlay = over.Nothing;
+  asks = asked.Nothing;
+  rows = rows;
+  shown = None;
+}
 
 -- ---- keystrokes
 
@@ -73,7 +93,7 @@ refusal_after (pressed.Send aid) shown = None
 abbrev pub asks_after : Key → TermPhase → OperatorRequest → OperatorRequest
 asks_after key phase asks = if is_idle phase then (if is_enter key then asked.Connect else asks) else asks
 
--- A key is pressed, even if the keyboard is locked; the terminal drops a key that the keyboard refuses.
+-- A key is pressed, even if the keyboard is locked; the terminal drops a key that it refuses.
 abbrev pub after_press : Key → Seat → Seat
 after_press key seat = record seat {
   terminal = after_key key seat.terminal;
@@ -81,9 +101,70 @@ after_press key seat = record seat {
   asks = asks_after key (phase_of seat.terminal.link) seat.asks;
 }
 
+-- ---- keys that are typed ahead
+
+abbrev pub is_reset : Key → Bool
+is_reset key.Reset = true
+is_reset _ = false
+
+abbrev pub is_wait : Lock → Bool
+is_wait lock.Wait = true
+is_wait lock.Free = false
+is_wait lock.Error = false
+
+-- whether a connected terminal's keyboard waits for the host
+abbrev pub waits : Terminal → Bool
+waits terminal = not (is_idle (phase_of terminal.link)) && is_wait terminal.station.keyboard.lock
+
+-- the keys that were typed ahead, and one more, if there are fewer than 256
+abbrev pub with_key : Key → List Key → List Key
+with_key key keys = if nat_lt (length keys) 256 then keys ++ key ∷ [] else keys
+
+-- A key that is typed while the keyboard waits for the host is kept, up to 256 of them. Reset drops those kept.
+abbrev pub after_typing : Key → Seat → Seat
+after_typing key seat =
+    if is_reset key then after_press key (record seat { typeahead = [] })
+    else if waits seat.terminal then record seat { typeahead = with_key key seat.typeahead }
+    else after_press key seat
+
+-- the seat after keys, one after another
+abbrev pub all_typed : List Key → Seat → Seat
+all_typed [] seat = seat
+all_typed (key ∷ keys) seat = all_typed keys (after_typing key seat)
+
+-- the keys that were kept are typed again, in order: they are pressed until the keyboard waits, and the rest is kept
+abbrev pub resumed : Seat → Seat
+resumed seat = all_typed seat.typeahead (record seat { typeahead = [] })
+
+-- ---- keystrokes, one after another
+
+abbrev pub is_keys : Overlay → Bool
+is_keys over.Nothing = false
+is_keys over.Status = false
+is_keys over.Keys = true
+
+abbrev pub is_status : Overlay → Bool
+is_status over.Nothing = false
+is_status over.Status = true
+is_status over.Keys = false
+
+-- what is shown after the key for the table of keys: if that is shown, the screen
+abbrev pub after_help : Overlay → Overlay
+after_help over.Nothing = over.Keys
+after_help over.Status = over.Keys
+after_help over.Keys = over.Nothing
+
+-- A key shows the screen again. At the table of keys it does nothing else.
+abbrev pub after_key_at : Key → Seat → Seat
+after_key_at key seat =
+    let again : Seat = record seat { overlay = over.Nothing } in
+    if is_keys seat.overlay then again else after_typing key again
+
 -- the seat after the action of a keystroke
 abbrev pub after_meaning : Keystroke → Seat → Seat
-after_meaning (stroke.Key key) seat = after_press key seat
+after_meaning (stroke.Key key) seat = after_key_at key seat
+after_meaning stroke.Status seat = record seat { overlay = over.Status }
+after_meaning stroke.Help seat = record seat { overlay = after_help seat.overlay }
 after_meaning stroke.Redraw seat = record seat { shown = None }
 after_meaning stroke.Quit seat = record seat { asks = asked.Quit }
 after_meaning stroke.Unknown seat = seat
@@ -124,12 +205,23 @@ lu_place phase.Talking = []
 lu_place (phase.Refused reason) = []
 lu_place (phase.Closed cause) = []
 
+-- The status row is below the screen if the tty has a row for it. If not, it gives way, unless it is asked for.
+abbrev pub status_place : Overlay → (tty_rows screen_rows : ℕ) → StatusPlace
+status_place overlay tty_rows screen_rows =
+    if nat_lt screen_rows tty_rows then place.Below else if is_status overlay then place.Over else place.Nowhere
+
+-- the picture of the screen
+abbrev pub screen_at : Seat → PictureParts
+screen_at seat =
+    let phase = phase_of seat.terminal.link in
+    let screen = seat.terminal.station.screen in
+    picture_of (status_place seat.overlay seat.rows screen.size.rows) screen seat.terminal.station.keyboard
+    (is_connected phase) seat.refusal (lu_place phase)
+
 -- the picture that the tty must show
 abbrev pub picture_at : Seat → PictureParts
 picture_at seat =
-    let phase = phase_of seat.terminal.link in
-    picture_of seat.terminal.station.screen seat.terminal.station.keyboard (is_connected phase) seat.refusal
-    (lu_place phase)
+    if is_keys seat.overlay then page_of seat.terminal.station.screen key_table else screen_at seat
 
 -- ---- a turn
 
@@ -146,10 +238,31 @@ pub record Draws (old new : Live) (drawn_old drawn_new : List ℕ) : Type 0 wher
   pub drawn : drawn_new ≡ drawn_old ++ all_spelt (drawing_of old.seat.shown (picture_at old.seat))
   pub live : new ≡ record old { seat = record old.seat { shown = Some (picture_at old.seat) } }
 
--- Holds for a turn: the host's bytes are taken, then the typed keys are pressed in order, and then the tty is drawn.
+-- the bytes that sound the tty's alarm, if it must sound
+abbrev pub alarm_bytes : (sounds : Bool) → List ℕ
+alarm_bytes true = encoded Control.Bell
+alarm_bytes false = []
+
+-- Holds if the tty sounds the alarm that a write of the host asked for, if one did.
+pub record Sounds (old new : Live) (drawn_old drawn_new : List ℕ) : Type 0 where
+  pub drawn : drawn_new ≡ drawn_old ++ alarm_bytes old.seat.terminal.station.alarm
+  pub live : new ≡ record old { seat = record old.seat { terminal = silenced old.seat.terminal } }
+
+-- holds if the keys that were typed ahead are pressed, as far as the keyboard is free
+pub record Resumes (old new : Live) : Type 0 where
+  pub seat : new.seat ≡ resumed old.seat
+  pub kept : new.kept ≡ old.kept
+
+-- Holds for a turn: the host's bytes are taken, then the keys that were typed ahead, then those that are typed now;
+-- then the tty is drawn, and sounds the alarm.
 pub record TakesTurn (came typed : List ℕ) (old new : Live) (drawn_old drawn_new : List ℕ) : Type 0 where
   pub heard : Live
   pub hears : Hears came old heard
+  pub free : Live
+  pub resumes : Resumes heard free
   pub pressed : Live
-  pub types : Types typed heard pressed
-  pub draws : Draws pressed new drawn_old drawn_new
+  pub types : Types typed free pressed
+  pub drawn : Live
+  pub drawing : List ℕ
+  pub draws : Draws pressed drawn drawn_old drawing
+  pub sounds : Sounds drawn new drawing drawn_new

@@ -22,7 +22,7 @@ sent_by write.Failed live = live
 
 -- holds if the terminal has lost its connection
 abbrev pub lost_live : Live → Live → Type 0
-lost_live old new = (new.seat ≡ record old.seat { terminal = lost old.seat.terminal; refusal = None })
+lost_live old new = (new.seat ≡ record old.seat { terminal = lost old.seat.terminal; typeahead = []; refusal = None })
     × (new.kept ≡ old.kept)
 
 -- whether nothing was received or typed, and the tty shows the current screen

@@ -6,8 +6,9 @@
 //! terminal (`term_core`). `specs/Live` and `LiveSessions` define a turn.
 #![tactic(auto)]
 
+mod key_table;
 mod live;
 mod live_session;
 
-pub use live::{LiveTerminal, OperatorRequest};
+pub use live::{LiveTerminal, OperatorRequest, Overlay};
 pub use live_session::{OperatorSession, run_operate};

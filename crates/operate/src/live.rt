@@ -4,16 +4,20 @@ ghost use Rattle.term_core.specs.Presses.{after_key, answer_to_key};
 ghost use Rattle.term_core.specs.Room.{out_room};
 ghost use Rattle.term_core.specs.State.{phase_of, connected, lost, model_of};
 ghost use Rattle.tty_keys.specs.Reading.{read_byte};
-ghost use Rattle.operate.specs.Live.{Draws, Hears, ReadsTyped, TakesTurn, Types, after_keystroke, after_keystrokes, after_meaning, after_press, asks_after, first_seat, is_connected, is_enter, is_idle, is_quit, lu_place, picture_at, refusal_after};
+ghost use Rattle.tty_screen.specs.Painting.{page_of};
+ghost use Rattle.operate.specs.KeyTable.{key_table};
+ghost use Rattle.operate.specs.Live.{Draws, Hears, ReadsTyped, Resumes, Sounds, TakesTurn, Types, after_help, after_key_at, after_keystroke, after_keystrokes, after_meaning, after_press, after_typing, all_typed, asks_after, first_seat, is_connected, is_enter, is_idle, is_keys, is_quit, is_reset, is_status, is_wait, lu_place, picture_at, refusal_after, screen_at, status_place, waits, with_key};
 
+use crate::key_table::KEY_TABLE;
 use codes3270::Model;
-use keyboard::{Key, Pressed, Refusal};
+use keyboard::{Key, Lock, Pressed, Refusal};
+use presentation::Screen;
 use std::alloc::{AllocError, Global};
 use std::marker;
 use term_core::{TermPhase, Terminal};
 use tn3270e_msg::{Lu, Stop};
 use tty_keys::{KeyReader, Keystroke};
-use tty_screen::{Drawing, Picture, Status};
+use tty_screen::{Drawing, Picture, Status, StatusPlace, put_bell};
 
 /// What an operator asks of the program.
 #[derive(Clone, Copy)]
@@ -26,19 +30,38 @@ pub enum OperatorRequest {
     Quit,
 }
 
+/// What an operator asked to see, until the next key.
+#[derive(Clone, Copy)]
+pub enum Overlay {
+    /// Nothing but the screen.
+    Nothing,
+    /// The status row over the last row of the screen, if the tty has no row for it.
+    Status,
+    /// The table of keys in place of the screen.
+    Keys,
+}
+
+/// The most keys that are kept while the keyboard waits for the host.
+const MOST_AHEAD: usize = 256;
+
 /// A terminal that an operator uses at a tty. It owns neither the tty nor the connection: its caller hands it the bytes
 /// of both, and sends and writes what it returns.
 ///
-/// Contracts see its seat (the terminal, the refusal that the status row shows, the operator's request, and the picture
-/// that the tty shows), the bytes of an incomplete keystroke, and the capacity of the terminal's output buffer in
-/// bytes.
+/// Contracts see its seat (the terminal, the keys that were typed ahead, the refusal that the status row shows, what is
+/// shown over the screen, the operator's request, the rows of the tty, and the picture that it shows), the bytes of an
+/// incomplete keystroke, and the capacity of the terminal's output buffer in bytes.
 #[derive(Drop)]
 pub struct LiveTerminal {
     terminal: Terminal,
+    /// The keys that were typed while the keyboard waits for the host.
+    typeahead: Vec<Key>,
     reader: KeyReader,
     drawing: Drawing,
     refusal: Option<Refusal>,
+    overlay: Overlay,
     asked: OperatorRequest,
+    /// The rows of the tty.
+    rows: usize,
 }
 
 impl marker::Model for LiveTerminal {
@@ -47,8 +70,15 @@ impl marker::Model for LiveTerminal {
     ghost Value = { Live };
 
     ghost view = { λ live. record {
-      seat =
-          record { terminal = live.terminal.terminal; refusal = live.refusal; asks = live.asked; shown = live.drawing };
+      seat = record {
+        terminal = live.terminal.terminal;
+        typeahead = live.typeahead.items;
+        refusal = live.refusal;
+        overlay = live.overlay;
+        asks = live.asked;
+        rows = live.rows;
+        shown = live.drawing;
+      };
       kept = live.reader;
       room = live.terminal.room;
     } };
@@ -75,6 +105,75 @@ fn is_enter(key: &Key) -> bool
     ensures { result ≡ is_enter key.now }
 {
     matches!(key, Key::Enter)
+}
+
+/// Whether a key is Reset.
+fn is_reset(key: &Key) -> bool
+    ensures { result ≡ is_reset key.now }
+{
+    matches!(key, Key::Reset)
+}
+
+/// Whether a keyboard with this lock waits for the host.
+fn is_wait(lock: Lock) -> bool
+    ensures { result ≡ is_wait lock }
+{
+    matches!(lock, Lock::Wait)
+}
+
+/// Whether the keyboard of a connected terminal waits for the host.
+fn waits(terminal: &Terminal) -> bool
+    ensures { result ≡ waits terminal.now.terminal }
+{
+    !is_idle(&terminal.phase()) && is_wait(terminal.lock())
+}
+
+/// Adds a key to those that were typed ahead, if there are fewer than 256.
+fn keep_key(keys: &mut Vec<Key>, key: Key) -> Result<(), AllocError>
+    ensures { OnOk result (keys.new.items ≡ with_key key keys.old.items) }
+{
+    if keys.len() >= MOST_AHEAD {
+        return Ok(());
+    }
+    keys.push(key)?;
+    Ok(())
+}
+
+/// Whether the table of keys is shown.
+fn is_keys(overlay: Overlay) -> bool
+    ensures { result ≡ is_keys overlay }
+{
+    matches!(overlay, Overlay::Keys)
+}
+
+/// Whether the status row is asked for.
+fn is_status(overlay: Overlay) -> bool
+    ensures { result ≡ is_status overlay }
+{
+    matches!(overlay, Overlay::Status)
+}
+
+/// What is shown after the key that shows the table of keys: if that is shown, the screen.
+fn after_help(overlay: Overlay) -> Overlay
+    ensures { result ≡ after_help overlay }
+{
+    match overlay {
+        Overlay::Nothing | Overlay::Status => Overlay::Keys,
+        Overlay::Keys => Overlay::Nothing,
+    }
+}
+
+/// Where the status row is, if this screen is shown on a tty with this many rows.
+fn status_place(overlay: Overlay, tty_rows: usize, screen: &Screen) -> StatusPlace
+    ensures { result ≡ status_place overlay tty_rows screen.now.size.rows }
+{
+    if usize::from(screen.size().rows()) < tty_rows {
+        StatusPlace::Below
+    } else if is_status(overlay) {
+        StatusPlace::Over
+    } else {
+        StatusPlace::Nowhere
+    }
 }
 
 /// The refusal that the status row shows after a key; None if it shows none.
@@ -147,17 +246,21 @@ fn lu_place(phase: &TermPhase) -> &[u8]
 }
 
 impl LiveTerminal {
-    /// A terminal of a model without a connection. It isn't known what its tty shows. An error if memory is refused.
-    pub fn new(alloc: Global, model: Model) -> Result<LiveTerminal, AllocError>
-        ensures seat { IfOk result (λ live. live.seat ≡ first_seat model) }
+    /// A terminal of a model without a connection, at a tty with this many rows. It isn't known what the tty shows. An
+    /// error if memory is refused.
+    pub fn new(alloc: Global, model: Model, rows: u16) -> Result<LiveTerminal, AllocError>
+        ensures seat { IfOk result (λ live. live.seat ≡ first_seat model rows) }
         ensures kept { IfOk result (λ live. live.kept ≡ []) }
     {
         Ok(LiveTerminal {
             terminal: Terminal::new(alloc, model)?,
+            typeahead: Vec::new(alloc),
             reader: KeyReader::new(),
             drawing: Drawing::new(),
             refusal: None,
+            overlay: Overlay::Nothing,
             asked: OperatorRequest::Nothing,
+            rows: usize::from(rows),
         })
     }
 
@@ -185,12 +288,15 @@ impl LiveTerminal {
         Ok(())
     }
 
-    /// Takes the loss of the connection. Unsent output is lost, too; the screen stays.
+    /// Takes the loss of the connection. Unsent output and the keys that were typed ahead are lost, too; the screen
+    /// stays.
     pub fn lose(&mut self)
-        ensures seat { self.new.seat ≡ record self.old.seat { terminal = lost self.old.seat.terminal; refusal = None } }
+        ensures seat { self.new.seat
+            ≡ record self.old.seat { terminal = lost self.old.seat.terminal; typeahead = []; refusal = None } }
         ensures kept { self.new.kept ≡ self.old.kept }
     {
         self.terminal.lost();
+        self.typeahead.clear();
         self.refusal = None;
     }
 
@@ -232,13 +338,87 @@ impl LiveTerminal {
         Ok(())
     }
 
+    /// Keeps a key that is typed ahead, if there are fewer than 256.
+    fn keep(&mut self, key: Key) -> Result<(), AllocError>
+        ensures seat { OnOk result (self.new.seat
+            ≡ record self.old.seat { typeahead = with_key key self.old.seat.typeahead }) }
+        ensures kept { self.new.kept ≡ self.old.kept }
+    {
+        keep_key(&mut self.typeahead, key)?;
+        Ok(())
+    }
+
+    /// Drops the keys that were typed ahead, and presses a key.
+    fn drop_and_press(&mut self, key: Key) -> Result<(), AllocError>
+        ensures seat { OnOk result (self.new.seat ≡ after_press key (record self.old.seat { typeahead = [] })) }
+        ensures kept { self.new.kept ≡ self.old.kept }
+    {
+        self.typeahead.clear();
+        self.press(key)
+    }
+
+    /// Takes a key: keeps it if the keyboard waits for the host, else presses it. Reset drops the keys that were kept.
+    fn type_key(&mut self, key: Key) -> Result<(), AllocError>
+        ensures seat { OnOk result (self.new.seat ≡ after_typing key self.old.seat) }
+        ensures kept { self.new.kept ≡ self.old.kept }
+    {
+        if is_reset(&key) {
+            self.drop_and_press(key)
+        } else if waits(&self.terminal) {
+            self.keep(key)
+        } else {
+            self.press(key)
+        }
+    }
+
+    /// Takes keys in order.
+    fn type_keys(&mut self, keys: &[Key]) -> Result<(), AllocError>
+        ensures seat { OnOk result (self.new.seat ≡ all_typed keys.now self.old.seat) }
+        ensures kept { OnOk result (self.new.kept ≡ self.old.kept) }
+    {
+        for key in keys {
+            self.type_key(*key)?;
+        }
+        Ok(())
+    }
+
+    /// Takes the keys that were typed ahead: presses them in order until the keyboard waits, and keeps the rest.
+    fn resume(&mut self, alloc: Global) -> Result<(), AllocError>
+        ensures { OnOk result (Resumes self.old self.new) }
+    {
+        let keys = std::mem::replace(&mut self.typeahead, Vec::new(alloc));
+        self.type_keys(keys.as_slice())?;
+        Ok(())
+    }
+
+    /// Takes a key, and shows the screen again. At the table of keys it does nothing else.
+    fn take_key(&mut self, key: Key) -> Result<(), AllocError>
+        ensures seat { OnOk result (self.new.seat ≡ after_key_at key self.old.seat) }
+        ensures kept { self.new.kept ≡ self.old.kept }
+    {
+        let at_keys = is_keys(self.overlay);
+        self.overlay = Overlay::Nothing;
+        if at_keys {
+            return Ok(());
+        }
+        self.type_key(key)
+    }
+
     /// Performs the action of a keystroke.
     fn act_on(&mut self, keystroke: Keystroke) -> Result<(), AllocError>
         ensures seat { OnOk result (self.new.seat ≡ after_meaning keystroke self.old.seat) }
         ensures kept { self.new.kept ≡ self.old.kept }
     {
         match keystroke {
-            Keystroke::Key(key) => self.press(key),
+            Keystroke::Key(key) => self.take_key(key),
+            Keystroke::Status => {
+                self.overlay = Overlay::Status;
+                Ok(())
+            }
+            Keystroke::Help => {
+                self.overlay = after_help(self.overlay);
+                Ok(())
+            }
             Keystroke::Redraw => {
                 self.drawing.forget();
                 Ok(())
@@ -321,18 +501,33 @@ impl LiveTerminal {
     fn picture(&self, alloc: Global) -> Result<Picture, AllocError>
         ensures { IfOk result (λ picture. picture ≡ picture_at self.now.seat) }
     {
+        if is_keys(self.overlay) {
+            self.keys_picture(alloc)
+        } else {
+            self.screen_picture(alloc)
+        }
+    }
+
+    /// The picture of the table of keys.
+    fn keys_picture(&self, alloc: Global) -> Result<Picture, AllocError>
+        ensures { IfOk result (λ picture. picture ≡ page_of self.now.seat.terminal.station.screen key_table) }
+    {
+        Picture::page(alloc, self.terminal.screen(), &KEY_TABLE)
+    }
+
+    /// The picture of the screen.
+    fn screen_picture(&self, alloc: Global) -> Result<Picture, AllocError>
+        ensures { IfOk result (λ picture. picture ≡ screen_at self.now.seat) }
+    {
+        let screen = self.terminal.screen();
         let phase = self.terminal.phase();
         let status = Status {
+            place: status_place(self.overlay, self.rows, screen),
             connected: is_connected(&phase),
             refusal: self.refusal,
             lu: lu_place(&phase),
         };
-        Picture::new(
-            alloc,
-            self.terminal.screen(),
-            self.terminal.keyboard(),
-            &status,
-        )
+        Picture::new(alloc, screen, self.terminal.keyboard(), &status)
     }
 
     /// Appends the bytes with which the tty shows the current picture.
@@ -343,8 +538,19 @@ impl LiveTerminal {
         self.drawing.draw(picture, drawn)
     }
 
-    /// One turn: takes the bytes received from the host, then those typed at the tty, and appends to `drawn` the bytes
-    /// to be written to the tty. The bytes to be sent are then in `out`.
+    /// Appends BEL, if a write of the host asked for the alarm.
+    fn sound(&mut self, drawn: &mut Vec<u8>) -> Result<(), AllocError>
+        ensures { OnOk result (Sounds self.old self.new drawn.old.items drawn.new.items) }
+    {
+        if self.terminal.take_alarm() {
+            put_bell(drawn)?;
+        }
+        Ok(())
+    }
+
+    /// One turn: takes the bytes received from the host, then the keys that were typed ahead, then the bytes typed at
+    /// the tty, and appends to `drawn` the bytes to be written to the tty, with BEL if a write asked for the alarm. The
+    /// bytes to be sent are then in `out`.
     pub fn turn(
         &mut self,
         alloc: Global,
@@ -355,7 +561,9 @@ impl LiveTerminal {
         ensures { OnOk result (TakesTurn came.now typed.now self.old self.new drawn.old.items drawn.new.items) }
     {
         self.hear(came)?;
+        self.resume(alloc)?;
         self.take_typed(typed)?;
-        self.draw(alloc, drawn)
+        self.draw(alloc, drawn)?;
+        self.sound(drawn)
     }
 }

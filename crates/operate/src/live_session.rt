@@ -13,14 +13,14 @@ use job_streams::{
     Answer, CHUNK, Fault, LiveFault, RawRead, RawWrite, Sink, Source, read_chunk,
     report_and_exit_code,
 };
-use jobs::{LiveOptions, Port, TtySize};
+use jobs::{OperateOptions, TtySize};
 use mio::net::TcpStream;
 use mio::{Events, Interest, Poll, Token};
 use socket_links::{SocketSlot, poll_timeout};
 use std::alloc::Global;
 use std::io::ErrorKind;
 use std::marker;
-use std::net::{Ipv4Addr, Net, SocketAddr};
+use std::net::{Net, SocketAddr};
 use term_core::TermPhase;
 use tn3270e_msg::Lu;
 use tty_screen::check_room;
@@ -103,15 +103,16 @@ fn is_quiet(came: &[u8], typed: &[u8], stale: bool) -> bool
 }
 
 impl<S: RawRead + RawWrite + Drop, K: Source + Drop, T: Sink + Drop> OperatorSession<S, K, T> {
-    /// A terminal of a model without a connection, at a tty. An error if memory is refused.
+    /// A terminal of a model without a connection, at a tty with this many rows. An error if memory is refused.
     pub fn new(
         alloc: Global,
         model: Model,
+        rows: u16,
         keys: K,
         tty: T,
     ) -> Result<OperatorSession<S, K, T>, Fault> {
         Ok(OperatorSession {
-            live: LiveTerminal::new(alloc, model)?,
+            live: LiveTerminal::new(alloc, model, rows)?,
             socket: SocketSlot::unused(),
             keys,
             tty,
@@ -283,14 +284,14 @@ struct Dialer {
 }
 
 impl Dialer {
-    fn new(net: &impl Net, alloc: Global, port: Port, wanted: Option<Lu>) -> Result<Dialer, Fault> {
+    fn new(net: &impl Net, alloc: Global, options: &OperateOptions) -> Result<Dialer, Fault> {
         let events = Events::with_capacity(alloc, MOST_EVENTS)?;
         let Ok(poll) = Poll::new(net) else {
             return Err(Fault::SocketFailed);
         };
         Ok(Dialer {
-            address: SocketAddr::from((Ipv4Addr::LOCALHOST, port.get())),
-            wanted,
+            address: SocketAddr::new(options.host, options.port.get()),
+            wanted: options.lu,
             poll,
             events,
             dialed: None,
@@ -379,13 +380,13 @@ fn take_turns<N: Net, K: Source + Drop, T: Sink + Drop>(
     Ok(())
 }
 
-/// Checks that the tty has room for all screens of a model and the status row.
-fn check_tty(model: Model, tty: Option<TtySize>) -> Result<(), Fault> {
+/// The rows of the tty, if it has room for all screens of a model.
+fn tty_rows(model: Model, tty: Option<TtySize>) -> Result<u16, Fault> {
     let Some(TtySize { rows, columns }) = tty else {
         return Err(Fault::Live(LiveFault::NotRaw));
     };
     match check_room(model.alternate(), rows, columns) {
-        Ok(()) => Ok(()),
+        Ok(()) => Ok(rows),
         Err(fault) => Err(Fault::Live(LiveFault::TooSmall(fault))),
     }
 }
@@ -394,17 +395,17 @@ fn check_tty(model: Model, tty: Option<TtySize>) -> Result<(), Fault> {
 fn operate<N: Net, K: Source + Drop, T: Sink + Drop>(
     net: &N,
     alloc: Global,
-    options: &LiveOptions,
+    options: &OperateOptions,
     keys: K,
     tty: T,
 ) -> Result<(), Fault> {
-    check_tty(options.model, options.tty)?;
-    let mut dialer = Dialer::new(net, alloc, options.port, options.lu)?;
-    let mut session = OperatorSession::new(alloc, options.model, keys, tty)?;
+    let rows = tty_rows(options.model, options.tty)?;
+    let mut dialer = Dialer::new(net, alloc, options)?;
+    let mut session = OperatorSession::new(alloc, options.model, rows, keys, tty)?;
     take_turns(net, alloc, &mut dialer, &mut session)
 }
 
-/// Runs a terminal at the host on a port of 127.0.0.1, until the operator presses Ctrl-]. The operator's keys are read
+/// Runs a terminal at the host of the options, until the operator presses Ctrl-]. The operator's keys are read
 /// from a tty in raw mode, and the screen is written there. A read of the keys must return at once, as with `stty min 0
 /// time 0`. Without a connection, Enter connects again. A turn with nothing to do takes at most 10 milliseconds. A
 /// fault that ends the run is written to `faults` as one line.
@@ -416,7 +417,7 @@ fn operate<N: Net, K: Source + Drop, T: Sink + Drop>(
 pub fn run_operate<N: Net, K: Source + Drop, T: Sink + Drop, E: Sink>(
     net: &N,
     alloc: Global,
-    options: &LiveOptions,
+    options: &OperateOptions,
     keys: K,
     tty: T,
     faults: &mut E,

@@ -9,7 +9,7 @@ use cli::{VERSION, WordFault, refuse_words, run_help, run_version, words};
 use job_streams::{
     CountedReader, CountedWriter, Fault, Sink, UntilClosed, refuse_file, report_and_exit_code,
 };
-use jobs::{ApplicationChoice, Job, LiveOptions, Service, WordText};
+use jobs::{ApplicationChoice, Job, Operand, OperateOptions, Service};
 use operate::run_operate;
 use scripts::{run_check, run_script, run_show, run_term};
 use selfrun::run_selfrun;
@@ -55,7 +55,7 @@ fn serve<T: Iterator<Item = ()>>(
     rt: &HostRuntime,
     turns: T,
     service: &Service,
-    panels: Option<WordText<'_>>,
+    panels: Option<Operand<'_>>,
     application: &ApplicationChoice<'_>,
 ) -> u8
     requires can { T.can_next turns }
@@ -103,7 +103,7 @@ fn open_ended(rt: &HostRuntime) -> CountedWriter<UntilClosed<Stdout>> {
 }
 
 /// Checks the panel text of a file, or of the standard input if none is given, and returns the exit status.
-fn check(rt: &HostRuntime, file: Option<WordText<'_>>) -> u8 {
+fn check(rt: &HostRuntime, file: Option<Operand<'_>>) -> u8 {
     let alloc = rt.alloc();
     let mut out = open_ended(rt);
     let mut faults = CountedWriter::new(rt.stderr());
@@ -122,7 +122,7 @@ fn check(rt: &HostRuntime, file: Option<WordText<'_>>) -> u8 {
 }
 
 /// Runs a terminal for the operator at this tty, and returns the exit status.
-fn operate(rt: &HostRuntime, options: &LiveOptions) -> u8 {
+fn operate(rt: &HostRuntime, options: &OperateOptions) -> u8 {
     let input = CountedReader::new(rt.stdin());
     let out = CountedWriter::new(rt.stdout());
     let mut faults = CountedWriter::new(rt.stderr());

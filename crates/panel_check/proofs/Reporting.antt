@@ -19,7 +19,7 @@ use Rattle.panel_check.specs.declared.finding.Cause.{Cause}
 use Rattle.panel_check.specs.declared.finding.Cause.TheVariants as cause
 use Rattle.panel_check.specs.declared.finding.Finding.{Finding}
 use Rattle.panel_check.specs.declared.judge.Sizes.{Sizes}
-use Rattle.panel_check.specs.Causes.{IsFaultIn, IsFaultOf, IsLuFault, TellsFaults, keys_at, panel_part, sources_in, sources_of}
+use Rattle.panel_check.specs.Causes.{IsFaultIn, IsFaultOf, IsLuFault, ReportsFaults, keys_at, panel_part, sources_in, sources_of}
 use Rattle.panel_check.specs.Report.{HasCause, HasFirstCause, IsFaultlessIfAccepted, fault_count, is_fault}
 use Rattle.panel_check.specs.Verdict.{IsAccepted, IsFirstCause, IsVerdict, lus_of}
 use Rattle.panel_check.proofs.ToldFaults.{of_tree}
@@ -184,7 +184,7 @@ some_counted text findings cause first (finding, (k, below, at), is) none =
 
 -- ---- what a report promises, by the readers' verdict
 
-pub is_faultless : DefinesOnce → (text : List ℕ) (findings : List Finding) → TellsFaults (IsFaultOf text) findings → (sizes : Option Sizes) → IsVerdict text sizes → IsFaultlessIfAccepted text findings
+pub is_faultless : DefinesOnce → (text : List ℕ) (findings : List Finding) → ReportsFaults (IsFaultOf text) findings → (sizes : Option Sizes) → IsVerdict text sizes → IsFaultlessIfAccepted text findings
 is_faultless once text findings tells (Some sizes) accepted = (
   λ none. accepted,
   λ again. none_counted findings (λ k d below. is_clean (IsFaultOf text) (accepted_has_none text accepted) _ _ refl (tells.nothing_else k d below)),
@@ -194,6 +194,6 @@ is_faultless once text findings tells None (cause, first) = (
   λ accepted. absurd (refused_alone once text cause first accepted),
 )
 
-pub has_reason : (text : List ℕ) (findings : List Finding) → TellsFaults (IsFaultOf text) findings → (sizes : Option Sizes) → IsVerdict text sizes → HasFirstCause text findings
+pub has_reason : (text : List ℕ) (findings : List Finding) → ReportsFaults (IsFaultOf text) findings → (sizes : Option Sizes) → IsVerdict text sizes → HasFirstCause text findings
 has_reason text findings tells (Some sizes) accepted = λ refused. absurd (refused accepted)
 has_reason text findings tells None (cause, first) = λ refused. (cause, first, first_told text findings cause first (tells.each cause (first_is_fault text cause first)))

@@ -16,8 +16,8 @@ use Rattle.panels.specs.Listing.{AreFaultsOf}
 use Rattle.panel_check.specs.declared.finding.Cause.{Cause}
 use Rattle.panel_check.specs.declared.finding.Cause.TheVariants as cause
 use Rattle.panel_check.specs.declared.finding.Finding.{Finding}
-use Rattle.panel_check.specs.Causes.{HasOneOf, IsFaultIn, IsFaultOf, IsLuFault, IsTold, TellsFaults, sources_of}
-use Rattle.panel_check.specs.Listed.{cause_of, AddsLuFaults, AddsOf, AreToldTo, IsTelling, TellsAsMuch}
+use Rattle.panel_check.specs.Causes.{HasOneOf, IsFaultIn, IsFaultOf, IsLuFault, IsReportedOrImplied, ReportsFaults, sources_of}
+use Rattle.panel_check.specs.Listed.{cause_of, AddsLuFaults, AddsOf, AreReportedIn, ReportsFault, ReportsAsMuch}
 use Rattle.panel_check.specs.Report.{HasCause, is_fault}
 
 -- ---- one of several faults
@@ -37,11 +37,11 @@ one_too Is Too too faults (fault, has, is) = (fault, has, too fault is)
 
 -- ---- the same faults, told in another way
 
-told_too : (Is Too : Cause → Type 0) → ((fault : Cause) → Is fault → Too fault) → (findings : List Finding) (fault : Cause) → IsTold Is findings fault → IsTold Too findings fault
+told_too : (Is Too : Cause → Type 0) → ((fault : Cause) → Is fault → Too fault) → (findings : List Finding) (fault : Cause) → IsReportedOrImplied Is findings fault → IsReportedOrImplied Too findings fault
 told_too Is Too too findings fault (inl has) = inl has
 told_too Is Too too findings fault (inr one) = inr (one_too Is Too too (sources_of fault) one)
 
-tells_too : (Is Too : Cause → Type 0) → ((fault : Cause) → Is fault ↔ Too fault) → (findings : List Finding) → TellsFaults Is findings → TellsFaults Too findings
+tells_too : (Is Too : Cause → Type 0) → ((fault : Cause) → Is fault ↔ Too fault) → (findings : List Finding) → ReportsFaults Is findings → ReportsFaults Too findings
 tells_too Is Too same findings tells = record {
   each = λ fault is. told_too Is Too (λ f. (same f).0) findings fault (tells.each fault ((same fault).1 is));
   nothing_else = λ k d below faulty. (same _).0 (tells.nothing_else k d below faulty);
@@ -66,7 +66,7 @@ of_tree text top parsed cause.FillNotNumeric (other, read, none) = absurd none
 of_tree text top parsed cause.NoKeyLeads (other, read, none) = absurd none
 
 pub tells_of_text : (text : List ℕ) (top : Members) → parse_document text ≡ Some top → (causes : List Cause) → ((fault : Cause) → Contains causes fault ↔ IsFaultIn top fault)
-    → (findings : List Finding) → TellsFaults (Contains causes) findings → TellsFaults (IsFaultOf text) findings
+    → (findings : List Finding) → ReportsFaults (Contains causes) findings → ReportsFaults (IsFaultOf text) findings
 tells_of_text text top parsed causes same findings tells =
     tells_too (Contains causes) (IsFaultOf text)
     (λ fault. (λ has. of_text text top parsed fault ((same fault).0 has), λ is. (same fault).1 (of_tree text top parsed fault is))) findings tells
@@ -81,7 +81,7 @@ only_no_toml text none cause.TextWraps (top, read, is) = absurd is
 only_no_toml text none cause.FillNotNumeric (top, read, is) = absurd is
 only_no_toml text none cause.NoKeyLeads (top, read, is) = absurd is
 
-pub tells_no_toml : (text : List ℕ) → parse_document text ≡ None → (finding : Finding) → finding.cause ≡ cause.NotToml → TellsFaults (IsFaultOf text) (finding ∷ [])
+pub tells_no_toml : (text : List ℕ) → parse_document text ≡ None → (finding : Finding) → finding.cause ≡ cause.NotToml → ReportsFaults (IsFaultOf text) (finding ∷ [])
 tells_no_toml text none finding is = record {
   each = λ fault stands. inl (finding, (0, omega arith, refl), is ∙ only_no_toml text none fault stands);
   nothing_else = All-cons (λ (f : Finding). is_fault f.cause ≡ true → IsFaultOf text f.cause) finding [] (λ faulty. subst (IsFaultOf text) (sym is) none) (λ k d below. absurd (omega arith));
@@ -92,12 +92,12 @@ tells_no_toml text none finding is = record {
 has_behind : (fault : Cause) (findings added : List Finding) → HasCause fault findings → HasCause fault (findings ++ added)
 has_behind fault findings added (finding, has, is) = (finding, Contains-append_left findings added finding has, is)
 
-told_behind : (Is : Cause → Type 0) (findings added : List Finding) (fault : Cause) → IsTold Is findings fault → IsTold Is (findings ++ added) fault
+told_behind : (Is : Cause → Type 0) (findings added : List Finding) (fault : Cause) → IsReportedOrImplied Is findings fault → IsReportedOrImplied Is (findings ++ added) fault
 told_behind Is findings added fault (inl has) = inl (has_behind fault findings added has)
 told_behind Is findings added fault (inr one) = inr one
 
-still_told : (Is : Cause → Type 0) (findings added all : List Finding) → all ≡ findings ++ added → (fault : Cause) → IsTold Is findings fault → IsTold Is all fault
-still_told Is findings added all same fault told = subst (λ them. IsTold Is them fault) (sym same) (told_behind Is findings added fault told)
+still_told : (Is : Cause → Type 0) (findings added all : List Finding) → all ≡ findings ++ added → (fault : Cause) → IsReportedOrImplied Is findings fault → IsReportedOrImplied Is all fault
+still_told Is findings added all same fault told = subst (λ them. IsReportedOrImplied Is them fault) (sym same) (told_behind Is findings added fault told)
 
 -- each that is a fault is one of these
 abbrev AreBacked : (Cause → Type 0) → List Finding → Type 0
@@ -107,17 +107,17 @@ still_backed : (Is : Cause → Type 0) (findings added all : List Finding) → a
 still_backed Is findings added all same more backed =
     subst (AreBacked Is) (sym same) (All-append (λ (f : Finding). is_fault f.cause ≡ true → Is f.cause) findings added backed more)
 
-pub still_tells : (given : Cause) → is_fault given ≡ false → (findings all : List Finding) → AddsOf given findings all → TellsAsMuch findings all
+pub still_tells : (given : Cause) → is_fault given ≡ false → (findings all : List Finding) → AddsOf given findings all → ReportsAsMuch findings all
 still_tells given warns findings all (added, same, are) causes tells = record {
   each = λ fault is. still_told (Contains causes) findings added all same fault (tells.each fault is);
   nothing_else = still_backed (Contains causes) findings added all same (λ k d below faulty. absurd (false≢true (sym (ap is_fault (are k d below) ∙ warns) ∙ faulty))) tells.nothing_else;
 }
 
-told_sorted : (Is : Cause → Type 0) (findings all : List Finding) → IsPermutation findings all → (fault : Cause) → IsTold Is findings fault → IsTold Is all fault
+told_sorted : (Is : Cause → Type 0) (findings all : List Finding) → IsPermutation findings all → (fault : Cause) → IsReportedOrImplied Is findings fault → IsReportedOrImplied Is all fault
 told_sorted Is findings all sorts fault (inl (finding, has, is)) = inl (finding, Contains-permutation findings all finding sorts has, is)
 told_sorted Is findings all sorts fault (inr one) = inr one
 
-pub tells_sorted : (Is : Cause → Type 0) (findings all : List Finding) → IsPermutation findings all → TellsFaults Is findings → TellsFaults Is all
+pub tells_sorted : (Is : Cause → Type 0) (findings all : List Finding) → IsPermutation findings all → ReportsFaults Is findings → ReportsFaults Is all
 tells_sorted Is findings all sorts tells = record {
   each = λ fault is. told_sorted Is findings all sorts fault (tells.each fault is);
   nothing_else = All-permutation (λ (f : Finding). is_fault f.cause ≡ true → Is f.cause) findings all sorts tells.nothing_else;
@@ -143,22 +143,22 @@ adds_none given findings = ([], sym (append-nil findings), λ k d below. absurd 
 at_or_under : (j n : ℕ) → j < n + 1 → (j < n) ⊎ (j ≡ n)
 at_or_under j n less = grind arith
 
-told_at : (causes : List Cause) (all : List Finding) (n : ℕ) (d : Cause) → n < length causes → IsTold (Contains causes) all (slice_index_or causes n d)
-    → ((j : ℕ) (e : Cause) → j < n → IsTold (Contains causes) all (slice_index_or causes j e)) → (j : ℕ) (e : Cause) → (j < n) ⊎ (j ≡ n) → IsTold (Contains causes) all (slice_index_or causes j e)
+told_at : (causes : List Cause) (all : List Finding) (n : ℕ) (d : Cause) → n < length causes → IsReportedOrImplied (Contains causes) all (slice_index_or causes n d)
+    → ((j : ℕ) (e : Cause) → j < n → IsReportedOrImplied (Contains causes) all (slice_index_or causes j e)) → (j : ℕ) (e : Cause) → (j < n) ⊎ (j ≡ n) → IsReportedOrImplied (Contains causes) all (slice_index_or causes j e)
 told_at causes all n d below told each j e (inl before) = each j e before
 told_at causes all n d below told each j e (inr same) =
-    subst (λ k. IsTold (Contains causes) all (slice_index_or causes k e)) (sym same) (subst (IsTold (Contains causes) all) (sym (get_or_default causes n e d below)) told)
+    subst (λ k. IsReportedOrImplied (Contains causes) all (slice_index_or causes k e)) (sym same) (subst (IsReportedOrImplied (Contains causes) all) (sym (get_or_default causes n e d below)) told)
 
-pub told_next : (causes : List Cause) (findings all : List Finding) (n : ℕ) (d : Cause) → n < length causes → IsTelling causes (slice_index_or causes n d) findings all
-    → AreToldTo n causes findings → AreToldTo (n + 1) causes all
+pub told_next : (causes : List Cause) (findings all : List Finding) (n : ℕ) (d : Cause) → n < length causes → ReportsFault causes (slice_index_or causes n d) findings all
+    → AreReportedIn n causes findings → AreReportedIn (n + 1) causes all
 told_next causes findings all n d below ((added, same, are), told) (backed, each) = (
   still_backed (Contains causes) findings added all same (λ k e less faulty. subst (Contains causes) (sym (are k e less)) (Contains-get_or causes n d below)) backed,
   λ j e less. told_at causes all n d below told (λ i f before. still_told (Contains causes) findings added all same _ (each i f before)) j e (at_or_under j n less),
 )
 
-pub all_told : (causes : List Cause) (findings : List Finding) (n : ℕ) → length causes ≤ n → AreToldTo n causes findings → TellsFaults (Contains causes) findings
+pub all_told : (causes : List Cause) (findings : List Finding) (n : ℕ) → length causes ≤ n → AreReportedIn n causes findings → ReportsFaults (Contains causes) findings
 all_told causes findings n all (backed, each) = record {
-  each = λ fault (k, below, at). subst (IsTold (Contains causes) findings) at (each k fault (omega (arith, below, all)));
+  each = λ fault (k, below, at). subst (IsReportedOrImplied (Contains causes) findings) at (each k fault (omega (arith, below, all)));
   nothing_else = backed;
 }
 

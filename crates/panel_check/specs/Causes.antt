@@ -64,10 +64,10 @@ abbrev pub HasOneOf : (Cause → Type 0) → List Cause → Type 0
 HasOneOf IsFault faults = (fault : Cause) × Contains faults fault × IsFault fault
 
 -- holds if the fault is reported, or may merely follow from another
-abbrev pub IsTold : (Cause → Type 0) → List Finding → Cause → Type 0
-IsTold IsFault findings fault = HasCause fault findings ⊎ HasOneOf IsFault (sources_of fault)
+abbrev pub IsReportedOrImplied : (Cause → Type 0) → List Finding → Cause → Type 0
+IsReportedOrImplied IsFault findings fault = HasCause fault findings ⊎ HasOneOf IsFault (sources_of fault)
 
 -- a report has each of these faults, unless it may merely follow from another, and nothing else but warnings
-pub record TellsFaults (IsFault : Cause → Type 0) (findings : List Finding) : Type 0 where
-  pub each : (fault : Cause) → IsFault fault → IsTold IsFault findings fault
+pub record ReportsFaults (IsFault : Cause → Type 0) (findings : List Finding) : Type 0 where
+  pub each : (fault : Cause) → IsFault fault → IsReportedOrImplied IsFault findings fault
   pub nothing_else : All (λ finding. is_fault finding.cause ≡ true → IsFault finding.cause) findings

@@ -7,7 +7,7 @@ use Rattle.panels.specs.declared.fault.LocatedFault.{LocatedFault}
 use Rattle.panel_check.specs.declared.finding.Cause.{Cause}
 use Rattle.panel_check.specs.declared.finding.Cause.TheVariants as cause
 use Rattle.panel_check.specs.declared.finding.Finding.{Finding}
-use Rattle.panel_check.specs.Causes.{IsLuFault, IsTold, TellsFaults}
+use Rattle.panel_check.specs.Causes.{IsLuFault, IsReportedOrImplied, ReportsFaults}
 use Rattle.panel_check.specs.Report.{is_fault}
 
 -- the cause for a fault of a table
@@ -51,16 +51,16 @@ abbrev pub AddsOf : Cause → List Finding → List Finding → Type 0
 AddsOf given = Adds (λ finding. finding.cause ≡ given)
 
 -- holds if `all` reports the same faults as `findings`, and no others; it may have more warnings
-abbrev pub TellsAsMuch : List Finding → List Finding → Type 0
-TellsAsMuch findings all = (causes : List Cause) → TellsFaults (Contains causes) findings
-    → TellsFaults (Contains causes) all
+abbrev pub ReportsAsMuch : List Finding → List Finding → Type 0
+ReportsAsMuch findings all = (causes : List Cause) → ReportsFaults (Contains causes) findings
+    → ReportsFaults (Contains causes) all
 
 -- a fault of these is reported, or may merely follow from another
-abbrev pub IsTelling : List Cause → Cause → List Finding → List Finding → Type 0
-IsTelling causes cause findings all = AddsOf cause findings all × IsTold (Contains causes) all cause
+abbrev pub ReportsFault : List Cause → Cause → List Finding → List Finding → Type 0
+ReportsFault causes cause findings all = AddsOf cause findings all × IsReportedOrImplied (Contains causes) all cause
 
 -- the first n faults are reported, or may merely follow from others
-abbrev pub AreToldTo : ℕ → List Cause → List Finding → Type 0
-AreToldTo n causes findings =
+abbrev pub AreReportedIn : ℕ → List Cause → List Finding → Type 0
+AreReportedIn n causes findings =
     All (λ finding. is_fault finding.cause ≡ true → Contains causes finding.cause) findings
-    × ((j : ℕ) (d : Cause) → j < n → IsTold (Contains causes) findings (slice_index_or causes j d))
+    × ((j : ℕ) (d : Cause) → j < n → IsReportedOrImplied (Contains causes) findings (slice_index_or causes j d))

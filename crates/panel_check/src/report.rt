@@ -2,13 +2,13 @@
 ghost use Rattle.std.specs.Prelude.{◌≡◌, ◌++◌, IfOk, OnOk, string_bytes};
 ghost use Rattle.panel_check.specs.Pages.{count_text, findings_text, outcome_text, page_text, plural, sizes_text, summary_text, warnings_text};
 ghost use Rattle.panel_check.specs.PanelText.{panel_text};
-ghost use Rattle.panel_check.specs.Causes.{IsFaultOf, TellsFaults};
+ghost use Rattle.panel_check.specs.Causes.{IsFaultOf, ReportsFaults};
 ghost use Rattle.panel_check.specs.Report.{HasFirstCause, IsFaultlessIfAccepted, fault_count};
 
 use crate::finding::Finding;
 use crate::judge::{Sizes, judge};
 use crate::part::panel_part;
-use crate::telling::{Told, tell_text};
+use crate::telling::{Told, report_faults};
 use std::alloc::{AllocError, Global};
 
 /// The findings in a panel text, in the order of its lines.
@@ -38,7 +38,7 @@ fn count_faults(findings: &[Finding]) -> usize
 ///
 /// Err only if memory is refused.
 pub fn check(alloc: Global, text: &str) -> Result<Report, AllocError>
-    ensures faults { IfOk result (λ report. TellsFaults (IsFaultOf (panel_text text.now)) report.findings.items) }
+    ensures faults { IfOk result (λ report. ReportsFaults (IsFaultOf (panel_text text.now)) report.findings.items) }
     ensures faultless { IfOk result (λ report. IsFaultlessIfAccepted (panel_text text.now) report.findings.items) }
     ensures reason { IfOk result (λ report. HasFirstCause (panel_text text.now) report.findings.items) }
 {
@@ -48,7 +48,7 @@ pub fn check(alloc: Global, text: &str) -> Result<Report, AllocError>
     let Told {
         findings,
         has_words,
-    } = tell_text(alloc, text)?;
+    } = report_faults(alloc, text)?;
     let sizes = judge(alloc, text)?;
     Ok(Report {
         findings,

@@ -2,8 +2,8 @@
 ghost use Rattle.std.specs.Prelude.{◌≡◌, ◌≤◌, false, [], ◌∷◌, None, Some, IfOk, OnOk, IsTrue, Contains, length};
 ghost use Rattle.toml.specs.Parse.{parse_document};
 ghost use Rattle.toml.specs.View.{table_view};
-ghost use Rattle.panel_check.specs.Causes.{HasOneOf, IsFaultOf, TellsFaults, keys_at, panel_part, sources_of};
-ghost use Rattle.panel_check.specs.Listed.{AddsOf, IsTelling, TellsAsMuch};
+ghost use Rattle.panel_check.specs.Causes.{HasOneOf, IsFaultOf, ReportsFaults, keys_at, panel_part, sources_of};
+ghost use Rattle.panel_check.specs.Listed.{AddsOf, ReportsFault, ReportsAsMuch};
 ghost use Rattle.panel_check.specs.Report.{HasCause, is_fault};
 ghost use Rattle.panels.specs.declared.fault.TreeFault.TheVariants as tree;
 ghost use Rattle.panel_check.specs.declared.finding.Cause.TheVariants as cause;
@@ -145,7 +145,7 @@ fn tell_plainly(
     causes: &[Cause],
     cause: Cause,
 ) -> Result<bool, AllocError>
-    ensures { OnOk result (IsTelling causes.now cause findings.old.items findings.new.items) }
+    ensures { OnOk result (ReportsFault causes.now cause findings.old.items findings.new.items) }
 {
     if may_follow(causes, cause) {
         return Ok(true);
@@ -161,7 +161,7 @@ fn tell(
     causes: &[Cause],
     cause: Cause,
 ) -> Result<bool, AllocError>
-    ensures { OnOk result (IsTelling causes.now cause findings.old.items findings.new.items) }
+    ensures { OnOk result (ReportsFault causes.now cause findings.old.items findings.new.items) }
 {
     let remarks = remarks_on(survey, cause)?;
     if remarks.is_empty() {
@@ -173,7 +173,7 @@ fn tell(
 
 /// Adds the findings for each of the faults.
 fn tell_each(survey: &Index, causes: &[Cause]) -> Result<Told, AllocError>
-    ensures { IfOk result (λ told. TellsFaults (Contains causes.now) told.findings.items) }
+    ensures { IfOk result (λ told. ReportsFaults (Contains causes.now) told.findings.items) }
 {
     let mut findings = Vec::new(survey.alloc);
     let mut has_words = true;
@@ -190,7 +190,7 @@ fn tell_each(survey: &Index, causes: &[Cause]) -> Result<Told, AllocError>
 /// Adds the warnings with this cause.
 fn warn_of(findings: &mut Vec<Finding>, survey: &Index, cause: Cause) -> Result<(), AllocError>
     requires { is_fault cause ≡ false }
-    ensures { OnOk result (TellsAsMuch findings.old.items findings.new.items) }
+    ensures { OnOk result (ReportsAsMuch findings.old.items findings.new.items) }
 {
     let remarks = remarks_on(survey, cause)?;
     add_all(findings, survey, cause, &remarks)?;
@@ -199,7 +199,7 @@ fn warn_of(findings: &mut Vec<Finding>, survey: &Index, cause: Cause) -> Result<
 
 /// Adds all warnings.
 fn warn(findings: &mut Vec<Finding>, survey: &Index) -> Result<(), AllocError>
-    ensures { OnOk result (TellsAsMuch findings.old.items findings.new.items) }
+    ensures { OnOk result (ReportsAsMuch findings.old.items findings.new.items) }
 {
     warn_of(findings, survey, Cause::TextWraps)?;
     warn_of(findings, survey, Cause::FillNotNumeric)?;
@@ -210,7 +210,7 @@ fn warn(findings: &mut Vec<Finding>, survey: &Index) -> Result<(), AllocError>
 /// The findings in a text whose TOML tree is `top`, in the order of its lines.
 fn tell_tree(alloc: Global, text: &str, top: &Table) -> Result<Told, AllocError>
     ensures { parse_document text.now ≡ Some (table_view top.now)
-        → IfOk result (λ told. TellsFaults (IsFaultOf text.now) told.findings.items) }
+        → IfOk result (λ told. ReportsFaults (IsFaultOf text.now) told.findings.items) }
 {
     let survey = Index::of(alloc, text, top)?;
     let causes = causes_in(alloc, top)?;
@@ -259,7 +259,7 @@ fn only(alloc: Global, finding: Finding) -> Result<Told, AllocError>
 /// The findings in a text that isn't TOML.
 fn tell_no_toml(alloc: Global, text: &str, error: &Error) -> Result<Told, AllocError>
     ensures { parse_document text.now ≡ None
-        → IfOk result (λ told. TellsFaults (IsFaultOf text.now) told.findings.items) }
+        → IfOk result (λ told. ReportsFaults (IsFaultOf text.now) told.findings.items) }
 {
     let finding = no_toml(alloc, text, error)?;
     let told = only(alloc, finding)?;
@@ -267,8 +267,8 @@ fn tell_no_toml(alloc: Global, text: &str, error: &Error) -> Result<Told, AllocE
 }
 
 /// The findings in a text, in the order of its lines.
-pub(crate) fn tell_text(alloc: Global, text: &str) -> Result<Told, AllocError>
-    ensures { IfOk result (λ told. TellsFaults (IsFaultOf text.now) told.findings.items) }
+pub(crate) fn report_faults(alloc: Global, text: &str) -> Result<Told, AllocError>
+    ensures { IfOk result (λ told. ReportsFaults (IsFaultOf text.now) told.findings.items) }
 {
     match toml::table_from_str(alloc, text) {
         Ok(top) => tell_tree(alloc, text, &top),

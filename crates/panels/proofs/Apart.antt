@@ -3,16 +3,16 @@ use Rattle.std.proofs.Common.{◌≡◌, ◌≤◌, ◌+◌, ℕ, pos, ◌+ℤ�
 use Rattle.std.specs.Prelude.{slice_get}
 use Rattle.std.specs.Option.{option_and_then}
 use Rattle.std.proofs.lemmas.Int.{ints}
-use Rattle.codes3270.specs.Size.{Shape}
+use Rattle.codes3270.specs.Size.{ScreenSize}
 use Rattle.panels.specs.declared.extent.Extent.{Extent}
 use Rattle.panels.specs.declared.fault.TreeFault.TheVariants as fault
 use Rattle.panels.specs.declared.panel.Field.{Field as FieldItem}
 use Rattle.panels.specs.declared.panel.TextItem.{TextItem}
 use Rattle.panels.specs.declared.fault.Location.{Location}
 use Rattle.panels.specs.declared.fault.Location.TheVariants.{Text, Field}
-use Rattle.panels.specs.Draft.{DraftItem, DraftPanel, DraftText, draft_shape}
+use Rattle.panels.specs.Draft.{DraftItem, DraftPanel, DraftText, draft_size}
 use Rattle.panels.specs.Items.{HasCell, IsExtentOf, is_on_screen}
-use Rattle.panels.specs.Faults.{IsItemBefore, Overlaps, item_at, shape_at}
+use Rattle.panels.specs.Faults.{IsItemBefore, Overlaps, item_at, size_at}
 use Rattle.panels.specs.Passes.{IsFaultless}
 use Rattle.panels.specs.Panel.{PanelParts, IsCellOf, ShareNoCell, HasItemsApart}
 use Rattle.panels.specs.Defines.{IsTextOf, IsFieldOf, IsPanelOf, fields_before}
@@ -22,14 +22,14 @@ use Rattle.panels.proofs.Faultless.{no_fault, item_is_part, on_screen, text_shap
 sides : (first size cell : ℕ) → first ≤ cell + 1 → cell + 1 ≤ first + size → (pos first ≤ℤ (pos cell +ℤ pos 1)) × ((pos cell +ℤ pos 1) ≤ℤ (pos first +ℤ pos size))
 sides first size cell low high = (omega (arith, ints), omega (arith, ints))
 
-cell_of_item : (shape : Shape) (item : DraftItem) (extent : Extent) (cell : ℕ) → IsExtentOf shape item extent → IsCellOf extent cell → HasCell shape item (pos cell)
+cell_of_item : (shape : ScreenSize) (item : DraftItem) (extent : Extent) (cell : ℕ) → IsExtentOf shape item extent → IsCellOf extent cell → HasCell shape item (pos cell)
 cell_of_item shape item extent cell is has =
     subst (λ f. (f ≤ℤ (pos cell +ℤ pos 1)) × ((pos cell +ℤ pos 1) ≤ℤ (f +ℤ item.size))) is.0
     (subst (λ l. (pos extent.first ≤ℤ (pos cell +ℤ pos 1)) × ((pos cell +ℤ pos 1) ≤ℤ (pos extent.first +ℤ l))) is.1 (sides extent.first extent.length cell has.0 has.1))
 
 -- a shared cell would be a fault of the later item
-items_of : (draft : DraftText) (shape : Shape) (item other : DraftItem) (part earlier : Location) (one later : Extent) → IsFaultless draft → shape_at part draft.panels ≡ shape
-    → shape_at earlier draft.panels ≡ shape → item_at part draft.panels ≡ Some item → item_at earlier draft.panels ≡ Some other → IsItemBefore earlier part
+items_of : (draft : DraftText) (shape : ScreenSize) (item other : DraftItem) (part earlier : Location) (one later : Extent) → IsFaultless draft → size_at part draft.panels ≡ shape
+    → size_at earlier draft.panels ≡ shape → item_at part draft.panels ≡ Some item → item_at earlier draft.panels ≡ Some other → IsItemBefore earlier part
     → IsExtentOf shape other one → IsExtentOf shape item later → ShareNoCell one later
 items_of draft shape item other part earlier one later clean at other_at there other_there before one_is later_is = λ cell has later_has.
     let overlap : Overlaps shape item other = record {
@@ -45,7 +45,7 @@ items_of draft shape item other part earlier one later clean at other_at there o
 pub items_apart : (draft : DraftText) (p : ℕ) (inner : DraftPanel) (panel : PanelParts) → IsFaultless draft → slice_get draft.panels p ≡ Some inner
     → IsPanelOf draft.panels p inner panel → HasItemsApart panel
 items_apart draft p inner panel clean at_p is =
-    let shape = draft_shape inner in
+    let shape = draft_size inner in
     let at_text = λ (i : ℕ). text_shape draft.panels inner p i at_p in
     let at_field = λ (i : ℕ). field_shape draft.panels inner p i at_p in
     let text = λ (i : ℕ) (text : TextItem) (at_i : slice_get panel.texts i ≡ Some text). draft_of_each (λ i. IsTextOf shape draft.panels) inner.texts panel.texts i text is.texts at_i in

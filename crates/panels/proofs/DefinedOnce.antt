@@ -5,7 +5,7 @@ use Rattle.std.specs.Option.{option_and_then}
 use Rattle.std.proofs.Math.Bridge.{le_prop}
 use Rattle.std.proofs.lemmas.Bool.{cases_order}
 use Rattle.std.proofs.lemmas.Option.{same_Some, slice_get_within, none-some}
-use Rattle.codes3270.specs.Size.{Shape, most_cells}
+use Rattle.codes3270.specs.Size.{ScreenSize, most_cells}
 use Rattle.codes3270.specs.declared.size.Model.{Model}
 use Rattle.codes3270.specs.declared.attention.Aid.{Aid}
 use Rattle.codes3270.specs.declared.attention.Aid.TheVariants.{Enter, Clear, Pf, Pa}
@@ -19,7 +19,7 @@ use Rattle.panels.specs.declared.fault.Location.{Location}
 use Rattle.panels.specs.declared.fault.Location.TheVariants.{Panel, Field}
 use Rattle.panels.specs.Characters.{codes_of}
 use Rattle.panels.specs.Defines.{Defines, DefinesOnce, IsContentOf, IsCursorBy, IsEachOf, IsFieldNamed, IsFieldOf, IsOtherwiseBy, IsPanelNamed, IsPanelOf, IsTargetBy, IsTextOf, fields_before, text_at_key}
-use Rattle.panels.specs.Draft.{DraftItem, DraftPanel, DraftText, draft_of, draft_shape, otherwise_of}
+use Rattle.panels.specs.Draft.{DraftItem, DraftPanel, DraftText, draft_of, draft_size, otherwise_of}
 use Rattle.panels.specs.Faults.{IsBasePanelNamed, IsNamedBefore, name_at}
 use Rattle.panels.specs.Items.{IsExtentOf}
 use Rattle.panels.specs.Keys.{IsKey, name_of_key}
@@ -107,7 +107,7 @@ same_extent first second size other begin same a b c d e f =
 same_number : (m n : ℕ) → pos m ≡ pos n → m ≡ n
 same_number m n same = cc
 
-one_extent : (shape : Shape) (item : DraftItem) (one other : Extent) → IsExtentOf shape item one → IsExtentOf shape item other → one ≡ other
+one_extent : (shape : ScreenSize) (item : DraftItem) (one other : Extent) → IsExtentOf shape item one → IsExtentOf shape item other → one ≡ other
 one_extent shape item one other is also =
     let first : one.first ≡ other.first = same_number one.first other.first (is.0 ∙ sym also.0) in
     let size : one.length ≡ other.length = same_number one.length other.length (is.1 ∙ sym also.1) in
@@ -124,7 +124,7 @@ one_content draft item (Show number) (Show other) clean is also = ap Show (one_f
 abbrev text_item : Extent → Bool → Content → TextItem
 text_item extent bright content = record { extent = extent; bright = bright; content = content }
 
-one_text : (shape : Shape) (draft : DraftText) (item : DraftItem) (one other : TextItem) → IsFaultless draft → IsTextOf shape draft.panels item one
+one_text : (shape : ScreenSize) (draft : DraftText) (item : DraftItem) (one other : TextItem) → IsFaultless draft → IsTextOf shape draft.panels item one
     → IsTextOf shape draft.panels item other → one ≡ other
 one_text shape draft item one other clean is also =
     ap (λ extent. text_item extent one.bright one.content) (one_extent shape item one.extent other.extent is.extent also.extent)
@@ -135,7 +135,7 @@ abbrev field_item : ℕ → List ℕ → Extent → Bool → Bool → Bool → B
 field_item number name extent numeric hidden required marked fill =
     record { number = number; name = name; extent = extent; numeric = numeric; hidden = hidden; required = required; marked = marked; fill = fill }
 
-one_field : (shape : Shape) (n : ℕ) (item : DraftItem) (one other : FieldItem) → IsFieldOf shape n item one → IsFieldOf shape n item other → one ≡ other
+one_field : (shape : ScreenSize) (n : ℕ) (item : DraftItem) (one other : FieldItem) → IsFieldOf shape n item one → IsFieldOf shape n item other → one ≡ other
 one_field shape n item one other is also =
     ap (λ number. field_item number one.name one.extent one.numeric one.hidden one.required one.marked one.fill) (is.number ∙ sym also.number)
     ∙ ap (λ name. field_item other.number name one.extent one.numeric one.hidden one.required one.marked one.fill) (is.name ∙ sym also.name)
@@ -148,14 +148,14 @@ one_field shape n item one other is also =
 
 -- ---- the cursor
 
-has_name : (shape : Shape) (draft : DraftText) (panel : DraftPanel) (p i : ℕ) (name : List ℕ) (fields : List FieldItem) (field : FieldItem) → slice_get draft.panels p ≡ Some panel
+has_name : (shape : ScreenSize) (draft : DraftText) (panel : DraftPanel) (p i : ℕ) (name : List ℕ) (fields : List FieldItem) (field : FieldItem) → slice_get draft.panels p ≡ Some panel
     → IsEachOf (λ i. IsFieldOf shape (fields_before p draft.panels + i)) panel.fields fields → slice_get fields i ≡ Some field → field.name ≡ name → name_at (Field p i) draft.panels ≡ Some name
 has_name shape draft panel p i name fields field there are at_i named =
     let (item, inside, is) = draft_of_each (λ i. IsFieldOf shape (fields_before p draft.panels + i)) panel.fields fields i field are at_i in
     ap (λ o. option_map (λ (f : DraftItem). f.name) (option_and_then (λ (panel : DraftPanel). slice_get panel.fields i) o)) there
     ∙ ap (option_map (λ (f : DraftItem). f.name)) inside ∙ ap Some (sym is.name ∙ named)
 
-one_cursor : (shape : Shape) (draft : DraftText) (panel : DraftPanel) (p : ℕ) (name : Option (List ℕ)) (fields : List FieldItem) (one other : ℕ) → IsFaultless draft → slice_get draft.panels p ≡ Some panel
+one_cursor : (shape : ScreenSize) (draft : DraftText) (panel : DraftPanel) (p : ℕ) (name : Option (List ℕ)) (fields : List FieldItem) (one other : ℕ) → IsFaultless draft → slice_get draft.panels p ≡ Some panel
     → IsEachOf (λ i. IsFieldOf shape (fields_before p draft.panels + i)) panel.fields fields → IsCursorBy name fields one → IsCursorBy name fields other → one ≡ other
 one_cursor shape draft panel p None [] one other clean there are is also = is ∙ sym also
 one_cursor shape draft panel p None (first ∷ more) one other clean there are is also = is ∙ sym also
@@ -227,7 +227,7 @@ panel_parts name model otherwise texts fields cursor targets asked =
 one_panel : (draft : DraftText) (panel : DraftPanel) (p : ℕ) (one other : PanelParts) → IsFaultless draft → slice_get draft.panels p ≡ Some panel → IsPanelOf draft.panels p panel one
     → IsPanelOf draft.panels p panel other → one ≡ other
 one_panel draft panel p one other clean there is also =
-    let shape = draft_shape panel in
+    let shape = draft_size panel in
     let texts : one.texts ≡ other.texts =
     one_each (λ i. IsTextOf shape draft.panels) panel.texts one.texts other.texts is.texts also.texts (λ i item x y at_i of also_of. one_text shape draft item x y clean of also_of) in
     let fields : one.fields ≡ other.fields =

@@ -9,9 +9,9 @@ use Rattle.panels.specs.declared.fault.TreeFault.TheVariants as fault
 use Rattle.panels.specs.declared.fault.Location.{Location}
 use Rattle.panels.specs.declared.fault.Location.TheVariants.{Top, Panel, Text, Field, Keys}
 use Rattle.codes3270.specs.Size.{model_2}
-use Rattle.panels.specs.Draft.{DraftItem, DraftPanel, DraftText, draft_shape}
+use Rattle.panels.specs.Draft.{DraftItem, DraftPanel, DraftText, draft_size}
 use Rattle.panels.specs.Items.{is_on_screen, is_in_place}
-use Rattle.panels.specs.Faults.{item_at, shape_at, is_part, name_at, HasFault}
+use Rattle.panels.specs.Faults.{item_at, size_at, is_part, name_at, HasFault}
 use Rattle.panels.specs.Passes.{IsFaultless}
 use Rattle.panels.specs.Defines.{IsEachOf}
 
@@ -42,9 +42,9 @@ misplaced b c is = rw is refl
 
 -- an item lies on the screen of its panel
 pub on_screen : (draft : DraftText) (part : Location) (item : DraftItem) → IsFaultless draft → item_at part draft.panels ≡ Some item
-    → is_on_screen (shape_at part draft.panels) item ≡ true
+    → is_on_screen (size_at part draft.panels) item ≡ true
 on_screen draft part item clean there =
-    let shape = shape_at part draft.panels in
+    let shape = size_at part draft.panels in
     elim (cases_Bool (is_on_screen shape item)) [
       | inl yes' ↦ yes'
       | inr no' ↦
@@ -53,11 +53,11 @@ on_screen draft part item clean there =
     ]
 
 -- which is that of the panel
-pub text_shape : (panels : List DraftPanel) (panel : DraftPanel) (p i : ℕ) → slice_get panels p ≡ Some panel → shape_at (Text p i) panels ≡ draft_shape panel
-text_shape panels panel p i there = ap (λ o. option_map_or draft_shape o model_2) there
+pub text_shape : (panels : List DraftPanel) (panel : DraftPanel) (p i : ℕ) → slice_get panels p ≡ Some panel → size_at (Text p i) panels ≡ draft_size panel
+text_shape panels panel p i there = ap (λ o. option_map_or draft_size o model_2) there
 
-pub field_shape : (panels : List DraftPanel) (panel : DraftPanel) (p i : ℕ) → slice_get panels p ≡ Some panel → shape_at (Field p i) panels ≡ draft_shape panel
-field_shape panels panel p i there = ap (λ o. option_map_or draft_shape o model_2) there
+pub field_shape : (panels : List DraftPanel) (panel : DraftPanel) (p i : ℕ) → slice_get panels p ≡ Some panel → size_at (Field p i) panels ≡ draft_size panel
+field_shape panels panel p i there = ap (λ o. option_map_or draft_size o model_2) there
 
 -- what stands inside a list
 pub there_in : {X : Type 0} (xs : List X) (i : ℕ) → i < length xs → (x : X) × (slice_get xs i ≡ Some x)

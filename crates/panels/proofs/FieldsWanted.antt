@@ -8,7 +8,7 @@ use Rattle.datastream.specs.declared.wanted.Want.TheVariants as want
 use Rattle.panels.specs.declared.message.Message.{Message}
 use Rattle.panels.specs.declared.panel.Field.{Field}
 use Rattle.panels.specs.Size.{message_start}
-use Rattle.panels.specs.Panel.{PanelParts, IsCellOf, IsLaidOut, HasItemsApart, shape_of}
+use Rattle.panels.specs.Panel.{PanelParts, IsCellOf, IsLaidOut, HasItemsApart, size_of}
 use Rattle.panels.specs.Screen.{Values, distance_in, item_cell, text_cell, field_attr, field_content, kept_cell, field_cell, stopper_cell, message_cell, first_some, wanted_cell}
 use Rattle.panels.specs.KeptFields.{AttributesAreThere, FieldsAreOnTheScreen, FieldsAreWritten}
 use Rattle.panels.proofs.Answering.{Answers, or_answers, left_answers, first_answers, left_is_some, right_is_some, first_is_some, mapped_is_some, taken_answer}
@@ -42,7 +42,7 @@ wanted_of_field : (panel : PanelParts) (values : Values) (message : Message) (ke
 wanted_of_field panel values message keep i cell field apart at_i has =
     let texts = first_some (text_cell values cell) panel.texts in
     let fields = first_some (field_cell values message keep cell) panel.fields in
-    let behind = option_or (message_cell (message_start (shape_of panel)) panel.fields message cell) (first_some (stopper_cell cell) panel.fields) in
+    let behind = option_or (message_cell (message_start (size_of panel)) panel.fields message cell) (first_some (stopper_cell cell) panel.fields) in
     let there = field_is_some panel values message keep i cell field at_i has in
     taken_answer (λ w. w ≡ cell_of_field values message keep cell field) (option_or texts (option_or fields behind)) (want.Char 0)
     (right_is_some texts (option_or fields behind) (left_is_some fields behind there))
@@ -84,13 +84,13 @@ wanted_behind panel values message keep i field apart laid at_i =
     let cell = field.extent.first + field.extent.length in
     let texts = first_some (text_cell values cell) panel.texts in
     let fields = first_some (field_cell values message keep cell) panel.fields in
-    let row = message_cell (message_start (shape_of panel)) panel.fields message cell in
+    let row = message_cell (message_start (size_of panel)) panel.fields message cell in
     let stoppers = first_some (stopper_cell cell) panel.fields in
     taken_answer IsAttribute (option_or texts (option_or fields (option_or row stoppers))) (want.Char 0)
     (right_is_some texts (option_or fields (option_or row stoppers)) (right_is_some fields (option_or row stoppers) (right_is_some row stoppers (stopper_is_some panel i field at_i))))
     (or_answers IsAttribute texts (option_or fields (option_or row stoppers)) (texts_behind panel values i field apart at_i)
     (or_answers IsAttribute fields (option_or row stoppers) (fields_behind panel values message keep i field apart at_i)
-    (or_answers IsAttribute row stoppers (message_behind (message_start (shape_of panel)) panel message field (field_above panel i field laid at_i)) (stopper_answers cell panel.fields))))
+    (or_answers IsAttribute row stoppers (message_behind (message_start (size_of panel)) panel message field (field_above panel i field laid at_i)) (stopper_answers cell panel.fields))))
 
 -- ---- so the screen has it
 

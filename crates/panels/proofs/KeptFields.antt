@@ -13,7 +13,7 @@ use Rattle.panels.specs.declared.extent.Extent.{Extent}
 use Rattle.panels.specs.declared.message.Message.{Message}
 use Rattle.panels.specs.declared.panel.Field.{Field}
 use Rattle.panels.specs.Size.{message_start}
-use Rattle.panels.specs.Panel.{PanelParts, IsCellOf, IsAbove, IsLaidOut, HasItemsApart, shape_of}
+use Rattle.panels.specs.Panel.{PanelParts, IsCellOf, IsAbove, IsLaidOut, HasItemsApart, size_of}
 use Rattle.panels.specs.Screen.{Values, distance_in, item_cell, autoskip_attr, shown, text_cell, field_attr, kept_cell, field_cell, stopper_cell, message_text, message_cell, first_some, wanted_cell}
 use Rattle.panels.specs.KeptFields.{FieldsAreKeptWhole}
 use Rattle.panels.proofs.Answering.{Answers, or_answers, left_answers, first_answers, left_is_some, right_is_some, first_is_some, mapped_is_some, given_is_some, mapped_answer, none_given, taken_answer}
@@ -92,7 +92,7 @@ wanted_of_field : (panel : PanelParts) (values : Values) (message : Message) (i 
 wanted_of_field panel values message i cell field apart at_i has =
     let texts = first_some (text_cell values cell) panel.texts in
     let fields = first_some (field_cell values message true cell) panel.fields in
-    let behind = option_or (message_cell (message_start (shape_of panel)) panel.fields message cell) (first_some (stopper_cell cell) panel.fields) in
+    let behind = option_or (message_cell (message_start (size_of panel)) panel.fields message cell) (first_some (stopper_cell cell) panel.fields) in
     let there = field_is_some panel values message i cell field at_i has in
     taken_answer (λ w. w ≡ cell_of_field values message cell field) (option_or texts (option_or fields behind)) (want.Char 0)
     (right_is_some texts (option_or fields behind) (left_is_some fields behind there))
@@ -188,8 +188,8 @@ before_end : (cell end start cells : ℕ) → cell ≤ end → end ≤ start →
 before_end cell end start cells below above before = omega arith
 
 pub field_above : (panel : PanelParts) (i : ℕ) (field : Field) → IsLaidOut panel → slice_get panel.fields i ≡ Some field
-    → field.extent.first + field.extent.length ≤ message_start (shape_of panel)
-field_above panel i field laid at_i = all_at (λ (field : Field). IsAbove (shape_of panel) field.extent) panel.fields i field laid.fields at_i
+    → field.extent.first + field.extent.length ≤ message_start (size_of panel)
+field_above panel i field laid at_i = all_at (λ (field : Field). IsAbove (size_of panel) field.extent) panel.fields i field laid.fields at_i
 
 wanted_behind : (panel : PanelParts) (values : Values) (message : Message) (i : ℕ) (field : Field) → HasItemsApart panel → IsLaidOut panel → slice_get panel.fields i ≡ Some field
     → IsAttribute (wanted_cell panel values message true (field.extent.first + field.extent.length))
@@ -197,19 +197,19 @@ wanted_behind panel values message i field apart laid at_i =
     let cell = field.extent.first + field.extent.length in
     let texts = first_some (text_cell values cell) panel.texts in
     let fields = first_some (field_cell values message true cell) panel.fields in
-    let row = message_cell (message_start (shape_of panel)) panel.fields message cell in
+    let row = message_cell (message_start (size_of panel)) panel.fields message cell in
     let stoppers = first_some (stopper_cell cell) panel.fields in
     taken_answer IsAttribute (option_or texts (option_or fields (option_or row stoppers))) (want.Char 0)
     (right_is_some texts (option_or fields (option_or row stoppers)) (right_is_some fields (option_or row stoppers) (right_is_some row stoppers (stopper_is_some panel i field at_i))))
     (or_answers IsAttribute texts (option_or fields (option_or row stoppers)) (texts_behind panel values i field apart at_i)
     (or_answers IsAttribute fields (option_or row stoppers) (fields_behind panel values message i field apart at_i)
-    (or_answers IsAttribute row stoppers (message_behind (message_start (shape_of panel)) panel message field (field_above panel i field laid at_i)) (stopper_answers cell panel.fields))))
+    (or_answers IsAttribute row stoppers (message_behind (message_start (size_of panel)) panel message field (field_above panel i field laid at_i)) (stopper_answers cell panel.fields))))
 
 -- ---- so it is kept whole
 
 pub on_screen : (panel : PanelParts) (i : ℕ) (field : Field) → IsLaidOut panel → slice_get panel.fields i ≡ Some field → (cell : ℕ) → cell ≤ field.extent.first + field.extent.length
-    → cell < cells_in (shape_of panel)
-on_screen panel i field laid at_i cell below = before_end cell _ _ _ below (field_above panel i field laid at_i) (start_before_end (shape_of panel) (cells_some panel.model))
+    → cell < cells_in (size_of panel)
+on_screen panel i field laid at_i cell below = before_end cell _ _ _ below (field_above panel i field laid at_i) (start_before_end (size_of panel) (cells_some panel.model))
 
 pub first_has : (extent : Extent) → IsCellOf extent (extent.first - 1)
 first_has extent =

@@ -7,12 +7,12 @@ use Rattle.std.proofs.lemmas.List.Elements.{All-nil, All-cons}
 use Rattle.std.proofs.lemmas.Slice.Eq.{bytes_eq-Decides}
 use Rattle.std.proofs.lemmas.List.{length-map}
 use Rattle.std.proofs.lemmas.Option.{slice_get-map, slice_get_within, get_or_from_slice_get, slice_get-get_or}
-use Rattle.codes3270.specs.Size.{Shape}
+use Rattle.codes3270.specs.Size.{ScreenSize}
 use Rattle.panels.specs.declared.panel.Field.{Field as FieldItem}
 use Rattle.panels.specs.declared.fault.Location.TheVariants.{Text, Field}
 use Rattle.panels.specs.Keys.{key_names}
 use Rattle.panels.specs.Limits.{most_panels, most_fields}
-use Rattle.panels.specs.Draft.{DraftItem, DraftPanel, DraftText, draft_shape, otherwise_of}
+use Rattle.panels.specs.Draft.{DraftItem, DraftPanel, DraftText, draft_size, otherwise_of}
 use Rattle.panels.specs.Faults.{name_at, NamesPanel, NamesBasePanel, IsBasePanelNamed}
 use Rattle.panels.specs.Items.{is_on_screen}
 use Rattle.panels.specs.Building.{IsTextIn, AreTargetsOf}
@@ -65,14 +65,14 @@ text_in panels panel i item has there =
     (p, i, ap (option_and_then (λ panel. slice_get panel.texts i)) at_p ∙ there)
 
 pub text_on_screen : (draft : DraftText) (panel : DraftPanel) (i : ℕ) (item : DraftItem) → IsFaultless draft → Contains draft.panels panel → slice_get panel.texts i ≡ Some item
-    → is_on_screen (draft_shape panel) item ≡ true
+    → is_on_screen (draft_size panel) item ≡ true
 text_on_screen draft panel i item clean has there =
     let (p, at_p) = place_of draft.panels panel has in
     subst (λ s. is_on_screen s item ≡ true) (text_shape draft.panels panel p i at_p)
     (on_screen draft (Text p i) item clean (ap (option_and_then (λ panel. slice_get panel.texts i)) at_p ∙ there))
 
 pub field_on_screen : (draft : DraftText) (panel : DraftPanel) (p i : ℕ) (item : DraftItem) → IsFaultless draft → slice_get draft.panels p ≡ Some panel
-    → slice_get panel.fields i ≡ Some item → is_on_screen (draft_shape panel) item ≡ true
+    → slice_get panel.fields i ≡ Some item → is_on_screen (draft_size panel) item ≡ true
 field_on_screen draft panel p i item clean at_p there =
     subst (λ s. is_on_screen s item ≡ true) (field_shape draft.panels panel p i at_p)
     (on_screen draft (Field p i) item clean (ap (option_and_then (λ panel. slice_get panel.fields i)) at_p ∙ there))
@@ -102,7 +102,7 @@ key_searched name read keys all found same is first =
     ap (text_at_key name) (sym is ∙ ap (map seen) (sym same)) ∙ key_found name read ∙ ap (option_map (λ (key : Key). key.1.now)) (sym first)
 
 -- of the fields that are built one has the cursor's name
-pub cursor_is_named : (shape : Shape) (draft : DraftText) (panel : DraftPanel) (p : ℕ) (name : List ℕ) (fields : List FieldItem) → IsFaultless draft → slice_get draft.panels p ≡ Some panel
+pub cursor_is_named : (shape : ScreenSize) (draft : DraftText) (panel : DraftPanel) (p : ℕ) (name : List ℕ) (fields : List FieldItem) → IsFaultless draft → slice_get draft.panels p ≡ Some panel
     → IsEachOf (λ i. IsFieldOf shape (fields_before p draft.panels + i)) panel.fields fields → panel.cursor ≡ Some name → ¬ All (λ field. ¬ (field.name ≡ name)) fields
 cursor_is_named shape draft panel p name fields clean there are named = λ none.
     cursor_is_there draft panel p name clean there named (λ (i, item, at_i, is).
@@ -112,7 +112,7 @@ cursor_is_named shape draft panel p name fields clean there are named = λ none.
     let read : get_or fields i field ≡ field = get_or_from_slice_get fields i field field found in
     none i field below (ap (λ (field : FieldItem). field.name) read ∙ its.name ∙ is))
 
-pub cursor_given : (shape : Shape) (draft : DraftText) (panel : DraftPanel) (p : ℕ) (cursor : Option (Bor (List ℕ))) (fields : List FieldItem) → IsFaultless draft
+pub cursor_given : (shape : ScreenSize) (draft : DraftText) (panel : DraftPanel) (p : ℕ) (cursor : Option (Bor (List ℕ))) (fields : List FieldItem) → IsFaultless draft
     → slice_get draft.panels p ≡ Some panel → IsEachOf (λ i. IsFieldOf shape (fields_before p draft.panels + i)) panel.fields fields → option_map (λ name. name.now) cursor ≡ panel.cursor
     → IfSome cursor (λ name. ¬ All (λ field. ¬ (field.name ≡ name.now)) fields)
 cursor_given shape draft panel p None fields clean there are same = tt

@@ -13,7 +13,7 @@ use Rattle.panels.specs.declared.message.Message.{Message}
 use Rattle.panels.specs.declared.panel.Field.{Field}
 use Rattle.panels.specs.declared.panel.TextItem.{TextItem}
 use Rattle.panels.specs.Size.{message_start}
-use Rattle.panels.specs.Panel.{PanelParts, IsLaidOut, IsAbove, shape_of}
+use Rattle.panels.specs.Panel.{PanelParts, IsLaidOut, IsAbove, size_of}
 use Rattle.panels.specs.Screen.{Values, distance_in, item_cell, autoskip_attr, text_cell, field_cell, stopper_cell, message_text, message_cell, first_some, wanted_cell}
 use Rattle.panels.specs.MessageRow.{PanelsLeaveTheRow, TheRowIsTheMessage, TheRoomIsTheRow}
 use Rattle.panels.proofs.Placing.{all_at, cells_some, start_before_end}
@@ -35,16 +35,16 @@ none_of : {X : Type 0} (find : X → Option Want) (xs : List X) → ((i : ℕ) (
 none_of find [] each = refl
 none_of find (x ∷ xs) each = ap (λ o. option_or o (first_some find xs)) (each zero x refl) ∙ none_of find xs (λ i y there. each (suc i) y there)
 
-no_text : (panel : PanelParts) (values : Values) (cell : ℕ) → IsLaidOut panel → message_start (shape_of panel) ≤ cell → first_some (text_cell values cell) panel.texts ≡ None
+no_text : (panel : PanelParts) (values : Values) (cell : ℕ) → IsLaidOut panel → message_start (size_of panel) ≤ cell → first_some (text_cell values cell) panel.texts ≡ None
 no_text panel values cell laid below =
     none_of (text_cell values cell) panel.texts (λ i text there.
-    ap (option_map _) (past_item (message_start (shape_of panel)) text.extent cell (all_at (λ (text : TextItem). IsAbove (shape_of panel) text.extent) panel.texts i text laid.texts there) below))
+    ap (option_map _) (past_item (message_start (size_of panel)) text.extent cell (all_at (λ (text : TextItem). IsAbove (size_of panel) text.extent) panel.texts i text laid.texts there) below))
 
-no_field : (panel : PanelParts) (values : Values) (message : Message) (keep : Bool) (cell : ℕ) → IsLaidOut panel → message_start (shape_of panel) ≤ cell
+no_field : (panel : PanelParts) (values : Values) (message : Message) (keep : Bool) (cell : ℕ) → IsLaidOut panel → message_start (size_of panel) ≤ cell
     → first_some (field_cell values message keep cell) panel.fields ≡ None
 no_field panel values message keep cell laid below =
     none_of (field_cell values message keep cell) panel.fields (λ i field there.
-    ap (option_map _) (past_item (message_start (shape_of panel)) field.extent cell (all_at (λ (field : Field). IsAbove (shape_of panel) field.extent) panel.fields i field laid.fields there) below))
+    ap (option_map _) (past_item (message_start (size_of panel)) field.extent cell (all_at (λ (field : Field). IsAbove (size_of panel) field.extent) panel.fields i field laid.fields there) below))
 
 -- ---- so the message has it
 
@@ -61,10 +61,10 @@ layer texts fields message stoppers w null t f m = rw (t, f, m) refl
 abbrev row_cell : ℕ → PanelParts → Message → ℕ → Want
 row_cell start panel message cell = item_cell (autoskip_attr true) (message_text panel.fields message) (cell - start)
 
-in_row : (panel : PanelParts) (values : Values) (message : Message) (keep : Bool) (cell : ℕ) → IsLaidOut panel → message_start (shape_of panel) ≤ cell
-    → wanted_cell panel values message keep cell ≡ row_cell (message_start (shape_of panel)) panel message cell
+in_row : (panel : PanelParts) (values : Values) (message : Message) (keep : Bool) (cell : ℕ) → IsLaidOut panel → message_start (size_of panel) ≤ cell
+    → wanted_cell panel values message keep cell ≡ row_cell (message_start (size_of panel)) panel message cell
 in_row panel values message keep cell laid below =
-    let start = message_start (shape_of panel) in
+    let start = message_start (size_of panel) in
     layer (first_some (text_cell values cell) panel.texts) (first_some (field_cell values message keep cell) panel.fields) (message_cell start panel.fields message cell)
     (first_some (stopper_cell cell) panel.fields) (row_cell start panel message cell) (want.Char 0)
     (no_text panel values cell laid below) (no_field panel values message keep cell laid below)
@@ -97,10 +97,10 @@ after_start start cell after = omega arith
 
 pub row_is_left : PanelsLeaveTheRow
 row_is_left panel values message keep laid =
-    let start = message_start (shape_of panel) in
+    let start = message_start (size_of panel) in
     record {
       attribute =
-          row_is_message panel values message keep start laid (le_self start) (start_before_end (shape_of panel) (cells_some panel.model))
+          row_is_message panel values message keep start laid (le_self start) (start_before_end (size_of panel) (cells_some panel.model))
           ∙ ap Some (attr_first (autoskip_attr true) (message_text panel.fields message) (start - start) (no_way start));
       characters = λ cell after within. (
         slice_index_or (message_text panel.fields message) (cell - start - 1) 0,

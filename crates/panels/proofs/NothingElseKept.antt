@@ -10,7 +10,7 @@ use Rattle.datastream.specs.declared.wanted.Want.TheVariants as want
 use Rattle.panels.specs.declared.message.Message.{Message}
 use Rattle.panels.specs.declared.panel.Field.{Field}
 use Rattle.panels.specs.Size.{message_start}
-use Rattle.panels.specs.Panel.{PanelParts, shape_of}
+use Rattle.panels.specs.Panel.{PanelParts, size_of}
 use Rattle.panels.specs.Screen.{Values, item_cell, autoskip_attr, shown, text_cell, field_attr, field_content, kept_cell, field_cell, stopper_cell, message_text, message_cell, first_some, wanted_cell}
 use Rattle.panels.specs.KeptFields.{IsOfField, NothingElseIsKept}
 use Rattle.panels.proofs.Answering.{Answers, or_answers, first_answers, none_given, taken_or}
@@ -56,9 +56,9 @@ fields_keep panel values message keep cell =
     let (keeps, some) = field_keeps keep (field_attr values message keep field) (field_content values message field) (cell + 1 - field.extent.first) (sym w_is ∙ kept) in
     (keeps, (j, field, at_j, behind_attribute field.extent.first field.extent.length cell has.1 some)))
 
-message_keeps : (panel : PanelParts) (message : Message) (keep : Bool) (cell : ℕ) → Answers (KeepsField panel keep cell) (message_cell (message_start (shape_of panel)) panel.fields message cell)
+message_keeps : (panel : PanelParts) (message : Message) (keep : Bool) (cell : ℕ) → Answers (KeepsField panel keep cell) (message_cell (message_start (size_of panel)) panel.fields message cell)
 message_keeps panel message keep cell = λ w is kept.
-    let start = message_start (shape_of panel) in
+    let start = message_start (size_of panel) in
     let (not_before, w_is) = none_given (nat_lt cell start) (item_cell (autoskip_attr true) (message_text panel.fields message) (cell - start)) w is in
     absurd (item_keeps_nothing (autoskip_attr true) (message_text panel.fields message) (cell - start) (w_is ∙ kept))
 
@@ -77,7 +77,7 @@ wanted_keeps : (panel : PanelParts) (values : Values) (message : Message) (keep 
 wanted_keeps panel values message keep cell =
     let texts = first_some (text_cell values cell) panel.texts in
     let fields = first_some (field_cell values message keep cell) panel.fields in
-    let row = message_cell (message_start (shape_of panel)) panel.fields message cell in
+    let row = message_cell (message_start (size_of panel)) panel.fields message cell in
     let stoppers = first_some (stopper_cell cell) panel.fields in
     taken_or (KeepsField panel keep cell) (option_or texts (option_or fields (option_or row stoppers))) (want.Char 0) (λ is. absurd (null_is_not_keep is))
     (or_answers (KeepsField panel keep cell) texts (option_or fields (option_or row stoppers)) (texts_keep panel values keep cell)

@@ -5,7 +5,7 @@ use Rattle.std.proofs.lemmas.Bool.{and_parts}
 use Rattle.std.proofs.lemmas.Int.{ints}
 use Rattle.std.proofs.lemmas.Option.{slice_get_within, get_or_from_slice_get}
 use Rattle.std.proofs.Math.Nat.{suc-mul}
-use Rattle.codes3270.specs.Size.{Shape, cells_in, alternate_of}
+use Rattle.codes3270.specs.Size.{ScreenSize, cells_in, alternate_of}
 use Rattle.codes3270.specs.declared.size.Model.{Model}
 use Rattle.codes3270.specs.declared.size.Model.TheVariants.{M2, M3, M4, M5}
 use Rattle.panels.specs.declared.extent.Extent.{Extent}
@@ -28,7 +28,7 @@ some_row zero columns some = absurd (omega arith)
 some_row (suc rows) columns some = ap (λ n. n * columns + columns) (one_less rows) ∙ sym (suc-mul rows columns)
 
 -- it ends where the screen ends
-pub row_ends : (shape : Shape) → 0 < cells_in shape → message_start shape + shape.columns ≡ cells_in shape
+pub row_ends : (shape : ScreenSize) → 0 < cells_in shape → message_start shape + shape.columns ≡ cells_in shape
 row_ends shape some = some_row shape.rows shape.columns some
 
 some_column : (rows columns : ℕ) → 0 < rows * columns → 0 < columns
@@ -38,7 +38,7 @@ some_column rows zero some = absurd (omega (arith, none rows, some))
     none n = omega arith
 some_column rows (suc columns) some = omega arith
 
-pub start_before_end : (shape : Shape) → 0 < cells_in shape → message_start shape < cells_in shape
+pub start_before_end : (shape : ScreenSize) → 0 < cells_in shape → message_start shape < cells_in shape
 start_before_end shape some =
     let column = some_column shape.rows shape.columns some in
     let ends = row_ends shape some in
@@ -59,7 +59,7 @@ above : (start first size : ℕ) → pos size ≤ℤ (pos start -ℤ pos first) 
 above start first size fits = omega (arith, ints, fits)
 
 -- an item on a screen lies above the row
-pub item_above : (shape : Shape) (item : DraftItem) (extent : Extent) → is_on_screen shape item ≡ true → IsExtentOf shape item extent → IsAbove shape extent
+pub item_above : (shape : ScreenSize) (item : DraftItem) (extent : Extent) → is_on_screen shape item ≡ true → IsExtentOf shape item extent → IsAbove shape extent
 item_above shape item extent on is =
     let inner = (and_parts _ (is_above_message shape (first_cell shape item) item.size) on).1 in
     let fits : int_le item.size (pos (message_start shape) -ℤ first_cell shape item) ≡ true = (and_parts _ _ (and_parts _ _ inner).1).1 in

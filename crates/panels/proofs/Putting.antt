@@ -6,7 +6,7 @@ use Rattle.std.proofs.lemmas.List.{drop_more, get_or-set_same, get_or-set_other,
 use Rattle.std.proofs.lemmas.Bool.{cases_eq}
 use Rattle.std.proofs.lemmas.Option.{slice_get_past, slice_get-get_or}
 use Rattle.std.proofs.lemmas.Bool.Decides.{nat_tests}
-use Rattle.codes3270.specs.Size.{Shape, cells_in}
+use Rattle.codes3270.specs.Size.{ScreenSize, cells_in}
 use Rattle.codes3270.specs.CodePage.{code_of}
 use Rattle.codes3270.specs.declared.attribute.Attr.{Attr}
 use Rattle.datastream.specs.Wanted.{WantedScreen}
@@ -18,7 +18,7 @@ use Rattle.panels.specs.declared.panel.Field.{Field}
 use Rattle.panels.specs.declared.panel.TextItem.{TextItem}
 use Rattle.panels.specs.declared.extent.Extent.{Extent}
 use Rattle.panels.specs.Size.{message_start}
-use Rattle.panels.specs.Panel.{PanelParts, IsAbove, IsLaidOut, shape_of}
+use Rattle.panels.specs.Panel.{PanelParts, IsAbove, IsLaidOut, size_of}
 use Rattle.panels.specs.Screen.{Values, item_cell, autoskip_attr, field_numbered, first_some, text_cell, field_cell, stopper_cell, coded, message_text, field_meant, wanted_cell, wanted_cursor}
 use Rattle.panels.specs.Put.{ArePut, IsPut, FitsOn, field_spoken, row_cell, text_with}
 use Rattle.panels.proofs.Placing.{cells_some, start_before_end}
@@ -29,7 +29,7 @@ over (Some x) other under = refl
 
 -- ---- one of a list over those behind it
 
-fits_on : (extent : Extent) (shape : Shape) → IsAbove shape extent → message_start shape < cells_in shape → FitsOn shape extent
+fits_on : (extent : Extent) (shape : ScreenSize) → IsAbove shape extent → message_start shape < cells_in shape → FitsOn shape extent
 fits_on extent shape above before = before_end (extent.first + extent.length) (message_start shape) (cells_in shape) above before
   where
     before_end : (end start cells : ℕ) → end ≤ start → start < cells → end < cells
@@ -50,18 +50,18 @@ put_back find xs n x base old new some fits is before now = (
 )
 
 -- where all things of a list fit, the one at a place does
-pub fits_at : {X : Type 0} (extent : X → Extent) (shape other : Shape) (xs : List X) (n : ℕ) (x : X) → other ≡ shape → All (λ y. FitsOn shape (extent y)) xs → 0 < n → n ≤ length xs
+pub fits_at : {X : Type 0} (extent : X → Extent) (shape other : ScreenSize) (xs : List X) (n : ℕ) (x : X) → other ≡ shape → All (λ y. FitsOn shape (extent y)) xs → 0 < n → n ≤ length xs
     → x ≡ get_or xs (n - 1) x → FitsOn other (extent x)
 fits_at extent shape other xs n x same all some fits is =
     let within : n - 1 < length xs = omega arith in
     subst (λ s. FitsOn s (extent x)) (sym same) (subst (λ y. FitsOn shape (extent y)) (sym is) (all (n - 1) x within))
 
 -- what lies above the row for messages fits on the screen
-pub all_fit : {X : Type 0} (extent : X → Extent) (panel : PanelParts) (shape : Shape) (xs : List X) → shape ≡ shape_of panel → All (λ x. IsAbove (shape_of panel) (extent x)) xs
+pub all_fit : {X : Type 0} (extent : X → Extent) (panel : PanelParts) (shape : ScreenSize) (xs : List X) → shape ≡ size_of panel → All (λ x. IsAbove (size_of panel) (extent x)) xs
     → All (λ x. FitsOn shape (extent x)) xs
 all_fit extent panel shape xs same all = λ k d below.
     subst (λ s. FitsOn s (extent (get_or xs k d))) (sym same)
-    (fits_on (extent (get_or xs k d)) (shape_of panel) (all k d below) (start_before_end (shape_of panel) (cells_some panel.model)))
+    (fits_on (extent (get_or xs k d)) (size_of panel) (all k d below) (start_before_end (size_of panel) (cells_some panel.model)))
 
 -- ---- cell after cell
 
@@ -152,19 +152,19 @@ found_has P test (x ∷ xs) all =
 first_on : (extent : Extent) (start cells : ℕ) → extent.first + extent.length ≤ start → start < cells → extent.first < cells
 first_on extent start cells above before = omega (arith, above, before)
 
-place_on : (shape : Shape) (o : Option Field) (cursor : ℕ) → cursor < cells_in shape → message_start shape < cells_in shape → IfSome o (λ field. IsAbove shape field.extent)
+place_on : (shape : ScreenSize) (o : Option Field) (cursor : ℕ) → cursor < cells_in shape → message_start shape < cells_in shape → IfSome o (λ field. IsAbove shape field.extent)
     → option_map_or (λ field. field.extent.first) o cursor < cells_in shape
 place_on shape None cursor within before above = within
 place_on shape (Some field) cursor within before above = first_on field.extent (message_start shape) (cells_in shape) above before
 
-found_above : (panel : PanelParts) (number : Option ℕ) → IsLaidOut panel → IfSome (option_and_then (λ n. field_numbered n panel.fields) number) (λ field. IsAbove (shape_of panel) field.extent)
+found_above : (panel : PanelParts) (number : Option ℕ) → IsLaidOut panel → IfSome (option_and_then (λ n. field_numbered n panel.fields) number) (λ field. IsAbove (size_of panel) field.extent)
 found_above panel None laid = tt
-found_above panel (Some number) laid = found_has (λ (field : Field). IsAbove (shape_of panel) field.extent) (λ field. field.number == number) panel.fields laid.fields
+found_above panel (Some number) laid = found_has (λ (field : Field). IsAbove (size_of panel) field.extent) (λ field. field.number == number) panel.fields laid.fields
 
 -- the cursor is on the screen
-pub cursor_within : (panel : PanelParts) (message : Message) → IsLaidOut panel → wanted_cursor panel message < cells_in (shape_of panel)
+pub cursor_within : (panel : PanelParts) (message : Message) → IsLaidOut panel → wanted_cursor panel message < cells_in (size_of panel)
 cursor_within panel message laid =
-    place_on (shape_of panel) (option_and_then (λ n. field_numbered n panel.fields) (field_meant message)) panel.cursor laid.cursor (start_before_end (shape_of panel) (cells_some panel.model))
+    place_on (size_of panel) (option_and_then (λ n. field_numbered n panel.fields) (field_meant message)) panel.cursor laid.cursor (start_before_end (size_of panel) (cells_some panel.model))
     (found_above panel (field_meant message) laid)
 
 -- what `get` answers of a text
@@ -247,17 +247,17 @@ pub still : (one other : WantedScreen) (cell : ℕ) → one.size ≡ other.size 
 still one other cell same below = subst (λ s. cell < cells_in s) (sym same) below
 
 pub put_all : (panel : PanelParts) (values : Values) (message : Message) (keep : Bool) (name : List ℕ) (texts : List TextItem) (fields : List Field) (base one two three four : WantedScreen)
-    → base.size ≡ shape_of panel → name ≡ option_map_or (λ field. field.name) (field_spoken panel.fields message) [] → texts ≡ panel.texts → fields ≡ panel.fields
+    → base.size ≡ size_of panel → name ≡ option_map_or (λ field. field.name) (field_spoken panel.fields message) [] → texts ≡ panel.texts → fields ≡ panel.fields
     → ((cell : ℕ) (default : Want) → cell < cells_in base.size → get_or base.cells cell default ≡ want.Char 0)
     → IsPut (λ cell. first_some (stopper_cell cell) fields) base one → IsPut (row_cell (message_start one.size) (text_with name message)) one two
     → IsPut (λ cell. first_some (field_cell values message keep cell) fields) two three → IsPut (λ cell. first_some (text_cell values cell) texts) three four
-    → (cell : ℕ) (default : Want) → cell < cells_in (shape_of panel) → get_or four.cells cell default ≡ wanted_cell panel values message keep cell
+    → (cell : ℕ) (default : Want) → cell < cells_in (size_of panel) → get_or four.cells cell default ≡ wanted_cell panel values message keep cell
 put_all panel values message keep name texts fields base one two three four whole same_name same_texts same_fields nulls stoppers row inputs labels cell default within =
     let below : cell < cells_in base.size = subst (λ s. cell < cells_in s) (sym whole) within in
     let at_one = still one base cell stoppers.0 below in
     let at_two = still two one cell row.0 at_one in
     let at_three = still three two cell inputs.0 at_two in
-    let start : message_start one.size ≡ message_start (shape_of panel) = ap message_start (stoppers.0 ∙ whole) in
+    let start : message_start one.size ≡ message_start (size_of panel) = ap message_start (stoppers.0 ∙ whole) in
     layered (first_some (text_cell values cell) texts) (first_some (field_cell values message keep cell) fields) (row_cell (message_start one.size) (text_with name message) cell)
     (first_some (stopper_cell cell) fields) (want.Char 0) _ _ _ _ _ (nulls cell default below) (stoppers.1 cell default below) (row.1 cell default at_one)
     (inputs.1 cell default at_two) (labels.1 cell default at_three)
@@ -268,5 +268,5 @@ put_all panel values message keep name texts fields base one two three four whol
     ∙ ap (λ n. unwrap_or (option_or (first_some (text_cell values cell) panel.texts) (option_or (first_some (field_cell values message keep cell) panel.fields)
     (option_or (row_cell n (text_with name message) cell) (first_some (stopper_cell cell) panel.fields)))) (want.Char 0)) start
     ∙ ap (λ text. unwrap_or (option_or (first_some (text_cell values cell) panel.texts) (option_or (first_some (field_cell values message keep cell) panel.fields)
-    (option_or (row_cell (message_start (shape_of panel)) text cell) (first_some (stopper_cell cell) panel.fields)))) (want.Char 0))
+    (option_or (row_cell (message_start (size_of panel)) text cell) (first_some (stopper_cell cell) panel.fields)))) (want.Char 0))
     (ap (λ n. text_with n message) same_name ∙ text_is panel.fields message)

@@ -2,13 +2,13 @@
 use Rattle.std.proofs.Common.{◌≡◌, ◌<◌, ◌≤◌, ◌+◌, ℕ, List, [], ◌∷◌, get_or, Option, Some, None, refl, ap, sym, subst, arith}
 use Rattle.std.specs.Prelude.{All, chars, slice_get}
 use Rattle.std.proofs.lemmas.Option.{slice_get-get_or}
-use Rattle.codes3270.specs.Size.{Shape, cells_in, alternate_of}
+use Rattle.codes3270.specs.Size.{ScreenSize, cells_in, alternate_of}
 use Rattle.panels.specs.declared.panel.Content.{Content}
 use Rattle.panels.specs.declared.panel.Content.TheVariants.{Literal, Show}
 use Rattle.panels.specs.declared.panel.Field.{Field}
 use Rattle.panels.specs.Characters.{AreCharacters}
-use Rattle.panels.specs.Draft.{DraftItem, DraftPanel, DraftText, draft_shape}
-use Rattle.panels.specs.Panel.{PanelParts, Panels, shape_of, IsAbove, IsLaidOut, HasCharacters, IsOfCharacters, HaveNumbersApart, AreSound}
+use Rattle.panels.specs.Draft.{DraftItem, DraftPanel, DraftText, draft_size}
+use Rattle.panels.specs.Panel.{PanelParts, Panels, size_of, IsAbove, IsLaidOut, HasCharacters, IsOfCharacters, HaveNumbersApart, AreSound}
 use Rattle.panels.specs.Passes.{IsFaultless}
 use Rattle.panels.specs.Defines.{IsContentOf, IsTextOf, IsFieldOf, IsEachOf, IsCursorBy, IsPanelOf, Defines, fields_before}
 use Rattle.panels.proofs.Apart.{items_apart}
@@ -23,22 +23,22 @@ use Rattle.panels.proofs.Linking.{contained_at, text_on_screen, field_on_screen}
 
 -- an item lies above the row for messages
 texts_above : (draft : DraftText) (p : ℕ) (inner : DraftPanel) (panel : PanelParts) → IsFaultless draft → slice_get draft.panels p ≡ Some inner → IsPanelOf draft.panels p inner panel
-    → All (λ text. IsAbove (draft_shape inner) text.extent) panel.texts
+    → All (λ text. IsAbove (draft_size inner) text.extent) panel.texts
 texts_above draft p inner panel clean there is = λ k d below.
-    let (item, at_k, its) = draft_of_each (λ i. IsTextOf (draft_shape inner) draft.panels) inner.texts panel.texts k (get_or panel.texts k d) is.texts (slice_get-get_or panel.texts k d below) in
-    item_above (draft_shape inner) item (get_or panel.texts k d).extent (text_on_screen draft inner k item clean (contained_at draft.panels p inner there) at_k) its.extent
+    let (item, at_k, its) = draft_of_each (λ i. IsTextOf (draft_size inner) draft.panels) inner.texts panel.texts k (get_or panel.texts k d) is.texts (slice_get-get_or panel.texts k d below) in
+    item_above (draft_size inner) item (get_or panel.texts k d).extent (text_on_screen draft inner k item clean (contained_at draft.panels p inner there) at_k) its.extent
 
 fields_above : (draft : DraftText) (p : ℕ) (inner : DraftPanel) (panel : PanelParts) → IsFaultless draft → slice_get draft.panels p ≡ Some inner → IsPanelOf draft.panels p inner panel
-    → All (λ field. IsAbove (draft_shape inner) field.extent) panel.fields
+    → All (λ field. IsAbove (draft_size inner) field.extent) panel.fields
 fields_above draft p inner panel clean there is = λ k d below.
     let (item, at_k, its) =
-    draft_of_each (λ i. IsFieldOf (draft_shape inner) (fields_before p draft.panels + i)) inner.fields panel.fields k (get_or panel.fields k d) is.fields (slice_get-get_or panel.fields k d below) in
-    item_above (draft_shape inner) item (get_or panel.fields k d).extent (field_on_screen draft inner p k item clean there at_k) its.extent
+    draft_of_each (λ i. IsFieldOf (draft_size inner) (fields_before p draft.panels + i)) inner.fields panel.fields k (get_or panel.fields k d) is.fields (slice_get-get_or panel.fields k d below) in
+    item_above (draft_size inner) item (get_or panel.fields k d).extent (field_on_screen draft inner p k item clean there at_k) its.extent
 
 field_on : (start cells : ℕ) (field : Field) → start < cells → field.extent.first + field.extent.length ≤ start → field.extent.first < cells
 field_on start cells field before above = omega (arith, before, above)
 
-cursor_on : (shape : Shape) (named : Option (List ℕ)) (fields : List Field) (cursor : ℕ) → 0 < cells_in shape → All (λ field. IsAbove shape field.extent) fields
+cursor_on : (shape : ScreenSize) (named : Option (List ℕ)) (fields : List Field) (cursor : ℕ) → 0 < cells_in shape → All (λ field. IsAbove shape field.extent) fields
     → IsCursorBy named fields cursor → cursor < cells_in shape
 cursor_on shape (Some name) fields cursor some above (i, field, there, is, at_it) =
     subst (λ c. c < cells_in shape) (sym at_it)
@@ -51,14 +51,14 @@ cursor_on shape None (first ∷ more) cursor some above at_it =
 pub is_laid_out : (draft : DraftText) (p : ℕ) (inner : DraftPanel) (panel : PanelParts) → IsFaultless draft → slice_get draft.panels p ≡ Some inner → IsPanelOf draft.panels p inner panel
     → IsLaidOut panel
 is_laid_out draft p inner panel clean there is =
-    let same : shape_of panel ≡ draft_shape inner = ap alternate_of is.model in
+    let same : size_of panel ≡ draft_size inner = ap alternate_of is.model in
     let above = fields_above draft p inner panel clean there is in
     record {
       texts = subst (λ shape. All (λ text. IsAbove shape text.extent) panel.texts) (sym same) (texts_above draft p inner panel clean there is);
       fields = subst (λ shape. All (λ field. IsAbove shape field.extent) panel.fields) (sym same) above;
       cursor =
           subst (λ shape. panel.cursor < cells_in shape) (sym same)
-          (cursor_on (draft_shape inner) inner.cursor panel.fields panel.cursor (cells_some (model_numbered inner.model)) above is.cursor);
+          (cursor_on (draft_size inner) inner.cursor panel.fields panel.cursor (cells_some (model_numbered inner.model)) above is.cursor);
     }
 
 -- ---- characters
@@ -75,9 +75,9 @@ content_is panels item (Show number) is = tt
 
 characters_in : (panels : List DraftPanel) (p : ℕ) (draft : DraftPanel) (panel : PanelParts) → IsPanelOf panels p draft panel → IsOfCharacters panel
 characters_in panels p draft panel is = record {
-  texts = each_is (λ i. IsTextOf (draft_shape draft) panels) (λ text. HasCharacters text.content) draft.texts panel.texts (λ i item text its. content_is panels item text.content its.content) is.texts;
+  texts = each_is (λ i. IsTextOf (draft_size draft) panels) (λ text. HasCharacters text.content) draft.texts panel.texts (λ i item text its. content_is panels item text.content its.content) is.texts;
   fills =
-      each_is (λ i. IsFieldOf (draft_shape draft) (fields_before p panels + i)) (λ field. AreCharacters field.fill) draft.fields panel.fields
+      each_is (λ i. IsFieldOf (draft_size draft) (fields_before p panels + i)) (λ field. AreCharacters field.fill) draft.fields panel.fields
       (λ i item field its. subst AreCharacters (sym its.fill) (codes_are_characters (chars item.fill))) is.fields;
 }
 
@@ -87,7 +87,7 @@ characters_in panels p draft panel is = record {
 numbers_in : (panels : List DraftPanel) (p : ℕ) (draft : DraftPanel) (panel : PanelParts) → IsPanelOf panels p draft panel → HaveNumbersApart panel.fields
 numbers_in panels p draft panel is = λ i j one other less at_i at_j same.
     let field = λ (i : ℕ) (field : Field) (at_i : slice_get panel.fields i ≡ Some field).
-    draft_of_each (λ i. IsFieldOf (draft_shape draft) (fields_before p panels + i)) draft.fields panel.fields i field is.fields at_i in
+    draft_of_each (λ i. IsFieldOf (draft_size draft) (fields_before p panels + i)) draft.fields panel.fields i field is.fields at_i in
     let (a, a_there, a_is) = field i one at_i in
     let (b, b_there, b_is) = field j other at_j in
     let first = a_is.number in

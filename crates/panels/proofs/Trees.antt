@@ -8,7 +8,7 @@ use Rattle.toml.specs.Data.{Data, array}
 use Rattle.toml.specs.View.{view, items_view, members_view}
 use Rattle.toml.specs.declared.value.Value.{Value}
 use Rattle.panels.specs.Tree.{keys}
-use Rattle.panels.specs.Shape.{all_items, all_values, is_lacking, is_of_kind, is_table, is_text}
+use Rattle.panels.specs.TableRules.{all_items, all_values, is_lacking, is_of_kind, is_table, is_text}
 use Rattle.panels.specs.declared.rules.KeyKind.{KeyKind}
 use Rattle.panels.specs.declared.rules.KeyKind.TheVariants.{Tables, Texts}
 

@@ -11,7 +11,7 @@ use Rattle.panels.specs.declared.message.Message.{Message}
 use Rattle.panels.specs.declared.panel.Field.{Field}
 use Rattle.panels.specs.declared.panel.TextItem.{TextItem}
 use Rattle.panels.specs.Size.{message_start}
-use Rattle.panels.specs.Panel.{PanelParts, shape_of}
+use Rattle.panels.specs.Panel.{PanelParts, size_of}
 use Rattle.panels.specs.Put.{IsPut}
 use Rattle.panels.specs.Screen.{Values, distance_in, field_attr, field_content, item_cell, kept_cell, first_some, text_cell, field_cell, message_cell, stopper_cell, wanted_cell, screen_of}
 use Rattle.panels.proofs.Putting.{over, still}
@@ -43,14 +43,14 @@ covered None (Some want) None under same = absurd (false≢true (sym same))
 pub values_put : (panel : PanelParts) (values : Values) (message : Message) (texts : List TextItem) (fields : List Field) (base one two : WantedScreen)
     → base ≡ screen_of panel values message true → texts ≡ panel.texts → fields ≡ panel.fields
     → IsPut (λ cell. first_some (field_cell values message false cell) fields) base one → IsPut (λ cell. first_some (text_cell values cell) texts) one two
-    → (cell : ℕ) (default : Want) → cell < cells_in (shape_of panel) → get_or two.cells cell default ≡ wanted_cell panel values message false cell
+    → (cell : ℕ) (default : Want) → cell < cells_in (size_of panel) → get_or two.cells cell default ≡ wanted_cell panel values message false cell
 values_put panel values message texts fields base one two kept same_texts same_list inputs labels cell default within =
-    let whole : base.size ≡ shape_of panel = ap (λ (screen : WantedScreen). screen.size) kept in
+    let whole : base.size ≡ size_of panel = ap (λ (screen : WantedScreen). screen.size) kept in
     let below : cell < cells_in base.size = subst (λ s. cell < cells_in s) (sym whole) within in
     let shown = first_some (text_cell values cell) panel.texts in
     let left = first_some (field_cell values message true cell) panel.fields in
     let put = first_some (field_cell values message false cell) panel.fields in
-    let behind = option_or (message_cell (message_start (shape_of panel)) panel.fields message cell) (first_some (stopper_cell cell) panel.fields) in
+    let behind = option_or (message_cell (message_start (size_of panel)) panel.fields message cell) (first_some (stopper_cell cell) panel.fields) in
     let under : Want = unwrap_or behind (want.Char 0) in
     let before : get_or base.cells cell default ≡ unwrap_or shown (unwrap_or left under) =
     ap (λ (screen : WantedScreen). get_or screen.cells cell default) kept ∙ cell_seen panel values message true cell default within

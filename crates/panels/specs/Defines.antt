@@ -3,7 +3,7 @@ use Rattle.std.specs.Prelude.{◌≡◌, ℕ, zero, suc, ◌+◌, List, [], ◌�
 use Rattle.std.specs.List.{list_any}
 use Rattle.std.specs.Option.{option_map_or}
 use Rattle.codes3270.specs.declared.attention.Aid.{Aid}
-use Rattle.codes3270.specs.Size.{Shape}
+use Rattle.codes3270.specs.Size.{ScreenSize}
 use Rattle.toml.specs.Data.{Members}
 use Rattle.toml.specs.Parse.{parse_document}
 use Rattle.panels.specs.declared.fault.Location.TheVariants as part
@@ -13,7 +13,7 @@ use Rattle.panels.specs.declared.panel.TextItem.{TextItem}
 use Rattle.panels.specs.declared.panel.Field.{Field}
 use Rattle.panels.specs.Characters.{codes_of}
 use Rattle.panels.specs.Size.{model_numbered}
-use Rattle.panels.specs.Draft.{DraftItem, DraftPanel, DraftText, draft_of, draft_shape, otherwise_of}
+use Rattle.panels.specs.Draft.{DraftItem, DraftPanel, DraftText, draft_of, draft_size, otherwise_of}
 use Rattle.panels.specs.Faults.{name_at, IsBasePanelNamed}
 use Rattle.panels.specs.Items.{IsExtentOf}
 use Rattle.panels.specs.Keys.{key_names, name_of_key, IsKey}
@@ -40,12 +40,12 @@ abbrev pub IsContentOf : List DraftPanel → DraftItem → Content → Type 0
 IsContentOf panels item (Literal shown) = (text : List ℕ) × (item.text ≡ Some text) × (shown ≡ codes_of (chars text))
 IsContentOf panels item (Show number) = (item.text ≡ None) × IsFieldNamed panels item.show number
 
-pub record IsTextOf (size : Shape) (panels : List DraftPanel) (item : DraftItem) (text : TextItem) : Type 0 where
+pub record IsTextOf (size : ScreenSize) (panels : List DraftPanel) (item : DraftItem) (text : TextItem) : Type 0 where
   pub extent : IsExtentOf size item text.extent
   pub bright : text.bright ≡ item.bright
   pub content : IsContentOf panels item text.content
 
-pub record IsFieldOf (size : Shape) (n : ℕ) (item : DraftItem) (field : Field) : Type 0 where
+pub record IsFieldOf (size : ScreenSize) (n : ℕ) (item : DraftItem) (field : Field) : Type 0 where
   pub number : field.number ≡ n
   pub name : field.name ≡ item.name
   pub extent : IsExtentOf size item field.extent
@@ -89,8 +89,8 @@ pub record IsPanelOf (panels : List DraftPanel) (p : ℕ) (draft : DraftPanel) (
   pub name : panel.name ≡ draft.name
   pub model : panel.model ≡ model_numbered draft.model
   pub otherwise : IsOtherwiseBy panels (otherwise_of draft) panel.otherwise
-  pub texts : IsEachOf (λ i. IsTextOf (draft_shape draft) panels) draft.texts panel.texts
-  pub fields : IsEachOf (λ i. IsFieldOf (draft_shape draft) (fields_before p panels + i)) draft.fields panel.fields
+  pub texts : IsEachOf (λ i. IsTextOf (draft_size draft) panels) draft.texts panel.texts
+  pub fields : IsEachOf (λ i. IsFieldOf (draft_size draft) (fields_before p panels + i)) draft.fields panel.fields
   pub cursor : IsCursorBy draft.cursor panel.fields panel.cursor
   pub places : length panel.targets ≡ length key_names
   pub asked : panel.asked ≡ map (λ name. list_any (bytes_eq name) draft.asks) key_names

@@ -1,11 +1,11 @@
 -- Drafts: what the tables of a panel text say, by the types of their keys, before faults are looked for (our profile).
 use Rattle.std.specs.Prelude.{codes, ℕ, ℤ, pos, Bool, List, length, map, Option, Some, None, chars, unwrap_or, if◌then◌else◌}
 use Rattle.std.specs.Ordering.{int_eq}
-use Rattle.codes3270.specs.Size.{Shape, alternate_of}
+use Rattle.codes3270.specs.Size.{ScreenSize, alternate_of}
 use Rattle.toml.specs.Data.{Members, no_members}
 use Rattle.panels.specs.declared.fault.TreeFault.{TreeFault}
 use Rattle.panels.specs.Size.{model_numbered}
-use Rattle.panels.specs.Shape.{wrong_by, top_rules, panel_rules, text_rules, field_rules, wrong_in_keys}
+use Rattle.panels.specs.TableRules.{wrong_by, top_rules, panel_rules, text_rules, field_rules, wrong_in_keys}
 use Rattle.panels.specs.Tree.{text_under, text_or_empty, number_under, number, is_set, table_under, items_under, tables_in, texts_in, texts_by_key}
 
 -- a text or a field of a panel: what is wrong with its keys, and their values; what is absent is 0, false or no text
@@ -46,8 +46,8 @@ pub record DraftText : Type 0 where
   pub panels : List DraftPanel
 
 -- the size of the screen on which a panel is laid out: the alternate size of its model
-abbrev pub draft_shape : DraftPanel → Shape
-draft_shape panel = alternate_of (model_numbered panel.model)
+abbrev pub draft_size : DraftPanel → ScreenSize
+draft_size panel = alternate_of (model_numbered panel.model)
 
 -- the name of the panel that is shown instead in a session of another model; None for model 2, which any session shows
 abbrev pub otherwise_of : DraftPanel → Option (List ℕ)

@@ -2,7 +2,7 @@
 use Rattle.std.specs.Prelude.{◌≡◌, ℕ, ◌<◌, ◌==◌, nat_lt, Bool, true, false, not, ◌||◌, ◌⊎◌, List, [], ◌∷◌, length, Option, Some, None, is_some, option_map, option_and_then, slice_get, bytes_eq, IsTrue, ℤ, pos, Contains, if◌then◌else◌}
 use Rattle.std.specs.List.{list_any}
 use Rattle.std.specs.Option.{option_map_or}
-use Rattle.codes3270.specs.Size.{Shape, model_2}
+use Rattle.codes3270.specs.Size.{ScreenSize, model_2}
 use Rattle.panels.specs.declared.fault.TreeFault.{TreeFault}
 use Rattle.panels.specs.declared.fault.TreeFault.TheVariants.{UnknownKey, Missing, BadKind, BadName, TwiceNamed, OutOfPlace, Overlap, NoCode, NoTarget, BadKey, TooMany, BadModel}
 use Rattle.panels.specs.declared.fault.Location.{Location}
@@ -11,7 +11,7 @@ use Rattle.panels.specs.declared.fault.At.{At}
 use Rattle.panels.specs.declared.fault.At.TheVariants as place
 use Rattle.panels.specs.Limits.{most_panels, most_texts, most_fields}
 use Rattle.panels.specs.Size.{is_model_number}
-use Rattle.panels.specs.Draft.{DraftItem, DraftPanel, DraftText, draft_shape, otherwise_of}
+use Rattle.panels.specs.Draft.{DraftItem, DraftPanel, DraftText, draft_size, otherwise_of}
 use Rattle.panels.specs.Items.{is_panel_name, is_field_name, is_on_screen, is_in_place, HasCell, lacks_code}
 use Rattle.panels.specs.Keys.{is_key_name, is_asked_name}
 
@@ -33,10 +33,10 @@ item_at (Field p i) panels = option_and_then (λ panel. slice_get panel.fields i
 item_at _ panels = None
 
 -- the size of the screen on which a text or field is laid out; that of model 2 for any other part
-abbrev pub shape_at : Location → List DraftPanel → Shape
-shape_at (Text p i) panels = option_map_or draft_shape (slice_get panels p) model_2
-shape_at (Field p i) panels = option_map_or draft_shape (slice_get panels p) model_2
-shape_at _ panels = model_2
+abbrev pub size_at : Location → List DraftPanel → ScreenSize
+size_at (Text p i) panels = option_map_or draft_size (slice_get panels p) model_2
+size_at (Field p i) panels = option_map_or draft_size (slice_get panels p) model_2
+size_at _ panels = model_2
 
 -- whether the text has the part
 abbrev pub is_part : Location → List DraftPanel → Bool
@@ -99,7 +99,7 @@ IsItemBefore (Field p i) (Field q j) = (p ≡ q) × (i < j)
 IsItemBefore _ _ = ⊥
 
 -- two items, both above the message row of a screen, share a cell
-pub record Overlaps (size : Shape) (item other : DraftItem) : Type 0 where
+pub record Overlaps (size : ScreenSize) (item other : DraftItem) : Type 0 where
   pub on_screen : is_on_screen size item ≡ true
   pub other_on_screen : is_on_screen size other ≡ true
   pub cell : ℤ
@@ -172,7 +172,7 @@ abbrev pub IsOverlapping : Location → List DraftPanel → Type 0
 IsOverlapping part panels =
     (earlier : Location) × (item : DraftItem) × (other : DraftItem) × IsItemBefore earlier part
     × (item_at part panels ≡ Some item) × (item_at earlier panels ≡ Some other)
-    × Overlaps (shape_at part panels) item other
+    × Overlaps (size_at part panels) item other
 
 -- holds if a table has the fault
 abbrev pub HasFault : TreeFault → Location → DraftText → Type 0
@@ -185,7 +185,7 @@ HasFault BadKey part draft = IsTrue (has_bad_key part draft.panels)
 HasFault TwiceNamed part draft = IsTwiceNamed part draft.panels
 HasFault BadModel part draft = IsTrue (has_bad_model part draft.panels)
 HasFault OutOfPlace part draft = IsTrue
-    (option_map_or (λ item. not (is_in_place (shape_at part draft.panels) item)) (item_at part draft.panels) false)
+    (option_map_or (λ item. not (is_in_place (size_at part draft.panels) item)) (item_at part draft.panels) false)
 HasFault NoCode part draft = IsTrue (option_map_or lacks_code (item_at part draft.panels) false)
 HasFault Overlap part draft = IsOverlapping part draft.panels
 HasFault NoTarget part draft = LacksTarget part draft

@@ -3,7 +3,7 @@ use Rattle.std.specs.Prelude.{◌≡◌, ℕ, ◌==◌, ℤ, pos, ◌+ℤ◌, �
 use Rattle.std.specs.List.{list_any, list_all}
 use Rattle.std.specs.Int.{is_in_range}
 use Rattle.codes3270.specs.CodePage.{code_of}
-use Rattle.codes3270.specs.Size.{Shape}
+use Rattle.codes3270.specs.Size.{ScreenSize}
 use Rattle.panels.specs.Size.{item_rows, message_start}
 use Rattle.panels.specs.declared.extent.Extent.{Extent}
 use Rattle.panels.specs.Draft.{DraftItem}
@@ -30,11 +30,11 @@ abbrev pub is_field_name : List ℕ → Bool
 is_field_name name = is_name is_field_letter name
 
 -- the buffer address of a row and a column of a screen, both numbered from 1 on
-abbrev pub first_of : Shape → ℤ → ℤ → ℤ
+abbrev pub first_of : ScreenSize → ℤ → ℤ → ℤ
 first_of size row column = ((row -ℤ pos 1) *ℤ pos size.columns) +ℤ (column -ℤ pos 1)
 
 -- the address of an item's first character; its attribute is before it
-abbrev pub first_cell : Shape → DraftItem → ℤ
+abbrev pub first_cell : ScreenSize → DraftItem → ℤ
 first_cell size item = first_of size item.row item.column
 
 abbrev pub is_between : ℤ → ℤ → ℤ → Bool
@@ -42,30 +42,30 @@ is_between low high value = int_le low value && int_le value high
 
 -- whether an item with its first character at an address has its attribute on the screen, has a character, and ends
 -- before the message row
-abbrev pub is_above_message : Shape → ℤ → ℤ → Bool
+abbrev pub is_above_message : ScreenSize → ℤ → ℤ → Bool
 is_above_message screen_size first size = int_le (pos 1) first
     && is_between (pos 1) (pos (message_start screen_size) -ℤ first) size
 
 -- whether the item's row and column are on a screen of this size, above the message row
-abbrev pub is_in_rows : Shape → DraftItem → Bool
+abbrev pub is_in_rows : ScreenSize → DraftItem → Bool
 is_in_rows size item = is_between (pos 1) (pos (item_rows size)) item.row
     && is_between (pos 1) (pos size.columns) item.column
 
 -- whether the item, with its attribute, lies above the message row
-abbrev pub is_on_screen : Shape → DraftItem → Bool
+abbrev pub is_on_screen : ScreenSize → DraftItem → Bool
 is_on_screen size item = is_in_rows size item && is_above_message size (first_cell size item) item.size
 
 -- whether the item lies above the message row, and its fill is no longer than it
-abbrev pub is_in_place : Shape → DraftItem → Bool
+abbrev pub is_in_place : ScreenSize → DraftItem → Bool
 is_in_place size item = is_on_screen size item && int_le (pos (length (chars item.fill))) item.size
 
 -- holds if the cell is the item's attribute or one of its characters
-abbrev pub HasCell : Shape → DraftItem → ℤ → Type 0
+abbrev pub HasCell : ScreenSize → DraftItem → ℤ → Type 0
 HasCell size item cell = (first_cell size item ≤ℤ (cell +ℤ pos 1))
     × ((cell +ℤ pos 1) ≤ℤ (first_cell size item +ℤ item.size))
 
 -- holds if the extent has the item's address and its number of characters
-abbrev pub IsExtentOf : Shape → DraftItem → Extent → Type 0
+abbrev pub IsExtentOf : ScreenSize → DraftItem → Extent → Type 0
 IsExtentOf size item extent = (pos extent.first ≡ first_cell size item) × (pos extent.length ≡ item.size)
 
 abbrev pub has_no_code : ℕ → Bool

@@ -2,7 +2,7 @@ pub mod Size
 pub mod Limits
 pub mod Characters
 pub mod Tree
-pub mod Shape
+pub mod TableRules
 pub mod Rules
 pub mod Draft
 pub mod Items

@@ -6,7 +6,7 @@ use Rattle.datastream.specs.Wanted.{WantedScreen}
 use Rattle.datastream.specs.declared.wanted.Want.TheVariants as want
 use Rattle.panels.specs.declared.message.Message.{Message}
 use Rattle.panels.specs.Size.{message_start, message_room}
-use Rattle.panels.specs.Panel.{PanelParts, IsLaidOut, shape_of}
+use Rattle.panels.specs.Panel.{PanelParts, IsLaidOut, size_of}
 use Rattle.panels.specs.Screen.{Values, autoskip_attr, item_cell, message_text, screen_of}
 
 -- holds if the screen wants a character at the cell: no attribute, and nothing kept
@@ -28,9 +28,9 @@ PanelsLeaveTheRow = (panel : PanelParts) (values : Values) (message : Message) (
 abbrev pub TheRowIsTheMessage : Type 0
 TheRowIsTheMessage =
     (panel : PanelParts) (values : Values) (message : Message) (keep : Bool) (cell : ℕ) → IsLaidOut panel
-    → message_start (shape_of panel) ≤ cell → cell < cells_in (shape_of panel)
+    → message_start (size_of panel) ≤ cell → cell < cells_in (size_of panel)
     → slice_get (screen_of panel values message keep).cells cell
-    ≡ Some (item_cell (autoskip_attr true) (message_text panel.fields message) (cell - message_start (shape_of panel)))
+    ≡ Some (item_cell (autoskip_attr true) (message_text panel.fields message) (cell - message_start (size_of panel)))
 
 -- The room for a message reaches from the message row's attribute to the end of the screen.
 abbrev pub TheRoomIsTheRow : Type 0

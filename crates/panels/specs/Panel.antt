@@ -1,7 +1,7 @@
 -- What a panel consists of, and what holds of the panels of each text (our profile).
 use Rattle.std.specs.Prelude.{◌≡◌, ◌≢◌, ℕ, ◌<◌, ◌≤◌, ◌+◌, Bool, true, false, List, length, Option, Some, None, option_and_then, unwrap_or, slice_get, All, if◌then◌else◌}
 use Rattle.std.specs.Option.{option_map_or}
-use Rattle.codes3270.specs.Size.{Shape, cells_in, alternate_of}
+use Rattle.codes3270.specs.Size.{ScreenSize, cells_in, alternate_of}
 use Rattle.codes3270.specs.declared.size.Model.{Model}
 use Rattle.codes3270.specs.declared.size.Model.TheVariants.{M2, M3, M4, M5}
 use Rattle.codes3270.specs.declared.attention.Aid.{Aid}
@@ -28,8 +28,8 @@ pub record PanelParts : Type 0 where
   pub asked : List Bool
 
 -- the size of the screen on which a panel is laid out
-abbrev pub shape_of : PanelParts → Shape
-shape_of panel = alternate_of panel.model
+abbrev pub size_of : PanelParts → ScreenSize
+size_of panel = alternate_of panel.model
 
 -- the index of the panel that a key leads to, if any
 abbrev pub target_at : List (Option ℕ) → ℕ → Option ℕ
@@ -83,14 +83,14 @@ HaveOtherwise set = (number : ℕ) (panel : PanelParts) → slice_get set.panels
     → IsOtherwise set.panels panel.model panel.otherwise
 
 -- holds if the item lies above the message row of the screen
-abbrev pub IsAbove : Shape → Extent → Type 0
+abbrev pub IsAbove : ScreenSize → Extent → Type 0
 IsAbove size extent = extent.first + extent.length ≤ message_start size
 
 -- all items of a panel lie above the message row of its screen, and its cursor is on the screen
 pub record IsLaidOut (panel : PanelParts) : Type 0 where
-  pub texts : All (λ text. IsAbove (shape_of panel) text.extent) panel.texts
-  pub fields : All (λ field. IsAbove (shape_of panel) field.extent) panel.fields
-  pub cursor : panel.cursor < cells_in (shape_of panel)
+  pub texts : All (λ text. IsAbove (size_of panel) text.extent) panel.texts
+  pub fields : All (λ field. IsAbove (size_of panel) field.extent) panel.fields
+  pub cursor : panel.cursor < cells_in (size_of panel)
 
 abbrev pub AreLaidOut : Panels → Type 0
 AreLaidOut set = (number : ℕ) (panel : PanelParts) → slice_get set.panels number ≡ Some panel → IsLaidOut panel

@@ -1,6 +1,6 @@
 -- How things are put on a wanted screen, one over another (our profile; only for the contracts of private functions).
 use Rattle.std.specs.Prelude.{◌≡◌, codes, ℕ, ◌+◌, ◌-◌, ◌<◌, nat_lt, true, List, [], ◌++◌, Option, Some, None, option_and_then, unwrap_or, slice_index_or, if◌then◌else◌}
-use Rattle.codes3270.specs.Size.{Shape, cells_in}
+use Rattle.codes3270.specs.Size.{ScreenSize, cells_in}
 use Rattle.codes3270.specs.declared.attribute.Attr.{Attr}
 use Rattle.datastream.specs.Wanted.{WantedScreen}
 use Rattle.datastream.specs.declared.wanted.Want.{Want}
@@ -20,7 +20,7 @@ abbrev pub IsPut : (ℕ → Option Want) → WantedScreen → WantedScreen → T
 IsPut put old new = (new.size ≡ old.size) × ArePut (cells_in old.size) put old.cells new.cells
 
 -- holds if an item and the cell after it are on a screen
-abbrev pub FitsOn : Shape → Extent → Type 0
+abbrev pub FitsOn : ScreenSize → Extent → Type 0
 FitsOn size extent = extent.first + extent.length < cells_in size
 
 -- the cell of an item with this content, or of a kept field, at a distance from the attribute

@@ -18,7 +18,7 @@ use Rattle.panels.specs.declared.panel.Field.{Field}
 use Rattle.panels.specs.declared.message.Message.{Message}
 use Rattle.panels.specs.declared.message.Message.TheVariants.{Fresh, Plain, KeyNotActive, Required, Told}
 use Rattle.panels.specs.Size.{message_start}
-use Rattle.panels.specs.Panel.{PanelParts, shape_of}
+use Rattle.panels.specs.Panel.{PanelParts, size_of}
 use Rattle.panels.specs.Values.{value_of}
 
 -- the values of fields, by the fields' numbers
@@ -124,7 +124,7 @@ wanted_cell panel values message keep cell =
     unwrap_or
     (option_or (first_some (text_cell values cell) panel.texts)
     (option_or (first_some (field_cell values message keep cell) panel.fields)
-    (option_or (message_cell (message_start (shape_of panel)) panel.fields message cell)
+    (option_or (message_cell (message_start (size_of panel)) panel.fields message cell)
     (first_some (stopper_cell cell) panel.fields))))
     (want.Char 0)
 
@@ -143,8 +143,8 @@ wanted_cursor panel message =
 -- the screen is the one that the panel asks for
 pub record IsWantedOf (panel : PanelParts) (values : Values) (message : Message) (keep : Bool)
     (screen : WantedScreen) : Type 0 where
-  pub size : screen.size ≡ shape_of panel
-  pub cells : (cell : ℕ) → cell < cells_in (shape_of panel)
+  pub size : screen.size ≡ size_of panel
+  pub cells : (cell : ℕ) → cell < cells_in (size_of panel)
       → slice_get screen.cells cell ≡ Some (wanted_cell panel values message keep cell)
   pub cursor : screen.cursor ≡ wanted_cursor panel message
   pub reset : screen.reset ≡ is_fresh message
@@ -152,8 +152,8 @@ pub record IsWantedOf (panel : PanelParts) (values : Values) (message : Message)
 -- the screen that the panel asks for
 abbrev pub screen_of : PanelParts → Values → Message → Bool → WantedScreen
 screen_of panel values message keep = record {
-  size = shape_of panel;
-  cells = map (wanted_cell panel values message keep) (range_with_len 0 (cells_in (shape_of panel)));
+  size = size_of panel;
+  cells = map (wanted_cell panel values message keep) (range_with_len 0 (cells_in (size_of panel)));
   cursor = wanted_cursor panel message;
   reset = is_fresh message;
 }

@@ -3,17 +3,17 @@ use Rattle.std.specs.Prelude.{ℕ, ◌-◌, ◌*◌, ℤ, pos, int_le, Bool, ◌
 use Rattle.std.specs.Ordering.{int_eq}
 use Rattle.codes3270.specs.declared.size.Model.{Model}
 use Rattle.codes3270.specs.declared.size.Model.TheVariants.{M2, M3, M4, M5}
-use Rattle.codes3270.specs.Size.{Shape}
+use Rattle.codes3270.specs.Size.{ScreenSize}
 
 -- the number of rows for a panel's items, and the address at which the row below them starts, which is for messages
-abbrev pub item_rows : Shape → ℕ
+abbrev pub item_rows : ScreenSize → ℕ
 item_rows size = size.rows - 1
 
-abbrev pub message_start : Shape → ℕ
+abbrev pub message_start : ScreenSize → ℕ
 message_start size = item_rows size * size.columns
 
 -- the most characters of a message on a screen: its row without the attribute in the first column
-abbrev pub message_room : Shape → ℕ
+abbrev pub message_room : ScreenSize → ℕ
 message_room size = size.columns - 1
 
 -- whether a number is that of a model: 2 to 5

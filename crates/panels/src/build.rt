@@ -1,7 +1,7 @@
 //! Builds the panels that a faultless draft defines.
 ghost use Rattle.std.specs.Prelude.{◌≡◌, ◌+◌, ◌<◌, Some, None, All, Contains, IfOk, IfSome, bytes_eq, map, option_map, slice_get, length};
 ghost use Rattle.std.specs.List.{list_any};
-ghost use Rattle.panels.specs.Draft.{draft_shape, otherwise_of};
+ghost use Rattle.panels.specs.Draft.{draft_size, otherwise_of};
 ghost use Rattle.panels.specs.Keys.{key_names};
 ghost use Rattle.panels.specs.Passes.{IsFaultless};
 ghost use Rattle.panels.specs.Defines.{fields_before, IsContentOf, IsTextOf, IsEachOf, IsCursorBy, IsOtherwiseBy, IsPanelOf, IsTargetBy, Defines, text_at_key};
@@ -47,7 +47,7 @@ impl<'a> Draft<'a> {
         requires faultless { IsFaultless self.now }
         requires there { Contains self.now.panels panel.now }
         ensures { IfOk result
-            (λ texts. IsEachOf (λ i. IsTextOf (draft_shape panel.now) self.now.panels) panel.now.texts texts.items) }
+            (λ texts. IsEachOf (λ i. IsTextOf (draft_size panel.now) self.now.panels) panel.now.texts texts.items) }
     {
         let mut texts = Vec::new(alloc);
         let size = panel.size();

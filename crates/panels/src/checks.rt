@@ -1,6 +1,6 @@
 //! Finds the faults of a draft, table by table.
 ghost use Rattle.std.specs.Prelude.{◌≡◌, ◌↔◌, ◌+◌, ◌<◌, IfOk, IsTrue, OnOk, length, ◌≤ℤ◌, ◌<ℤ◌, ◌-ℤ◌, ◌&&◌, ℕ, Some, true, false, MatchOption, pos, chars, List, Contains, bytes_eq, map, not, option_map};
-ghost use Rattle.panels.specs.Faults.{HasFault, is_part, faults_of, IsOverlapping, Overlaps, item_at, shape_at, HasFieldNamed, HasLostCursor, has_key_twice, has_strange_key, asks_twice, HasLostOtherwise, IsBasePanelNamed, NamesBasePanel, NamesPanel, NamesField, name_at};
+ghost use Rattle.panels.specs.Faults.{HasFault, is_part, faults_of, IsOverlapping, Overlaps, item_at, size_at, HasFieldNamed, HasLostCursor, has_key_twice, has_strange_key, asks_twice, HasLostOtherwise, IsBasePanelNamed, NamesBasePanel, NamesPanel, NamesField, name_at};
 ghost use Rattle.panels.specs.Listing.{AreFaultsOf};
 ghost use Rattle.panels.specs.Walk.{turn_at, turn_behind, AreFoundTo, IsAdded, nth, is_letter_of};
 ghost use Rattle.panels.specs.Size.{item_rows, message_start};
@@ -169,7 +169,7 @@ impl<'a> Draft<'a> {
 
     /// Whether an extent shares a cell with one of the first `count` items of an array, on a screen of this size.
     /// `array` is any item of that array.
-    fn meets_one(&self, size: Size, extent: Extent, array: Location, count: usize) -> bool
+    fn overlaps_any(&self, size: Size, extent: Extent, array: Location, count: usize) -> bool
         ensures { (item : DraftItem) → (is_on_screen size item ≡ true) × IsExtentOf size item extent
             → (IsTrue result ↔ ((j : ℕ) × (other : DraftItem) × (j < count)
             × (item_at (nth array j) self.now.panels ≡ Some other) × Overlaps size item other)) }
@@ -194,11 +194,11 @@ impl<'a> Draft<'a> {
             return false;
         };
         match part {
-            Location::Text(_, text) => self.meets_one(size, extent, part, text),
+            Location::Text(_, text) => self.overlaps_any(size, extent, part, text),
             Location::Field(panel, field) => {
                 let texts = self.panel(panel).map_or(0, |draft| draft.texts.len());
-                self.meets_one(size, extent, Location::Text(panel, 0), texts)
-                    || self.meets_one(size, extent, part, field)
+                self.overlaps_any(size, extent, Location::Text(panel, 0), texts)
+                    || self.overlaps_any(size, extent, part, field)
             }
             Location::Top | Location::Panel(_) | Location::Keys(_) => false,
         }

@@ -4,7 +4,7 @@ ghost use Rattle.toml.specs.Data.{no_members};
 ghost use Rattle.toml.specs.View.{table_view};
 ghost use Rattle.panels.specs.Draft.{panel_of, draft_of};
 ghost use Rattle.panels.specs.Rules.{item_in};
-ghost use Rattle.panels.specs.Shape.{wrong_in_keys};
+ghost use Rattle.panels.specs.TableRules.{wrong_in_keys};
 ghost use Rattle.panels.specs.Tree.{items_under, table_under, tables_in, texts_in, texts_by_key};
 
 use crate::draft::{Draft, ItemDraft, PanelDraft};

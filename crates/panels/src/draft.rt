@@ -1,7 +1,7 @@
 //! Drafts: what the tables of a panel text say, by the types of their keys, before faults are looked for.
 ghost use Rattle.std.specs.Prelude.{◌≡◌, not, option_copied, option_map, slice_get};
-ghost use Rattle.panels.specs.Draft.{draft_shape, otherwise_of};
-ghost use Rattle.panels.specs.Faults.{item_at, name_at, shape_at, wrong_at};
+ghost use Rattle.panels.specs.Draft.{draft_size, otherwise_of};
+ghost use Rattle.panels.specs.Faults.{item_at, name_at, size_at, wrong_at};
 ghost use Rattle.panels.specs.Size.{is_model_number, model_numbered};
 
 use crate::fault::{Location, TreeFault};
@@ -132,7 +132,7 @@ impl<'a> PanelDraft<'a> {
 
     /// The size of the screen on which it is laid out.
     pub(crate) fn size(&self) -> Size
-        ensures { result ≡ draft_shape self.now }
+        ensures { result ≡ draft_size self.now }
     {
         self.model().alternate()
     }
@@ -176,7 +176,7 @@ impl<'a> Draft<'a> {
 
     /// The size of the screen on which a text or field is laid out; that of model 2 for any other part.
     pub(crate) fn size(&self, part: Location) -> Size
-        ensures { result ≡ shape_at part self.now.panels }
+        ensures { result ≡ size_at part self.now.panels }
     {
         match part {
             Location::Text(panel, _) | Location::Field(panel, _) => {

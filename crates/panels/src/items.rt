@@ -2,7 +2,7 @@
 ghost use Rattle.std.specs.Prelude.{◌≡◌, ◌↔◌, ◌≤ℤ◌, ◌<ℤ◌, ◌-ℤ◌, ◌<◌, ◌&&◌, ℕ, Some, IsTrue, true, false, MatchOption, pos, chars, length};
 ghost use Rattle.panels.specs.Size.{item_rows, message_start};
 ghost use Rattle.panels.specs.Draft.{DraftItem};
-ghost use Rattle.panels.specs.Faults.{IsOverlapping, Overlaps, item_at, shape_at};
+ghost use Rattle.panels.specs.Faults.{IsOverlapping, Overlaps, item_at, size_at};
 ghost use Rattle.panels.specs.Items.{IsExtentOf, is_in_rows, is_on_screen, is_in_place, lacks_code, is_above_message, first_of};
 ghost use Rattle.panels.specs.Walk.{nth};
 

@@ -1,7 +1,7 @@
 //! Panels and their items.
 ghost use Rattle.std.specs.Prelude.{◌≡◌, option_copied};
 ghost use Rattle.panels.specs.Names.{field_in};
-ghost use Rattle.panels.specs.Panel.{is_shown, shape_of};
+ghost use Rattle.panels.specs.Panel.{is_shown, size_of};
 
 use crate::characters::Characters;
 use crate::extent::Extent;
@@ -108,7 +108,7 @@ impl Panel {
 
     /// The size of its screen: the alternate size of its model.
     pub fn size(&self) -> Size
-        ensures { result ≡ shape_of self.now }
+        ensures { result ≡ size_of self.now }
     {
         self.model.alternate()
     }

@@ -5,7 +5,7 @@ ghost use Rattle.codes3270.specs.declared.size.Model.TheVariants.{M2};
 ghost use Rattle.codes3270.specs.declared.attention.Aid.{Aid};
 ghost use Rattle.panels.specs.Keys.{IsKey};
 ghost use Rattle.panels.specs.Names.{field_named, panel_named};
-ghost use Rattle.panels.specs.Panel.{Panels, AreSound, is_shown, shape_of, shown_in, target_of};
+ghost use Rattle.panels.specs.Panel.{Panels, AreSound, is_shown, size_of, shown_in, target_of};
 
 use crate::panel::{Field, Panel};
 use codes3270::Model;
@@ -61,7 +61,7 @@ impl PanelSet {
             → target_of panel.now aid ≡ Some target → target < length self.now.panels) }
 
         // Its cursor is on its screen.
-        ensures cursor { IfSome result (λ panel. panel.now.cursor < cells_in (shape_of panel.now)) }
+        ensures cursor { IfSome result (λ panel. panel.now.cursor < cells_in (size_of panel.now)) }
     {
         self.panels.as_slice().get(index)
     }

@@ -12,7 +12,7 @@
 ghost use Rattle.std.specs.Prelude.{◌≡◌, map, option_map};
 ghost use Rattle.toml.specs.View.{view, table_view};
 ghost use Rattle.panels.specs.Rules.{rule_of, rules_of_item};
-ghost use Rattle.panels.specs.Shape.{is_of_kind, is_known, is_lacking, is_missing, breaks_needs, breaks_kinds, top_rules, panel_rules, text_rules, field_rules, wrong_by as fault_by};
+ghost use Rattle.panels.specs.TableRules.{is_of_kind, is_known, is_lacking, is_missing, breaks_needs, breaks_kinds, top_rules, panel_rules, text_rules, field_rules, wrong_by as fault_by};
 
 use crate::fault::TreeFault;
 use crate::tree::value_at;

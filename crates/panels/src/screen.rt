@@ -8,7 +8,7 @@ ghost use Rattle.datastream.specs.declared.wanted.Want.TheVariants.{Char};
 ghost use Rattle.panels.specs.Characters.{AreCharacters};
 ghost use Rattle.panels.specs.Screen.{distance_in, autoskip_attr, text_cell, first_some, field_cell, field_numbered, stopper_cell, IsWantedOf, screen_of};
 ghost use Rattle.panels.specs.declared.message.Message.TheVariants.{Fresh};
-ghost use Rattle.panels.specs.Panel.{shape_of};
+ghost use Rattle.panels.specs.Panel.{size_of};
 ghost use Rattle.panels.specs.Put.{FitsOn, IsPut, cell_with, field_spoken, row_cell, text_with};
 ghost use Rattle.panels.specs.Size.{message_start};
 
@@ -185,7 +185,7 @@ impl Panel {
 
     /// Puts the screen that the panel asks for on `wanted`, which must have the panel's size and a null in each cell.
     pub fn put_wanted(&self, wanted: &mut Wanted, values: &Values, message: Message, keep: bool)
-        requires size { wanted.old.size ≡ shape_of self.now }
+        requires size { wanted.old.size ≡ size_of self.now }
         requires nulls { wanted.old.cells ≡ replicate (cells_in wanted.old.size) (Char 0) }
         requires fresh { (message ≡ Fresh) → keep ≡ false }
         ensures wanted { IsWantedOf self.now values.now message keep wanted.new }
@@ -196,7 +196,7 @@ impl Panel {
 
     /// Puts the screen that the panel asks for; the contract requires the nulls cell by cell.
     fn put_items(&self, wanted: &mut Wanted, values: &Values, message: Message, keep: bool)
-        requires size { wanted.old.size ≡ shape_of self.now }
+        requires size { wanted.old.size ≡ size_of self.now }
         requires nulls { (cell : ℕ) (default : WantValue) → cell < cells_in wanted.old.size
             → slice_index_or wanted.old.cells cell default ≡ Char 0 }
         requires fresh { (message ≡ Fresh) → keep ≡ false }

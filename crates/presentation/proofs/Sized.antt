@@ -2,7 +2,7 @@
 use Rattle.std.proofs.Common.{◌≡◌, ℕ, ◌<◌, ◌≤◌, true, List, length, replicate, ◌∙◌, sym, subst, arith}
 use Rattle.std.proofs.lemmas.List.{length-replicate}
 use Rattle.std.proofs.lemmas.List.Elements.{All-replicate}
-use Rattle.codes3270.specs.Size.{Shape, cells_in, most_cells}
+use Rattle.codes3270.specs.Size.{ScreenSize, cells_in, most_cells}
 use Rattle.codes3270.specs.declared.size.Model.{Model}
 use Rattle.codes3270.specs.declared.attention.Aid.{Aid}
 use Rattle.codes3270.specs.declared.attention.Aid.TheVariants.{NoAid}
@@ -14,7 +14,7 @@ use Rattle.presentation.specs.Sizes.{SizedScreen, HasSize, IsSized}
 
 -- ---- by the parts of a screen
 
-abbrev pub sized : Model → Shape → ℕ → Aid → List Cell → SizedScreen
+abbrev pub sized : Model → ScreenSize → ℕ → Aid → List Cell → SizedScreen
 sized model size cursor aid cells = record { model = model; size = size; screen = record { cells = cells; cursor = cursor; aid = aid } }
 
 -- another screen with as many cells
@@ -29,7 +29,7 @@ changed_sized old cells new cursor is same sendable whole =
     subst (λ (all : List Cell). IsSized (sized old.model old.size cursor old.screen.aid all)) (sym is)
     (sized_with old (record { cells = cells; cursor = cursor; aid = old.screen.aid }) same sendable whole)
 
-pub blank_sized : (model : Model) (size : Shape) → HasSize model size → 0 < cells_in size → cells_in size ≤ most_cells
+pub blank_sized : (model : Model) (size : ScreenSize) → HasSize model size → 0 < cells_in size → cells_in size ≤ most_cells
     → IsSized (sized model size 0 NoAid (replicate (cells_in size) (Char 0)))
 blank_sized model size has some few =
     let count : length (replicate (cells_in size) (Char 0)) ≡ cells_in size = length-replicate (cells_in size) (Char 0) in

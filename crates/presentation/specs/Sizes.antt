@@ -1,6 +1,6 @@
 -- A screen with its model and its size (GA23-0059-07 on screen sizes).
 use Rattle.std.specs.Prelude.{◌≡◌, ◌⊎◌, length}
-use Rattle.codes3270.specs.Size.{Shape, alternate_of, cells_in, model_2}
+use Rattle.codes3270.specs.Size.{ScreenSize, alternate_of, cells_in, model_2}
 use Rattle.codes3270.specs.declared.size.Model.{Model}
 use Rattle.datastream.specs.Grammar.{CommandParts, size_after}
 use Rattle.datastream.specs.InboundFields.{IsSendable}
@@ -10,11 +10,11 @@ use Rattle.datastream.specs.Screen.{Screen, blank_screen}
 -- the screen of a terminal of a model, with its current size
 pub record SizedScreen : Type 0 where
   pub model : Model
-  pub size : Shape
+  pub size : ScreenSize
   pub screen : Screen
 
 -- holds if the size is one of the model's two: 24 by 80, or the alternate size
-abbrev pub HasSize : Model → Shape → Type 0
+abbrev pub HasSize : Model → ScreenSize → Type 0
 HasSize model size = (size ≡ model_2) ⊎ (size ≡ alternate_of model)
 
 -- holds if there is a cell for each address of the size, the size is one of the model's, and the screen can be sent

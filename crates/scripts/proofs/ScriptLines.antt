@@ -7,7 +7,7 @@ use Rattle.world3270.specs.model.NoteTexts.{note_text}
 use Rattle.jobs.specs.HexLines.{words_of}
 use Rattle.scripts.specs.ScriptLines.{code_before, coded, note_of, typed_text, command_of_verb, command_of_number, command_of_text, command_of_words, script_command}
 use Rattle.jobs.specs.LineParts.{behind, number_of}
-use Rattle.jobs.proofs.LineParts.{IsCut, IsWhole, one_word, some_words, word_more}
+use Rattle.jobs.proofs.LineParts.{SplitsAtBlank, HasNoBlank, one_word, some_words, word_more}
 
 -- ---- notes
 
@@ -50,19 +50,19 @@ module _ (text left front : List ℕ) (so_far : coded (chars text) ≡ codes_beh
 
 -- ---- words
 
-pub read_by_verb : (line : List ℕ) → IsWhole line → script_command line ≡ command_of_verb line
+pub read_by_verb : (line : List ℕ) → HasNoBlank line → script_command line ≡ command_of_verb line
 unfolding script_command
 read_by_verb line whole = ap (λ (words : List (List ℕ)). command_of_words words (typed_text line)) (one_word line whole)
 
-module _ (line verb rest : List ℕ) (cut : IsCut line verb rest) where
+module _ (line verb rest : List ℕ) (cut : SplitsAtBlank line verb rest) where
   words_behind : (words : List (List ℕ)) → words_of rest ≡ words → script_command line ≡ command_of_words (verb ∷ words) (behind rest)
   unfolding script_command
   words_behind words is = λ i. command_of_words ((word_more line verb rest cut ∙ ap (λ (others : List (List ℕ)). verb ∷ others) is) i) (behind (sym cut.2 i))
 
-  pub read_by_number : IsWhole rest → script_command line ≡ option_and_then (command_of_number verb) (number_of rest)
+  pub read_by_number : HasNoBlank rest → script_command line ≡ option_and_then (command_of_number verb) (number_of rest)
   read_by_number whole = words_behind (rest ∷ []) (one_word rest whole)
 
-  pub read_by_text : (number text : List ℕ) → IsCut rest number text → script_command line ≡ option_and_then (λ number. command_of_text verb number text) (number_of number)
+  pub read_by_text : (number text : List ℕ) → SplitsAtBlank rest number text → script_command line ≡ option_and_then (λ number. command_of_text verb number text) (number_of number)
   read_by_text number text more =
       let words = some_words text in
       words_behind (number ∷ words.0 ∷ words.1) (word_more rest number text more ∙ ap (λ (others : List (List ℕ)). number ∷ others) words.2)

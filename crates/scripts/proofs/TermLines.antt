@@ -2,13 +2,13 @@
 use Rattle.std.proofs.Common.{◌≡◌, ◌∙◌, ap, sym, ℕ, List, ◌∷◌}
 use Rattle.jobs.specs.LineParts.{behind}
 use Rattle.scripts.specs.TermLines.{command_of_verb, command_of_words, command_of_text, terminal_command}
-use Rattle.jobs.proofs.LineParts.{IsWhole, IsCut, one_word, some_words, word_more}
+use Rattle.jobs.proofs.LineParts.{HasNoBlank, SplitsAtBlank, one_word, some_words, word_more}
 
-pub read_by_verb : (line : List ℕ) → IsWhole line → terminal_command line ≡ command_of_verb line
+pub read_by_verb : (line : List ℕ) → HasNoBlank line → terminal_command line ≡ command_of_verb line
 unfolding terminal_command
 read_by_verb line whole = ap (λ (words : List (List ℕ)). command_of_words words (behind line)) (one_word line whole)
 
-pub read_by_text : (line verb text : List ℕ) → IsCut line verb text → terminal_command line ≡ command_of_text verb text
+pub read_by_text : (line verb text : List ℕ) → SplitsAtBlank line verb text → terminal_command line ≡ command_of_text verb text
 unfolding terminal_command
 read_by_text line verb text cut =
     let words = some_words text in

@@ -3,7 +3,7 @@ ghost use Rattle.std.specs.Prelude.{◌≡◌, true, string_bytes, IfOk, IfErr};
 ghost use Rattle.std.specs.Str.{IsCharBoundary};
 ghost use Rattle.job_streams.specs.Runs.{ending_of};
 ghost use Rattle.scripts.specs.PageJobRuns.{EndsPrinting};
-ghost use Rattle.applications.specs.PanelHosts.{HasNoWorld};
+ghost use Rattle.applications.specs.PanelHosts.{DefinesNoHost};
 ghost use Rattle.scripts.specs.Scripts.{IsScriptPage, IsWorldOf, behind_line, is_at_mark, mark_place, panel_text, script_text};
 ghost use Rattle.scripts.specs.declared.page_job.PageJob.TheVariants.{Script};
 
@@ -47,7 +47,7 @@ struct ScriptPage {
 /// Plays the script of an input in the world of its panel text.
 fn page_of_script(alloc: Global, terminals: Terminals, input: &str) -> Result<ScriptPage, Fault>
     ensures page { IfOk result (λ page. IsScriptPage terminals input.now (string_bytes page.text) page.stopped) }
-    ensures fault { IfErr result (HasNoWorld (panel_text input.now)) }
+    ensures fault { IfErr result (DefinesNoHost (panel_text input.now)) }
 {
     let (panel_text, script) = parted(input);
     let mut world = match world_of(alloc, terminals, panel_text) {
@@ -109,7 +109,7 @@ pub fn parted(input: &str) -> (&str, &str)
 /// The world of a panel text: its panels, a pool of their LUs, a host for these terminals, and a script's terminals.
 fn world_of(alloc: Global, terminals: Terminals, text: &str) -> Result<World, Fault>
     ensures world { IfOk result (IsWorldOf terminals text.now) }
-    ensures fault { IfErr result (HasNoWorld text.now) }
+    ensures fault { IfErr result (DefinesNoHost text.now) }
 {
     let (panels, pool) = match application_of(alloc, text) {
         Ok(parts) => parts,

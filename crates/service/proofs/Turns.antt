@@ -1,6 +1,6 @@
 -- What a turn of a connection computes, by the calls that it makes.
 use Rattle.std.proofs.Common.{◌≡◌, ◌∙◌, ℕ, List, [], ◌∷◌, Option, Some, None, Result, length, ap, refl, subst, sym}
-use Rattle.host_core.specs.State.{Host, connection_at, phase_of, service_at}
+use Rattle.host_core.specs.State.{Host, connection_at, phase_of, state_at}
 use Rattle.host_core.specs.declared.phase.Phase.{Phase}
 use Rattle.host_core.specs.declared.serving.Served.{Served}
 use Rattle.job_streams.specs.declared.fault.Fault.{Fault}
@@ -14,7 +14,7 @@ use Rattle.service.specs.declared.connection_info.ConnectionInfo.{ConnectionInfo
 use Rattle.service.specs.declared.server_core.ServerCore.{ServerCore}
 
 pub ending_is : (conn : ℕ) (new : Host) (answer : Served) (phase : Phase) (ending : Option Ending) → ending ≡ ending_of phase answer
-    → phase ≡ phase_of (service_at conn new) → ending ≡ ending_after conn answer new
+    → phase ≡ phase_of (state_at conn new) → ending ≡ ending_after conn answer new
 ending_is conn new answer phase ending e is = e ∙ ap (λ it. ending_of it answer) is
 
 pub any_is : {A : Type 0} (event : A → Event) (found : Option A) (one : A) → found ≡ Some one → if_any event found ≡ event one ∷ []

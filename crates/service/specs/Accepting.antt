@@ -1,7 +1,7 @@
 -- The connections that a server accepts (our profile).
 use Rattle.std.specs.Prelude.{◌≡◌, ◌≤◌, ◌<◌, ◌⊎◌, ℕ, zero, suc, [], ◌∷◌, slice_set, Option, Some, None, Result, Ok, Err}
 use Rattle.applications.specs.SessionNames.{session_after}
-use Rattle.host_core.specs.State.{Host, most_connections, phase_of, service_at, with_opened}
+use Rattle.host_core.specs.State.{Host, most_connections, phase_of, state_at, with_opened}
 use Rattle.host_core.specs.declared.phase.Phase.TheVariants as phase
 use Rattle.job_streams.specs.declared.fault.Fault.{Fault}
 use Rattle.job_streams.specs.declared.fault.Fault.TheVariants as fault
@@ -30,7 +30,7 @@ most_accepted = 65536
 -- holds if `conn` is the least free connection number
 pub record IsLeastFree (conn : ℕ) (host : Host) : Type 0 where
   pub is_number : conn < most_connections
-  pub is_free : phase_of (service_at conn host) ≡ phase.Free
+  pub is_free : phase_of (state_at conn host) ≡ phase.Free
   pub least : AreTaken conn host
 
 module _ {S : Type 0} where

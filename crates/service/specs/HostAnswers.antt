@@ -10,7 +10,7 @@ use Rattle.host_core.specs.Application.{application_of}
 use Rattle.host_core.specs.Does.{DoesAnswer}
 use Rattle.host_core.specs.Questions.{HasTexts, answered_by, question_of}
 use Rattle.host_core.specs.Reports.{Reports}
-use Rattle.host_core.specs.State.{Host, connection_at, service_at, session_at, with_connection, with_reports}
+use Rattle.host_core.specs.State.{Host, connection_at, state_at, session_at, with_connection, with_reports}
 use Rattle.host_core.specs.declared.acted.Acted.{Acted}
 use Rattle.host_core.specs.declared.question.Answer.{Answer}
 use Rattle.host_core.specs.declared.question.Question.{Question}
@@ -30,17 +30,17 @@ use Rattle.service.specs.declared.server_core.ServerCore.{ServerCore}
 -- Holds if the answer is the open question of a connection, or None. Memory is refused only if the question has texts.
 abbrev pub AsksHost : (conn : ℕ) → Host → Result (Option Question) Fault → Type 0
 AsksHost conn host (Ok question) =
-    question ≡ question_of (application_of host.panels) (session_at conn host) (service_at conn host)
+    question ≡ question_of (application_of host.panels) (session_at conn host) (state_at conn host)
 AsksHost conn host (Err why) =
     (why ≡ fault.NoMemory)
-    × HasTexts (question_of (application_of host.panels) (session_at conn host) (service_at conn host))
+    × HasTexts (question_of (application_of host.panels) (session_at conn host) (state_at conn host))
 
 -- Holds if the host takes the answer to the question with this ticket. The answer is shown only if that question is
 -- still open. No other connection changes.
 pub record TakesAnswer (conn : ℕ) (ticket : Ticket) (answer : Answer) (old : Host) (acted : Acted)
     (new : Host) : Type 0 where
   pub does : DoesAnswer (application_of old.panels) answer
-      (answered_by (application_of old.panels) (session_at conn old) ticket answer (service_at conn old))
+      (answered_by (application_of old.panels) (session_at conn old) ticket answer (state_at conn old))
       (connection_at conn old) acted (connection_at conn new)
   pub others : new ≡ with_connection conn (connection_at conn new) old
 

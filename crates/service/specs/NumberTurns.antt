@@ -3,7 +3,7 @@ use Rattle.std.specs.Prelude.{◌≡◌, ◌≢◌, ◌==◌, not, ℕ, Bool, fa
 use Rattle.std.specs.declared.io.Error.{Error}
 use Rattle.host_core.specs.Reports.{Reports, events_of, no_reports}
 use Rattle.host_core.specs.Serves.{Serves}
-use Rattle.host_core.specs.State.{Host, connection_at, given_up, phase_of, reports_at, service_at, with_reports}
+use Rattle.host_core.specs.State.{Host, connection_at, given_up, phase_of, reports_at, state_at, with_reports}
 use Rattle.host_core.specs.declared.event.HostEvent.{HostEvent}
 use Rattle.host_core.specs.declared.event.HostEvent.TheVariants as event
 use Rattle.host_core.specs.declared.serving.Served.{Served}
@@ -78,7 +78,7 @@ module _ {S : Type 0} where
 
 -- why the connection is over after the turn; None if it continues
 abbrev pub ending_after : ℕ → Served → (after : Host) → Option Ending
-ending_after conn answer after = ending_of (phase_of (service_at conn after)) answer
+ending_after conn answer after = ending_of (phase_of (state_at conn after)) answer
 
 module _ {S : Type 0} where
   -- the server once the host has served a connection, and all of it was reported

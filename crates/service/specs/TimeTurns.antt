@@ -1,7 +1,7 @@
 -- What the time limits do to connections after a turn (our profile). Times are milliseconds of the server's time.
 use Rattle.std.specs.Prelude.{◌≡◌, ◌&&◌, ⊤, ℕ, Bool, true, false, [], ◌∷◌, slice_set, Option, Some, None, Result, Ok, Err, if◌then◌else◌}
 use Rattle.host_core.specs.KeepAlive.{kept_alive as with_nop, may_keep_alive}
-use Rattle.host_core.specs.State.{Host, connection_at, pending_of, phase_of, service_at, turn_of, with_connection}
+use Rattle.host_core.specs.State.{Host, connection_at, pending_of, phase_of, state_at, turn_of, with_connection}
 use Rattle.job_streams.specs.declared.fault.Fault.{Fault}
 use Rattle.jobs.specs.declared.service.TimeLimits.{TimeLimits}
 use Rattle.service_events.specs.Timing.{are_applied, awaited_on, due, heard, is_unanswered, kept_alive}
@@ -20,8 +20,8 @@ use Rattle.service.specs.declared.server_core.ServerCore.{ServerCore}
 
 -- what a connection waits for
 abbrev pub awaited_at : ℕ → Host → Awaited
-awaited_at conn host = awaited_on (phase_of (service_at conn host)) (turn_of (service_at conn host))
-    (pending_of (service_at conn host))
+awaited_at conn host = awaited_on (phase_of (state_at conn host)) (turn_of (state_at conn host))
+    (pending_of (state_at conn host))
 
 -- the result of a call, without its `did`
 abbrev pub done : Result Bool Fault → Result Unit Fault

@@ -11,7 +11,7 @@ use crate::service_turn::{TurnParts, take_turns};
 use crate::uptime::Uptime;
 use crate::watcher::{Unwatched, Watcher};
 use application_http::{Endpoint, EndpointFault};
-use applications::{Refusing, draw_boot, first_asked, host_of, refuse_asking};
+use applications::{JobWithoutApplication, draw_boot, first_asked, host_of, refuse_asking};
 use host_core::{Host, Terminals};
 use jiff::Timestamp;
 use job_streams::{Fault, RawRead, RawWrite, Sink, Source, read_whole, report_and_exit_code};
@@ -84,7 +84,7 @@ pub fn run_host<N: Net, I: Source, E: Sink>(
 ) -> u8 {
     match read_host(alloc, input) {
         Ok(host) => match first_asked(host.panels()) {
-            Some((panel, key)) => refuse_asking(panel, key, Refusing::Host, faults),
+            Some((panel, key)) => refuse_asking(panel, key, JobWithoutApplication::Host, faults),
             None => report_and_exit_code(serve_host(net, alloc, host, port, turns), faults),
         },
         Err(fault) => report_and_exit_code(fault, faults),
@@ -371,7 +371,7 @@ pub fn run_serve<R: Net + Clock + RandomSource, T: Iterator<Item = ()>, I: Sourc
     };
     if application.is_none() {
         if let Some((panel, key)) = first_asked(host.panels()) {
-            return refuse_asking(panel, key, Refusing::Serve, faults);
+            return refuse_asking(panel, key, JobWithoutApplication::Serve, faults);
         }
     }
     match serve(

@@ -9,7 +9,7 @@ use Rattle.shadow.specs.declared.cell_belief.CellBelief.{CellBelief}
 use Rattle.shadow.specs.declared.cell_belief.CellBelief.TheVariants.{Attr, Known as KnownPlace, Unplaced, Unknown}
 use Rattle.shadow.specs.declared.cell_belief.BeforeWrite.{BeforeWrite}
 use Rattle.shadow.specs.InPlace.{cell_known, cells_known}
-use Rattle.shadow.specs.Since.{place_stored, place_off, knowledge_of, never, cells_written, IsAsItWas, Since, is_touched, place_settled, settled}
+use Rattle.shadow.specs.Since.{belief_of_cell, place_off, knowledge_of, never, cells_written, IsAsItWas, Since, is_touched, place_settled, settled}
 use Rattle.shadow.specs.Taken.{mark_off, marks_off_if, new_cell}
 
 -- one more of a walk that changes what it passes
@@ -76,7 +76,7 @@ since_off (o ∷ os) (n ∷ ns) (q ∷ qs) h = (h.0, off_as_it_was o n q.fresh h
 
 -- ---- a cell is stored
 
-stored_known : (cell : Cell) → cell_known (place_stored cell) true ≡ new_cell cell
+stored_known : (cell : Cell) → cell_known (belief_of_cell cell) true ≡ new_cell cell
 stored_known (Char c) = refl
 stored_known (AttrCell a) = refl
 
@@ -87,8 +87,8 @@ cells_set (x ∷ ps) [] (suc i) p q = refl
 cells_set (x ∷ ps) (y ∷ qs) zero p q = refl
 cells_set (x ∷ ps) (y ∷ qs) (suc i) p q = ap (λ (ks : List Known). cell_known x y.fresh ∷ ks) (cells_set ps qs i p q)
 
-pub cells_put : (ps : List CellBelief) (qs : List BeforeWrite) (i : ℕ) (cell : Cell) (q : BeforeWrite) → q.fresh ≡ true → cells_written (set ps i (place_stored cell)) (set qs i q) ≡ set (cells_written ps qs) i (new_cell cell)
-cells_put ps qs i cell q fresh = cells_set ps qs i (place_stored cell) q ∙ ap (λ (f : Bool). set (cells_written ps qs) i (cell_known (place_stored cell) f)) fresh ∙ ap (set (cells_written ps qs) i) (stored_known cell)
+pub cells_put : (ps : List CellBelief) (qs : List BeforeWrite) (i : ℕ) (cell : Cell) (q : BeforeWrite) → q.fresh ≡ true → cells_written (set ps i (belief_of_cell cell)) (set qs i q) ≡ set (cells_written ps qs) i (new_cell cell)
+cells_put ps qs i cell q fresh = cells_set ps qs i (belief_of_cell cell) q ∙ ap (λ (f : Bool). set (cells_written ps qs) i (cell_known (belief_of_cell cell) f)) fresh ∙ ap (set (cells_written ps qs) i) (stored_known cell)
 
 fresh_as_it_was : (o n : CellBelief) → IsAsItWas o n true
 fresh_as_it_was o (Attr a m t) = tt

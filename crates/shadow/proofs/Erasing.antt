@@ -35,7 +35,7 @@ cells_from_nulls size wcc orders screen plain nulls start =
 
 erase_cells : (command : CommandParts) → IsSpelt command → is_plain command ≡ true
     → (after_command command (blank_screen (cells_in command.size))).cells ≡ stored (stores (cells_in command.size) 0 command.orders) (replicate (cells_in command.size) (Char 0))
-erase_cells command spelt plain = go command.code command.wcc (has_wcc command spelt) plain
+erase_cells command encoded plain = go command.code command.wcc (has_wcc command encoded) plain
   where
     go : (code : CommandCode) (wcc : Option Wcc) → (is_write code ≡ true → (w : Wcc) × (wcc ≡ Some w)) → (is_write code && list_all is_plain_order command.orders) ≡ true
         → (after_code code (cells_in command.size) wcc command.orders (blank_screen (cells_in command.size))).cells ≡ stored (stores (cells_in command.size) 0 command.orders) (replicate (cells_in command.size) (Char 0))
@@ -52,4 +52,4 @@ erase_cells command spelt plain = go command.code command.wcc (has_wcc command s
 
 pub erase_seen : (command : CommandParts) → IsSpelt command → is_plain command ≡ true
     → taken_erase command ≡ seen (stored (stores (cells_in command.size) 0 command.orders) (replicate (cells_in command.size) (Char 0)))
-erase_seen command spelt plain = ap seen (erase_cells command spelt plain)
+erase_seen command encoded plain = ap seen (erase_cells command encoded plain)

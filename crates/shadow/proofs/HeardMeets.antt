@@ -9,7 +9,7 @@ use Rattle.datastream.specs.Inbound.{without_nulls}
 use Rattle.shadow.specs.Pairs.{Pairwise}
 use Rattle.shadow.specs.Belief.{Belief, Shadow, nulls}
 use Rattle.shadow.specs.Meets.{FieldMeets, KnownIs, Meets, Knows, told, FieldTold, IsTold, ListsFields}
-use Rattle.datastream.specs.InboundFields.{lead_of, returned_of}
+use Rattle.datastream.specs.InboundFields.{leading_text_of, returned_of}
 use Rattle.shadow.specs.Heard.{contradicts, was_erased, after_long, unprotected_fact, text_fact, heard_long}
 use Rattle.shadow.proofs.Keyed.{Keyed, FieldKeyed}
 use Rattle.shadow.proofs.Pairs.{pairwise_compose, pairwise_weaken, pairwise-length, length-without_nulls}
@@ -52,10 +52,10 @@ none_now R [] [] h e = refl
 none_now R [] (y ∷ ys) h e = absurd h
 none_now R (x ∷ xs) ys h e = absurd (cc)
 
-no_lead : (cells : List Cell) → (fields cells ≡ [] → ⊥) → lead_of cells ≡ []
+no_lead : (cells : List Cell) → (fields cells ≡ [] → ⊥) → leading_text_of cells ≡ []
 no_lead cells h = rw (fields_not_all cells 0 cells h)
 
-all_lead : (cells : List Cell) → fields cells ≡ [] → lead_of cells ≡ without_nulls (text_before_attribute cells)
+all_lead : (cells : List Cell) → fields cells ≡ [] → leading_text_of cells ≡ without_nulls (text_before_attribute cells)
 all_lead cells e = rw (no_fields_all cells 0 cells e)
 
 new_beliefs : List Belief → List Field → List Belief
@@ -101,7 +101,7 @@ unfolding new_beliefs
 tell erased bs fs h = all_told (list_any was_erased (given bs fs)) bs fs (all_meet erased (list_any was_erased (given bs fs)) (loss_shows erased bs fs h) bs fs h)
 
 pub heard_meets : (size : ℕ) (erased : Bool) (shadow : Shadow) (left now : Screen) → Knows shadow → length now.cells ≡ size → Meets shadow left → Keyed erased left.cells now.cells
-    → IsOkAnd (heard_long size shadow (lead_of now.cells) (returned_of now.cells)) (λ new. Meets new now × ListsFields new now × IsTold new now)
+    → IsOkAnd (heard_long size shadow (leading_text_of now.cells) (returned_of now.cells)) (λ new. Meets new now × ListsFields new now × IsTold new now)
 heard_meets size erased Shadow.NothingKnown left now knows whole meets keyed = absurd knows
 heard_meets size erased (Shadow.Unformatted known) left now knows whole meets keyed =
     let none : fields now.cells ≡ [] = none_now (FieldKeyed erased) (fields left.cells) (fields now.cells) keyed.1 meets.0 in
@@ -112,5 +112,5 @@ heard_meets size erased (Shadow.Formatted bs) left now knows whole meets keyed =
     let h = followed erased bs (fields left.cells) (fields now.cells) meets.1 keyed.1 in
     let some : fields now.cells ≡ [] → ⊥ = λ e. meets.0 (none_left (FieldKeyed erased) (fields left.cells) (fields now.cells) keyed.1 e) in
     let came : returned_of now.cells ≡ returned size (fields now.cells) = returned_is (length now.cells) (fields now.cells) ∙ ap (λ n. returned n (fields now.cells)) whole in
-    rw (came, heard_formatted size 0 erased bs (fields now.cells) (lead_of now.cells) (no_lead now.cells some) h (ascending now.cells size 0 now.cells (omega arith)))
+    rw (came, heard_formatted size 0 erased bs (fields now.cells) (leading_text_of now.cells) (no_lead now.cells some) h (ascending now.cells size 0 now.cells (omega arith)))
     ((some, meet erased bs (fields now.cells) h), (λ _. tt), tell erased bs (fields now.cells) h)

@@ -10,7 +10,7 @@ use Rattle.shadow.specs.declared.cell_belief.CellBelief.{CellBelief}
 use Rattle.shadow.specs.declared.cell_belief.CellBelief.TheVariants.{Attr, Known, Unplaced, Unknown}
 use Rattle.shadow.specs.InPlace.{chars_known, known_text}
 use Rattle.shadow.specs.AfterReadBuffer.{differs}
-use Rattle.shadow.specs.Since.{places_stored}
+use Rattle.shadow.specs.Since.{beliefs_of_cells}
 use Rattle.shadow.proofs.Looking.{not_clear, bit_true}
 use Rattle.shadow.proofs.Reading.{read_text}
 
@@ -65,9 +65,9 @@ some_left None left more is some = absurd (cc)
 some_left (Some cell) left more is some = let long : length left ≡ suc (length more) = ap length is in omega arith
 
 pub same_differs : (ahead places : List CellBelief) (rest whole : List Cell) (text : List ℕ) → text ≡ text_before_attribute rest → length text < length rest → chars_known ahead ≡ map Some text → length (chars_known ahead) < length ahead
-    → differs (chars_known (ahead ++ places)) (known_text (chars_known (places_stored rest ++ places_stored whole))) ≡ false
+    → differs (chars_known (ahead ++ places)) (known_text (chars_known (beliefs_of_cells rest ++ beliefs_of_cells whole))) ≡ false
 same_differs ahead places rest whole text is more known inside =
     let ends : length (text_before_attribute rest) < length rest = subst (λ (cs : List ℕ). length cs < length rest) is more in
-    ap (λ (ks : List (Option ℕ)). differs ks (known_text (chars_known (places_stored rest ++ places_stored whole)))) (chars_inner ahead places inside ∙ known)
+    ap (λ (ks : List (Option ℕ)). differs ks (known_text (chars_known (beliefs_of_cells rest ++ beliefs_of_cells whole)))) (chars_inner ahead places inside ∙ known)
     ∙ ap (differs (map Some text)) (read_text rest whole ∙ text_inner rest whole ends ∙ sym is)
     ∙ none_differs text

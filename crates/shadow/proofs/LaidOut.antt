@@ -44,9 +44,9 @@ cells_written wcc orders s plain =
 
 -- each write has a write control character
 pub has_wcc : (command : CommandParts) → IsSpelt command → is_write command.code ≡ true → (wcc : Wcc) × (command.wcc ≡ Some wcc)
-has_wcc command spelt writes = by_spelling spelt.3
+has_wcc command encoded writes = by_spelling encoded.3
   where
-    by_spelling : IsCommand spelt.0 spelt.1 command spelt.2 → (wcc : Wcc) × (command.wcc ≡ Some wcc)
+    by_spelling : IsCommand encoded.0 encoded.1 command encoded.2 → (wcc : Wcc) × (command.wcc ≡ Some wcc)
     by_spelling (write byte wcc text is code sized has orders bytes) = (wcc_of wcc, has)
     by_spelling (other byte ignored is code sized has orders bytes) = absurd (cc)
 
@@ -206,7 +206,7 @@ written_with n command control shadow s plain for meets = go command.code comman
     go EraseAllUnprotected wcc has p is = absurd (cc)
 
 pub written_taken : WrittenIsTaken
-written_taken command shadow s spelt plain for meets = written_with (cells_in command.size) command (has_wcc command spelt) shadow s plain for meets
+written_taken command shadow s encoded plain for meets = written_with (cells_in command.size) command (has_wcc command encoded) shadow s plain for meets
 
 -- ---- the size of what is believed
 

@@ -52,12 +52,12 @@ over_each Q cells outside at (Eua stop ∷ orders) note h = absurd (All-head IsN
 
 noted : (command : CommandParts) (screen : Screen) (Q : ℕ → Type 0) → IsSpelt command → IsNote command → ((at : ℕ) → Q at → IsOutside screen.cells at) → All Q (places_noted (length screen.cells) command)
     → OverwritesProtected command screen
-noted command screen Q spelt note outside each =
+noted command screen Q encoded note outside each =
     let size : ℕ = length screen.cells in
     let orders : List Order = Sba note.first ∷ note.others in
     let all : All IsNoteOrder orders = All-cons IsNoteOrder (Sba note.first) note.others tt note.each in
     record {
-      spelt = spelt;
+      encoded = encoded;
       plain =
           ap (λ (code : CommandCode). is_write code && list_all is_plain_order command.orders) note.code
           ∙ ap (list_all is_plain_order) note.orders ∙ plain_orders orders all;
@@ -74,11 +74,11 @@ outside_input None e = tt
 outside_input (Some attribute) e = e
 
 pub note_overwrites : NoteOverwritesProtected
-note_overwrites command screen spelt writes =
-    noted command screen (IsProtectedChar screen.cells) spelt writes.note
+note_overwrites command screen encoded writes =
+    noted command screen (IsProtectedChar screen.cells) encoded writes.note
     (λ at it. (it.character, outside_input (attribute_over screen.cells at) it.protected)) writes.each
 
 pub note_overwrites_bare : NoteOverwritesBare
-note_overwrites_bare command screen spelt none over =
-    noted command screen (λ at. is_char_at screen.cells at ≡ true) spelt over.note
+note_overwrites_bare command screen encoded none over =
+    noted command screen (λ at. is_char_at screen.cells at ≡ true) encoded over.note
     (λ at it. (it, subst IsOutsideInput (sym (none_governs screen.cells none at)) tt)) over.each

@@ -4,7 +4,7 @@ use Rattle.std.specs.Prelude.{⊤}
 use Rattle.std.specs.Option.{option_or}
 use Rattle.std.specs.List.{list_all}
 use Rattle.std.proofs.lemmas.List.Elements.{All-head, All-tail, All-nil, All-cons, All-weaker}
-use Rattle.codes3270.specs.Size.{Shape}
+use Rattle.codes3270.specs.Size.{ScreenSize}
 use Rattle.codes3270.specs.declared.attribute.Attr.{Attr as Attribute}
 use Rattle.codes3270.specs.declared.attribute.Cell.{Cell}
 use Rattle.codes3270.specs.declared.attribute.Cell.TheVariants.{Char, Attr}
@@ -234,7 +234,7 @@ record Plainly (wcc : Wcc) (orders : List Order) (s : Screen) : Type 0 where
   plain : list_all is_plain_order orders ≡ true
   over : All (IsOverProtected s.cells) (stores (length s.cells) 0 orders)
 
-abbrev write_of : Shape → Wcc → List Order → CommandParts
+abbrev write_of : ScreenSize → Wcc → List Order → CommandParts
 write_of size wcc orders = record { code = Write; size = size; wcc = Some wcc; orders = orders }
 
 over_characters : (cells : List Cell) (more : List Store) → All (IsOverProtected cells) more → All (IsOverCharacter cells) more
@@ -344,7 +344,7 @@ record Split (command : CommandParts) (s : Screen) : Type 0 where
 
 split : (command : CommandParts) (s : Screen) → OverwritesProtected command s → Split command s
 split command s h =
-    let has = has_wcc command h.spelt (ap is_write h.writes) in
+    let has = has_wcc command h.encoded (ap is_write h.writes) in
     record {
       wcc = has.0;
       is = λ i. record { code = sym h.writes i; size = command.size; wcc = sym has.1 i; orders = command.orders };
@@ -405,7 +405,7 @@ stays_listed command shadow s h meets lists = cases shadow meets lists
 
     known : (shadow : Shadow) → Meets shadow s → Knows shadow → ListsFields (taken (length s.cells) command shadow) (after_command command s)
     known shadow meets knows =
-        lists_known (taken (length s.cells) command shadow) (after_command command s) (written_with (length s.cells) command (has_wcc command h.spelt) shadow s h.plain (λ _. refl) meets)
+        lists_known (taken (length s.cells) command shadow) (after_command command s) (written_with (length s.cells) command (has_wcc command h.encoded) shadow s h.plain (λ _. refl) meets)
         (stays_known (length s.cells) command shadow h.writes h.placed knows)
 
     cases : (shadow : Shadow) → Meets shadow s → ListsFields shadow s → ListsFields (taken (length s.cells) command shadow) (after_command command s)
@@ -416,7 +416,7 @@ stays_listed command shadow s h meets lists = cases shadow meets lists
 pub stays_told : NoteStaysTold
 stays_told command shadow s h meets was =
     let it = split command s h in
-    let now : Meets (taken (length s.cells) command shadow) (after_command command s) = written_with (length s.cells) command (has_wcc command h.spelt) shadow s h.plain (λ _. refl) meets in
+    let now : Meets (taken (length s.cells) command shadow) (after_command command s) = written_with (length s.cells) command (has_wcc command h.encoded) shadow s h.plain (λ _. refl) meets in
     subst (λ (c : CommandParts). Meets (taken (length s.cells) c shadow) (after_command c s) → IsTold (taken (length s.cells) c shadow) (after_command c s)) it.is
     (write_told it.wcc command.orders shadow s it.plainly meets was) now
 

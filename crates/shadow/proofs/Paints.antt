@@ -2,7 +2,7 @@
 use Rattle.std.proofs.Common.{◌≡◌, ℕ, zero, suc, ◌+◌, Bool, true, false, ◌&&◌, ◌||◌, List, [], ◌∷◌, ◌++◌, length, map, set, replicate, Option, Some, None, refl, ap, sym, subst, ◌∙◌, eq-eqb, eqb-true, append_assoc, length-append, arith, if◌then◌else◌}
 use Rattle.std.specs.Prelude.{◌==◌}
 use Rattle.std.specs.List.{list_all}
-use Rattle.codes3270.specs.Size.{Shape, cells_in}
+use Rattle.codes3270.specs.Size.{ScreenSize, cells_in}
 use Rattle.std.proofs.lemmas.Bool.{and_parts}
 use Rattle.std.proofs.lemmas.List.{length-map, length-replicate}
 use Rattle.codes3270.specs.declared.attention.Aid.TheVariants.{NoAid}
@@ -256,7 +256,7 @@ erased_paint size wanted s same none =
 
 -- ---- the code of a paint
 
-erase_is_write : (size : Shape) → is_write (erase_code size) ≡ true
+erase_is_write : (size : ScreenSize) → is_write (erase_code size) ≡ true
 erase_is_write size = cases (is_base_size size)
   where
     cases : (t : Bool) → is_write (if t then EraseWrite else EraseWriteAlternate) ≡ true
@@ -270,18 +270,18 @@ code_writes size shadow wanted = cases (writes_over size shadow)
     cases true = refl
     cases false = erase_is_write wanted.size
 
-pub erase_erases : (size : Shape) → is_erase (erase_code size) ≡ true
+pub erase_erases : (size : ScreenSize) → is_erase (erase_code size) ≡ true
 erase_erases size = cases (is_base_size size)
   where
     cases : (t : Bool) → is_erase (if t then EraseWrite else EraseWriteAlternate) ≡ true
     cases true = refl
     cases false = refl
 
-no_write : (size : Shape) → erase_code size ≡ Write → ⊥
+no_write : (size : ScreenSize) → erase_code size ≡ Write → ⊥
 no_write size e = absurd (let erases : is_erase Write ≡ true = ap is_erase (sym e) ∙ erase_erases size in cc)
 
 -- what is then written on
-erase_after : (size : Shape) (n : ℕ) (wcc : Option Wcc) (orders : List Order) (s : Screen) → after_code (erase_code size) n wcc orders s ≡ written wcc orders (cleared n s)
+erase_after : (size : ScreenSize) (n : ℕ) (wcc : Option Wcc) (orders : List Order) (s : Screen) → after_code (erase_code size) n wcc orders s ≡ written wcc orders (cleared n s)
 erase_after size n wcc orders s = cases (is_base_size size)
   where
     cases : (t : Bool) → after_code (if t then EraseWrite else EraseWriteAlternate) n wcc orders s ≡ written wcc orders (cleared n s)
@@ -350,7 +350,7 @@ paints_placed : (size cursor : ℕ) (more : List Store) → stores_unplaced (pai
 paints_placed size cursor [] = refl
 paints_placed size cursor (store ∷ more) = refl
 
-erase_knows : (size : Shape) (n : ℕ) (command : CommandParts) (shadow : Shadow) → Knows (taken_code (erase_code size) n command shadow)
+erase_knows : (size : ScreenSize) (n : ℕ) (command : CommandParts) (shadow : Shadow) → Knows (taken_code (erase_code size) n command shadow)
 erase_knows size n command shadow = cases (is_base_size size)
   where
     cases : (t : Bool) → Knows (taken_code (if t then EraseWrite else EraseWriteAlternate) n command shadow)

@@ -16,7 +16,7 @@ use Rattle.shadow.specs.Belief.{Fact, Belief}
 use Rattle.shadow.specs.InPlace.{chars_known, fact_held, belief_held, beliefs_held, shadow_held, known_text, misses_here, other_here, AreHeld, IsHeld}
 use Rattle.shadow.specs.Runs.{placed, other_next}
 use Rattle.shadow.specs.AfterReadBuffer.{differs, others, same_attr, mark_seen, belief_seen, seen}
-use Rattle.shadow.specs.Since.{place_stored, places_stored}
+use Rattle.shadow.specs.Since.{belief_of_cell, beliefs_of_cells}
 use Rattle.shadow.specs.Taken.{fact_known, exact_or_any}
 use Rattle.shadow.proofs.AfterReadBuffer.{both, whole_fresh}
 use Rattle.shadow.proofs.Settling.{says_known}
@@ -64,7 +64,7 @@ differs_end (Some c) text rest is = sym (ap (differs []) is)
 
 -- ---- fields one by one
 
-pub read_text : (cells more : List Cell) → known_text (chars_known (places_stored cells ++ places_stored more)) ≡ text_before_attribute (cells ++ more)
+pub read_text : (cells more : List Cell) → known_text (chars_known (beliefs_of_cells cells ++ beliefs_of_cells more)) ≡ text_before_attribute (cells ++ more)
 read_text [] [] = refl
 read_text [] (Char c ∷ more) = ap (λ cs. c ∷ cs) (read_text [] more)
 read_text [] (AttrCell a ∷ more) = refl
@@ -85,7 +85,7 @@ later_held f fs whole m (Unknown ∷ ps) later = later_held f fs whole (m + 1) p
 
 abbrev OtherOn : List CellBelief → List Cell → ℕ → CellBelief → List CellBelief → Cell → List Cell → Bool
 OtherOn whole screen n p ps c cells =
-    other_here p (place_stored c) (ps ++ whole) (places_stored cells ++ places_stored screen) || others (beliefs_held whole (n + 1) ps) (fields_walked screen (n + 1) cells)
+    other_here p (belief_of_cell c) (ps ++ whole) (beliefs_of_cells cells ++ beliefs_of_cells screen) || others (beliefs_held whole (n + 1) ps) (fields_walked screen (n + 1) cells)
 
 other_on : (whole : List CellBelief) (screen : List Cell) (n : ℕ) (p : CellBelief) (ps : List CellBelief) (c : Cell) (cells : List Cell) → AreHeld whole (p ∷ ps)
     → others (beliefs_held whole n (p ∷ ps)) (fields_walked screen n (c ∷ cells)) ≡ OtherOn whole screen n p ps c cells
@@ -114,7 +114,7 @@ held_drop whole (suc n) (p ∷ ps) h = held_drop whole n ps (held_rest whole p p
 
 pub other_step : (whole : List CellBelief) (screen : List Cell) (n : ℕ) (cell : Cell) (rest : List Cell) → n < length whole → IsHeld whole
     → others (beliefs_held whole n (drop n whole)) (fields_walked screen n (cell ∷ rest))
-    ≡ (other_here (get_or whole n Unknown) (place_stored cell) (drop (n + 1) whole ++ whole) (places_stored rest ++ places_stored screen)
+    ≡ (other_here (get_or whole n Unknown) (belief_of_cell cell) (drop (n + 1) whole ++ whole) (beliefs_of_cells rest ++ beliefs_of_cells screen)
     || others (beliefs_held whole (n + 1) (drop (n + 1) whole)) (fields_walked screen (n + 1) rest))
 other_step whole screen n cell rest within held =
     let here : drop n whole ≡ get_or whole n Unknown ∷ drop (n + 1) whole = drop_more whole n Unknown within in
@@ -184,7 +184,7 @@ none_differ whole screen n (cell ∷ rest) over none = absurd (omega arith)
 
 -- ---- a screen that was read is known
 
-chars_read : (cells more : List Cell) → chars_known (places_stored cells ++ places_stored more) ≡ map Some (text_before_attribute (cells ++ more))
+chars_read : (cells more : List Cell) → chars_known (beliefs_of_cells cells ++ beliefs_of_cells more) ≡ map Some (text_before_attribute (cells ++ more))
 chars_read [] [] = refl
 chars_read [] (Char c ∷ more) = ap (λ (ks : List (Option ℕ)). Some c ∷ ks) (chars_read [] more)
 chars_read [] (AttrCell a ∷ more) = refl
@@ -197,47 +197,47 @@ field_read n a text ahead is =
     let fact : fact_held Cells ahead ≡ Fact.Exact text = ap fact_known is ∙ ap (λ (o : Option (List ℕ)). exact_or_any o (map Some text)) (whole_fresh text) in
     λ i. record { place = n; attr = without_mdt a; mdt = mark_seen a.mdt; length = (ap length is ∙ length-map text Some) i; fact = fact i }
 
-fields_read : (whole : List Cell) (n : ℕ) (rest : List Cell) → beliefs_held (places_stored whole) n (places_stored rest) ≡ map belief_seen (fields_walked whole n rest)
+fields_read : (whole : List Cell) (n : ℕ) (rest : List Cell) → beliefs_held (beliefs_of_cells whole) n (beliefs_of_cells rest) ≡ map belief_seen (fields_walked whole n rest)
 fields_read whole n [] = refl
 fields_read whole n (Char c ∷ rest) = fields_read whole (n + 1) rest
 fields_read whole n (AttrCell a ∷ rest) =
-    ap (λ (b : Belief). b ∷ beliefs_held (places_stored whole) (n + 1) (places_stored rest)) (field_read n a (text_before_attribute (rest ++ whole)) (places_stored rest ++ places_stored whole) (chars_read rest whole))
+    ap (λ (b : Belief). b ∷ beliefs_held (beliefs_of_cells whole) (n + 1) (beliefs_of_cells rest)) (field_read n a (text_before_attribute (rest ++ whole)) (beliefs_of_cells rest ++ beliefs_of_cells whole) (chars_read rest whole))
     ∙ ap (λ (bs : List Belief). belief_seen (record { place = n; attr = a; text = text_before_attribute (rest ++ whole) }) ∷ bs) (fields_read whole (n + 1) rest)
 
-pub read_seen : (cells : List Cell) → shadow_held true (places_stored cells) ≡ seen cells
-read_seen cells = both (beliefs_held (places_stored cells) 0 (places_stored cells)) (fields cells) (chars_known (places_stored cells)) (text_before_attribute cells) (fields_read cells 0 cells ∙ ap (map belief_seen) (sym (fields_are_walked cells))) (chars_read [] cells)
+pub read_seen : (cells : List Cell) → shadow_held true (beliefs_of_cells cells) ≡ seen cells
+read_seen cells = both (beliefs_held (beliefs_of_cells cells) 0 (beliefs_of_cells cells)) (fields cells) (chars_known (beliefs_of_cells cells)) (text_before_attribute cells) (fields_read cells 0 cells ∙ ap (map belief_seen) (sym (fields_are_walked cells))) (chars_read [] cells)
 
-are_read : (whole : List CellBelief) (cells : List Cell) → AreHeld whole (places_stored cells)
+are_read : (whole : List CellBelief) (cells : List Cell) → AreHeld whole (beliefs_of_cells cells)
 are_read whole [] = tt
 are_read whole (Char c ∷ cells) = are_read whole cells
-are_read whole (AttrCell a ∷ cells) = (says_known (chars_known (places_stored cells ++ whole)), are_read whole cells)
+are_read whole (AttrCell a ∷ cells) = (says_known (chars_known (beliefs_of_cells cells ++ whole)), are_read whole cells)
 
-pub read_held : (cells : List Cell) → IsHeld (places_stored cells)
-read_held cells = are_read (places_stored cells) cells
+pub read_held : (cells : List Cell) → IsHeld (beliefs_of_cells cells)
+read_held cells = are_read (beliefs_of_cells cells) cells
 
 -- one more is read
 pub read_more : (places : List CellBelief) (at : ℕ) (cell : Cell) (rest : List Cell) → at < length places
-    → take at places ++ places_stored (cell ∷ rest) ≡ take (at + 1) (set places at (place_stored cell)) ++ places_stored rest
+    → take at places ++ beliefs_of_cells (cell ∷ rest) ≡ take (at + 1) (set places at (belief_of_cell cell)) ++ beliefs_of_cells rest
 read_more places at cell rest within =
-    sym (append_assoc (take at places) (place_stored cell ∷ []) (places_stored rest))
-    ∙ ap (λ (front : List CellBelief). front ++ places_stored rest) (sym (take_more_set places at (place_stored cell) within))
+    sym (append_assoc (take at places) (belief_of_cell cell ∷ []) (beliefs_of_cells rest))
+    ∙ ap (λ (front : List CellBelief). front ++ beliefs_of_cells rest) (sym (take_more_set places at (belief_of_cell cell) within))
 
 -- so are characters
-stored_split : (cells : List Cell) → places_stored cells ≡ map Known (text_before_attribute cells) ++ places_stored (drop (length (text_before_attribute cells)) cells)
+stored_split : (cells : List Cell) → beliefs_of_cells cells ≡ map Known (text_before_attribute cells) ++ beliefs_of_cells (drop (length (text_before_attribute cells)) cells)
 stored_split [] = refl
 stored_split (Char c ∷ cells) = ap (λ (ps : List CellBelief). Known c ∷ ps) (stored_split cells)
 stored_split (AttrCell a ∷ cells) = refl
 
 pub run_read : (places : List CellBelief) (at : ℕ) (text : List ℕ) (cells rest : List Cell) → text ≡ text_before_attribute cells → rest ≡ drop (length text) cells → at + length text ≤ length places
-    → take at places ++ places_stored cells ≡ take (at + length text) (placed at text places) ++ places_stored rest
+    → take at places ++ beliefs_of_cells cells ≡ take (at + length text) (placed at text places) ++ beliefs_of_cells rest
 run_read places at text cells rest ahead behind room =
     let front : List CellBelief = take at places ++ map Known text in
     let long : length front ≡ at + length text = omega (arith, length-append (take at places) (map Known text), length-take-le at places (omega arith), length-map text Known) in
-    let split : places_stored cells ≡ map Known text ++ places_stored rest =
-    stored_split cells ∙ ap (λ (cs : List ℕ). map Known cs ++ places_stored (drop (length cs) cells)) (sym ahead) ∙ ap (λ (cs : List Cell). map Known text ++ places_stored cs) (sym behind) in
+    let split : beliefs_of_cells cells ≡ map Known text ++ beliefs_of_cells rest =
+    stored_split cells ∙ ap (λ (cs : List ℕ). map Known cs ++ beliefs_of_cells (drop (length cs) cells)) (sym ahead) ∙ ap (λ (cs : List Cell). map Known text ++ beliefs_of_cells cs) (sym behind) in
     let taken : take (at + length text) (placed at text places) ≡ front =
     ap (take (at + length text)) (sym (append_assoc (take at places) (map Known text) (drop (at + length text) places))) ∙ take_at front (drop (at + length text) places) (at + length text) long in
-    ap (λ (ps : List CellBelief). take at places ++ ps) split ∙ sym (append_assoc (take at places) (map Known text) (places_stored rest)) ∙ ap (λ (ps : List CellBelief). ps ++ places_stored rest) (sym taken)
+    ap (λ (ps : List CellBelief). take at places ++ ps) split ∙ sym (append_assoc (take at places) (map Known text) (beliefs_of_cells rest)) ∙ ap (λ (ps : List CellBelief). ps ++ beliefs_of_cells rest) (sym taken)
 
 text_within : (cells : List Cell) → length (text_before_attribute cells) ≤ length cells
 text_within [] = omega arith

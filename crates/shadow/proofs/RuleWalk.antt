@@ -18,7 +18,7 @@ use Rattle.shadow.specs.InPlace.{chars_known, belief_held, beliefs_held, fact_he
 use Rattle.shadow.specs.RuleBreaks.{break_at, first_break, is_believed, lesser, operator_rule, rule_break, rule_broken}
 use Rattle.shadow.specs.Runs.{operator_rule_at, rule_at, rule_next}
 use Rattle.shadow.specs.AfterReadBuffer.{differs, known_chars, same_attr}
-use Rattle.shadow.specs.Since.{place_stored, places_stored}
+use Rattle.shadow.specs.Since.{belief_of_cell, beliefs_of_cells}
 use Rattle.shadow.specs.Taken.{exact_or_any, fact_known, formatted_as, whole_text}
 use Rattle.shadow.proofs.Reading.{held_drop, read_text}
 use Rattle.shadow.proofs.Settling.{says_known}
@@ -174,7 +174,7 @@ module _ (whole : List CellBelief) (n : ℕ) (ps : List CellBelief) (text : List
   by_other p c other = if other then Some Applies else operator_rule_at n p c (ps ++ whole) text
 
   rule_by : (p : CellBelief) (c : Cell) (read : List CellBelief) → text ≡ known_text (chars_known read) → AreHeld whole (p ∷ ps)
-      → rule_at n p c (ps ++ whole) text ≡ by_other p c (other_here p (place_stored c) (ps ++ whole) read)
+      → rule_at n p c (ps ++ whole) text ≡ by_other p c (other_here p (belief_of_cell c) (ps ++ whole) read)
   rule_by (Attr a m t) (AttrCell b) read is held =
       ap (λ (at : Bool). by_other (Attr a m t) (AttrCell b) (not at || not (same_attr b a) || (a.protected && differs (known_chars (length (chars_known (ps ++ whole))) (fact_held t (ps ++ whole))) text))) (eq-eqb n n refl)
       ∙ ap (λ (ks : List (Option ℕ)). by_other (Attr a m t) (AttrCell b) (not (same_attr b a) || (a.protected && differs ks text))) held.0
@@ -189,7 +189,7 @@ module _ (whole : List CellBelief) (n : ℕ) (ps : List CellBelief) (text : List
 
 pub rule_here : (whole : List CellBelief) (n : ℕ) (cell : Cell) (read : List CellBelief) → n < length whole → IsHeld whole
     → (let p = get_or whole n Unknown in let ahead = drop (n + 1) whole ++ whole in let text = known_text (chars_known read) in
-    rule_at n p cell ahead text ≡ (if other_here p (place_stored cell) ahead read then Some Applies else operator_rule_at n p cell ahead text))
+    rule_at n p cell ahead text ≡ (if other_here p (belief_of_cell cell) ahead read then Some Applies else operator_rule_at n p cell ahead text))
 rule_here whole n cell read within held =
     rule_by whole n (drop (n + 1) whole) (known_text (chars_known read)) (get_or whole n Unknown) cell read refl
     (subst (AreHeld whole) (drop_more whole n Unknown within) (held_drop whole n whole held))

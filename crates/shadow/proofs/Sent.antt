@@ -8,7 +8,7 @@ use Rattle.codes3270.specs.declared.attribute.Cell.TheVariants.{Char as CharCell
 use Rattle.codes3270.specs.Aid.{is_short_aid}
 use Rattle.datastream.specs.Screen.{Screen}
 use Rattle.datastream.specs.KeptByKeys.{KeptByKeys}
-use Rattle.datastream.specs.InboundFields.{Returned, leading_text, returned, cells_sent, field_parts, parts_of_fields, parts_of_cells, lead_of, returned_of}
+use Rattle.datastream.specs.InboundFields.{Returned, leading_text, returned, cells_sent, field_parts, parts_of_fields, parts_of_cells, leading_text_of, returned_of}
 use Rattle.datastream.specs.InboundText.{stands_alone}
 use Rattle.datastream.specs.declared.inbound_part.Form.TheVariants.{Modified}
 use Rattle.datastream.specs.declared.inbound_part.Part.{Part}
@@ -53,13 +53,13 @@ cells_back [] = refl
 cells_back (CharCell char ∷ cells) = ap (λ cs. CharCell char ∷ cs) (cells_back cells)
 cells_back (AttrCell attr ∷ cells) = ap (λ cs. AttrCell attr ∷ cs) (cells_back cells)
 
-long_heard : (size : ℕ) (shadow : Shadow) (now : Screen) → heard_parts size shadow (parts_of_fields (lead_of now.cells) (returned_of now.cells)) ≡ heard_long size shadow (lead_of now.cells) (returned_of now.cells)
+long_heard : (size : ℕ) (shadow : Shadow) (now : Screen) → heard_parts size shadow (parts_of_fields (leading_text_of now.cells) (returned_of now.cells)) ≡ heard_long size shadow (leading_text_of now.cells) (returned_of now.cells)
 long_heard size shadow now =
-    ap (λ l. heard_long size shadow l (returned (parts_of_fields (lead_of now.cells) (returned_of now.cells)))) (lead_back (lead_of now.cells) (returned_of now.cells))
-    ∙ ap (heard_long size shadow (lead_of now.cells)) (returned_back (lead_of now.cells) (returned_of now.cells))
+    ap (λ l. heard_long size shadow l (returned (parts_of_fields (leading_text_of now.cells) (returned_of now.cells)))) (lead_back (leading_text_of now.cells) (returned_of now.cells))
+    ∙ ap (heard_long size shadow (leading_text_of now.cells)) (returned_back (leading_text_of now.cells) (returned_of now.cells))
 
 long_believed : (size : ℕ) (erased : Bool) (shadow : Shadow) (left now : Screen) → Knows shadow → length now.cells ≡ size → Meets shadow left → KeptByKeys erased left.cells now.cells
-    → IsOkAnd (heard_parts size shadow (parts_of_fields (lead_of now.cells) (returned_of now.cells))) (λ new. Meets new now × ListsFields new now × IsTold new now)
+    → IsOkAnd (heard_parts size shadow (parts_of_fields (leading_text_of now.cells) (returned_of now.cells))) (λ new. Meets new now × ListsFields new now × IsTold new now)
 long_believed size erased shadow left now knows whole meets held =
     subst (λ r. IsOkAnd r (λ new. Meets new now × ListsFields new now × IsTold new now)) (sym (long_heard size shadow now))
     (heard_meets size erased shadow left now knows whole meets (held_keyed erased left.cells now.cells held))
@@ -75,7 +75,7 @@ pub hears_modified : HearsModified
 hears_modified size erased shadow left now knows meets sent = cases now.aid sent
   where
     cases : (aid : Aid) → IsSentFrom erased left.cells now.cells aid
-        → IsOkAnd (heard (length now.cells) shadow (if stands_alone Modified aid then record { form = Modified; size = size; aid = aid; cursor = None; parts = [] } else record { form = Modified; size = size; aid = aid; cursor = Some now.cursor; parts = parts_of_fields (lead_of now.cells) (returned_of now.cells) })) (Believed (is_short_aid aid) now)
+        → IsOkAnd (heard (length now.cells) shadow (if stands_alone Modified aid then record { form = Modified; size = size; aid = aid; cursor = None; parts = [] } else record { form = Modified; size = size; aid = aid; cursor = Some now.cursor; parts = parts_of_fields (leading_text_of now.cells) (returned_of now.cells) })) (Believed (is_short_aid aid) now)
     cases NoAid sent = believed_long now _ (long_believed (length now.cells) erased shadow left now knows refl meets sent)
     cases Enter sent = believed_long now _ (long_believed (length now.cells) erased shadow left now knows refl meets sent)
     cases (Pf key) sent = believed_long now _ (long_believed (length now.cells) erased shadow left now knows refl meets sent)

@@ -253,13 +253,13 @@ length-stored [] cells = refl
 length-stored (store ∷ ss) cells = length-stored ss (set cells store.at store.cell) ∙ length-set cells store.at store.cell
 
 pub taken_size : TakenIsOfSize
-taken_size command shadow spelt plain exact sized = cases command.code refl
+taken_size command shadow encoded plain exact sized = cases command.code refl
   where
     erased : IsOfSize (cells_in command.size) (taken_erase command)
     erased =
         let nulls : List Cell = replicate (cells_in command.size) (Char 0) in
         let ss : List Store = stores (cells_in command.size) 0 command.orders in
-        subst (IsOfSize (cells_in command.size)) (sym (erase_seen command spelt plain))
+        subst (IsOfSize (cells_in command.size)) (sym (erase_seen command encoded plain))
         (seen_size (stored ss nulls) (cells_in command.size) (length-stored ss nulls ∙ length-replicate (cells_in command.size) (Char 0)))
 
     writes : (code : CommandCode) → command.code ≡ code → is_write code ≡ true

@@ -4,7 +4,7 @@ use Rattle.std.specs.Prelude.{⊤, ◌⊎◌, ◌==◌}
 use Rattle.std.proofs.lemmas.Bool.{and_parts}
 use Rattle.std.specs.List.{All, flat_map}
 use Rattle.std.proofs.lemmas.List.Elements.{All-nil, All-cons, All-head, All-tail}
-use Rattle.codes3270.specs.Size.{Shape, cells_in, model_2, most_cells}
+use Rattle.codes3270.specs.Size.{ScreenSize, cells_in, model_2, most_cells}
 use Rattle.codes3270.specs.Storable.{is_storable}
 use Rattle.codes3270.specs.WriteControl.{wcc_byte}
 use Rattle.codes3270.specs.declared.attribute.Cell.{Cell}
@@ -24,7 +24,7 @@ use Rattle.datastream.specs.declared.wanted.Want.{Want}
 use Rattle.datastream.specs.declared.wanted.Want.TheVariants.{Char as WantChar, Attr as WantAttr, Keep}
 use Rattle.shadow.specs.Appending.{IsStorableCell}
 use Rattle.shadow.specs.Belief.{Shadow, next_address}
-use Rattle.shadow.specs.Laws.{PaintIsSpelt}
+use Rattle.shadow.specs.Laws.{PaintIsEncoded}
 use Rattle.shadow.specs.Paint.{is_there, unless, cell_to_store, to_store, order_of, is_at, sba_unless, painting, known_before, writes_over, is_base_size, erase_code, paint_code}
 use Rattle.shadow.specs.Stores.{Store, store_also}
 use Rattle.shadow.specs.declared.known.Known.{Known}
@@ -133,8 +133,8 @@ module _ (size : ℕ) where
       (cell_storable (rest ++ whole) want known (All-head IsProperWant want rest each))
       (stores_storable whole (at + 1) rest cells (omega arith) (All-tail IsProperWant want rest each))
 
--- a write of such orders is spelt by its bytes
-write_spelt : WrittenIsRead → (now alternate size : Shape) (code : CommandCode) (wcc : Wcc) (orders : List Order) → size_after code now alternate ≡ size → cells_in size ≤ most_cells
+-- a write of such orders is encoded by its bytes
+write_spelt : WrittenIsRead → (now alternate size : ScreenSize) (code : CommandCode) (wcc : Wcc) (orders : List Order) → size_after code now alternate ≡ size → cells_in size ≤ most_cells
     → is_write code ≡ true → All (IsCalled (cells_in size)) orders
     → IsCommand now alternate (record { code = code; size = size; wcc = Some wcc; orders = orders }) (write_bytes code wcc orders)
 write_spelt law now alternate size code wcc orders sized few writes each =
@@ -144,25 +144,25 @@ write_spelt law now alternate size code wcc orders sized few writes each =
   where
     read : cells_in size ≤ most_cells → All (IsAllowed (cells_in size)) (map (call_of (cells_in size)) orders) → IsCommand now alternate (command_of_calls size code wcc (map (call_of (cells_in size)) orders)) (command_bytes code wcc (map (call_of (cells_in size)) orders))
     read = subst
-        (λ (shape : Shape). cells_in shape ≤ most_cells → All (IsAllowed (cells_in shape)) (map (call_of (cells_in size)) orders) → IsCommand now alternate (command_of_calls shape code wcc (map (call_of (cells_in size)) orders)) (command_bytes code wcc (map (call_of (cells_in size)) orders)))
+        (λ (shape : ScreenSize). cells_in shape ≤ most_cells → All (IsAllowed (cells_in shape)) (map (call_of (cells_in size)) orders) → IsCommand now alternate (command_of_calls shape code wcc (map (call_of (cells_in size)) orders)) (command_bytes code wcc (map (call_of (cells_in size)) orders)))
         sized (law now alternate code wcc (map (call_of (cells_in size)) orders))
 
     by_kind : (kind : Bool) → kind ≡ true
         → IsCommand now alternate (if kind then record { code = code; size = size; wcc = Some wcc; orders = flat_map orders_of (map (call_of (cells_in size)) orders) } else record { code = code; size = size; wcc = None; orders = [] }) ((codes_of code).1 ∷ (if kind then wcc_byte wcc ∷ [] else []) ++ flat_map call_bytes (map (call_of (cells_in size)) orders))
         → IsCommand now alternate (record { code = code; size = size; wcc = Some wcc; orders = flat_map orders_of (map (call_of (cells_in size)) orders) }) ((codes_of code).1 ∷ wcc_byte wcc ∷ flat_map call_bytes (map (call_of (cells_in size)) orders))
-    by_kind true e spelt = spelt
-    by_kind false e spelt = cc
+    by_kind true e encoded = encoded
+    by_kind false e encoded = cc
 
 -- ---- the size of a paint
 
-base_is : (size : Shape) → is_base_size size ≡ true → model_2 ≡ size
+base_is : (size : ScreenSize) → is_base_size size ≡ true → model_2 ≡ size
 base_is size e =
     let parts = and_parts (size.rows == model_2.rows) (size.columns == model_2.columns) e in
     let rows : size.rows ≡ model_2.rows = eqb-true size.rows model_2.rows parts.0 in
     let columns : size.columns ≡ model_2.columns = eqb-true size.columns model_2.columns parts.1 in
     λ i. record { rows = sym rows i; columns = sym columns i }
 
-paint_size : (now alternate : Shape) (n : ℕ) (shadow : Shadow) (wanted : WantedScreen) → (wanted.size ≡ model_2) ⊎ (wanted.size ≡ alternate) → (paint_code n shadow wanted ≡ Write → wanted.size ≡ now)
+paint_size : (now alternate : ScreenSize) (n : ℕ) (shadow : Shadow) (wanted : WantedScreen) → (wanted.size ≡ model_2) ⊎ (wanted.size ≡ alternate) → (paint_code n shadow wanted ≡ Write → wanted.size ≡ now)
     → size_after (paint_code n shadow wanted) now alternate ≡ wanted.size
 paint_size now alternate n shadow wanted can same = cases (writes_over n shadow) same
   where
@@ -180,8 +180,8 @@ paint_size now alternate n shadow wanted can same = cases (writes_over n shadow)
 all_fit : (count size : ℕ) → count ≡ size → 0 + count ≤ size
 all_fit count size same = omega arith
 
-pub paint_spelt : WrittenIsRead → PaintIsSpelt
-paint_spelt law now alternate shadow wanted is can same =
+pub paint_encoded : WrittenIsRead → PaintIsEncoded
+paint_encoded law now alternate shadow wanted is can same =
     let size : ℕ = cells_in wanted.size in
     let stores : List Store = to_store wanted.cells 0 wanted.cells (known_before size wanted.reset shadow) in
     write_spelt law now alternate wanted.size (paint_code size shadow wanted) (record { alarm = false; restore = true; reset = wanted.reset }) (painting size wanted.cursor None stores)

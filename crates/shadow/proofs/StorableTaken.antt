@@ -243,13 +243,13 @@ module _ (n : ℕ) where
 -- ---- any command
 
 pub taken_stored : TakenCanBeStored
-taken_stored size command shadow h spelt = cases command.code
+taken_stored size command shadow h encoded = cases command.code
   where
     n : ℕ
     n = cells_in command.size
 
     proper : All (IsProper (cells_in command.size)) command.orders
-    proper = command_proper command spelt
+    proper = command_proper command encoded
 
     cases : (code : CommandCode) → CanBeStored (taken size (record command { code = code }) shadow)
     cases Write = written_storable n size command.wcc command.orders shadow proper h

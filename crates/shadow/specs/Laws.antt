@@ -7,7 +7,7 @@ use Rattle.codes3270.specs.declared.attribute.Cell.{Cell}
 use Rattle.codes3270.specs.declared.attribute.Attr.{Attr as Attribute}
 use Rattle.codes3270.specs.declared.attribute.Cell.TheVariants.{Char, Attr}
 use Rattle.codes3270.specs.Aid.{is_short_aid}
-use Rattle.codes3270.specs.Size.{Shape, cells_in, model_2}
+use Rattle.codes3270.specs.Size.{ScreenSize, cells_in, model_2}
 use Rattle.datastream.specs.Screen.{Screen}
 use Rattle.datastream.specs.KeptByKeys.{KeptByKeys, without_mdt}
 use Rattle.datastream.specs.InboundFields.{modified_data, buffer_data}
@@ -46,19 +46,20 @@ Believed sent screen shadow = Meets shadow screen × ListsFields shadow screen �
 
 -- A key's data isn't rejected, and the belief then is true. (A host that knows nothing rejects any field.)
 abbrev pub HearsModified : Type 0
-HearsModified = (size : Shape) (erased : Bool) (shadow : Shadow) (left now : Screen) → Knows shadow → Meets shadow left
+HearsModified = (size : ScreenSize) (erased : Bool) (shadow : Shadow) (left now : Screen) → Knows shadow
+    → Meets shadow left
     → IsSentFrom erased left.cells now.cells now.aid
     → IsOkAnd (heard (length now.cells) shadow (modified_data Modified size now)) (Believed (is_short_aid now.aid) now)
 
 -- The answer to Read Modified All isn't rejected, and the belief then is true.
 abbrev pub HearsAll : Type 0
-HearsAll = (size : Shape) (erased : Bool) (shadow : Shadow) (left now : Screen) → Knows shadow → Meets shadow left
+HearsAll = (size : ScreenSize) (erased : Bool) (shadow : Shadow) (left now : Screen) → Knows shadow → Meets shadow left
     → KeptByKeys erased left.cells now.cells
     → IsOkAnd (heard (length now.cells) shadow (modified_data AllModified size now)) (Believed false now)
 
 -- The answer to Read Buffer isn't rejected if the screen meets the belief, and the belief then is true.
 abbrev pub HearsBuffer : Type 0
-HearsBuffer = (size : Shape) (shadow : Shadow) (now : Screen) → Meets shadow now
+HearsBuffer = (size : ScreenSize) (shadow : Shadow) (now : Screen) → Meets shadow now
     → IsOkAnd (heard (length now.cells) shadow (buffer_data size now)) (Believed false now)
 
 -- If a screen meets the belief, then after a plain write it meets the new belief. A Write must have been read for the
@@ -98,8 +99,8 @@ PaintIsBounded = (size : ℕ) (shadow : Shadow) (wanted : WantedScreen) → leng
 
 -- If the wanted screen is one of the profile, the bytes of its paint spell that command, whatever is believed, for a
 -- terminal that can have the wanted size, and has it already if the paint is a Write.
-abbrev pub PaintIsSpelt : Type 0
-PaintIsSpelt = (now alternate : Shape) (shadow : Shadow) (wanted : WantedScreen) → IsScreen wanted
+abbrev pub PaintIsEncoded : Type 0
+PaintIsEncoded = (now alternate : ScreenSize) (shadow : Shadow) (wanted : WantedScreen) → IsScreen wanted
     → (wanted.size ≡ model_2) ⊎ (wanted.size ≡ alternate)
     → (paint_code (cells_in wanted.size) shadow wanted ≡ Write → wanted.size ≡ now)
     → IsCommand now alternate (paint (cells_in wanted.size) shadow wanted)

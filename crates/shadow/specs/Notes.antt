@@ -27,7 +27,7 @@ IsOverProtected cells store = IsOverCharacter cells store × IsOutsideInput (att
 -- holds if the command is a Write that stores only characters, all over characters of protected fields or of no field,
 -- leaves each MDT as it is, and has its first SBA before its first character
 pub record OverwritesProtected (command : CommandParts) (screen : Screen) : Type 0 where
-  pub spelt : IsSpelt command
+  pub encoded : IsSpelt command
   pub plain : is_plain command ≡ true
   pub writes : command.code ≡ Write
   pub keeps_mdt : resets command.wcc ≡ false

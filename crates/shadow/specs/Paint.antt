@@ -1,7 +1,7 @@
 -- The write that paints a wanted screen (our profile): which cells it stores, and its orders, which are those of
 -- GA23-0059-07, "Buffer Control Orders and Order Codes".
 use Rattle.std.specs.Prelude.{◌==◌, ◌+◌, ◌&&◌, ◌||◌, ℕ, Bool, true, false, List, [], ◌∷◌, ◌++◌, map, replicate, Option, Some, None, if◌then◌else◌}
-use Rattle.codes3270.specs.Size.{Shape, model_2}
+use Rattle.codes3270.specs.Size.{ScreenSize, model_2}
 use Rattle.codes3270.specs.declared.attribute.Cell.{Cell}
 use Rattle.codes3270.specs.declared.attribute.Cell.TheVariants.{Char, Attr}
 use Rattle.datastream.specs.Grammar.{CommandParts}
@@ -99,11 +99,11 @@ writes_over size (Shadow.Unformatted known) = false
 writes_over size (Shadow.Formatted beliefs) = cells_of_fields beliefs == size
 
 -- whether a size is 24 by 80, which Erase/Write sets
-abbrev pub is_base_size : Shape → Bool
+abbrev pub is_base_size : ScreenSize → Bool
 is_base_size size = size.rows == model_2.rows && size.columns == model_2.columns
 
 -- the command that erases and sets this size
-abbrev pub erase_code : Shape → CommandCode
+abbrev pub erase_code : ScreenSize → CommandCode
 erase_code size = if is_base_size size then EraseWrite else EraseWriteAlternate
 
 -- the paint's command: an erase if nothing is known, the screen is unformatted or the sizes differ; else Write

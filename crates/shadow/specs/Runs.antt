@@ -9,7 +9,7 @@ use Rattle.shadow.specs.declared.rule_break.Rule.{Rule}
 use Rattle.shadow.specs.declared.rule_break.Rule.TheVariants.{Applies}
 use Rattle.shadow.specs.InPlace.{belief_held, other_here}
 use Rattle.shadow.specs.RuleBreaks.{operator_rule, rule_broken}
-use Rattle.shadow.specs.Since.{place_stored, places_stored}
+use Rattle.shadow.specs.Since.{belief_of_cell, beliefs_of_cells}
 
 -- the beliefs with a known text in the cells from an address on
 abbrev pub placed : ℕ → List ℕ → List CellBelief → List CellBelief
@@ -19,8 +19,8 @@ placed from text beliefs = take from beliefs ++ (map Known text ++ drop (from + 
 abbrev pub other_next : List CellBelief → ℕ → List Cell → List Cell → Bool
 other_next beliefs place [] whole = false
 other_next beliefs place (cell ∷ rest) whole =
-    other_here (slice_index_or beliefs place Unknown) (place_stored cell) (drop (place + 1) beliefs ++ beliefs)
-    (places_stored rest ++ places_stored whole)
+    other_here (slice_index_or beliefs place Unknown) (belief_of_cell cell) (drop (place + 1) beliefs ++ beliefs)
+    (beliefs_of_cells rest ++ beliefs_of_cells whole)
 
 -- the rule that is broken if this cell was read at an address; `ahead`: the beliefs of the cells after it, `text`: the
 -- characters that were read after it

@@ -15,13 +15,13 @@ use Rattle.shadow.specs.AfterReadBuffer.{mark_seen}
 use Rattle.shadow.specs.InPlace.{cell_known}
 
 -- what is believed of a cell that a write has stored or a read has returned
-abbrev pub place_stored : Cell → CellBelief
-place_stored (Char byte) = KnownPlace byte
-place_stored (AttrCell attribute) = Attr (without_mdt attribute) (mark_seen attribute.mdt) Cells
+abbrev pub belief_of_cell : Cell → CellBelief
+belief_of_cell (Char byte) = KnownPlace byte
+belief_of_cell (AttrCell attribute) = Attr (without_mdt attribute) (mark_seen attribute.mdt) Cells
 
-abbrev pub places_stored : List Cell → List CellBelief
-places_stored [] = []
-places_stored (cell ∷ cells) = place_stored cell ∷ places_stored cells
+abbrev pub beliefs_of_cells : List Cell → List CellBelief
+beliefs_of_cells [] = []
+beliefs_of_cells (cell ∷ cells) = belief_of_cell cell ∷ beliefs_of_cells cells
 
 abbrev pub place_off : CellBelief → CellBelief
 place_off (Attr attribute mdt knowledge) = Attr attribute Off knowledge

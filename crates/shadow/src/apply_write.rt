@@ -11,7 +11,7 @@ ghost use Rattle.shadow.specs.declared.cell_belief.BeforeWrite.{BeforeWrite as B
 ghost use Rattle.shadow.specs.declared.mdt_state.MdtState.TheVariants.{Off as OffMark};
 ghost use Rattle.shadow.specs.InPlace.{cell_known, cells_known, beliefs_held, shadow_held, IsHeld};
 ghost use Rattle.shadow.specs.PackedBeliefs.{with_head};
-ghost use Rattle.shadow.specs.Since.{place_stored, place_off, knowledge_of, never, stored_past, stored_since, cells_written, Since, is_touched, knowledge_after as telling_then, place_settled, settled};
+ghost use Rattle.shadow.specs.Since.{belief_of_cell, place_off, knowledge_of, never, stored_past, stored_since, cells_written, Since, is_touched, knowledge_after as telling_then, place_settled, settled};
 ghost use Rattle.shadow.specs.Stores.{is_plain, stores};
 ghost use Rattle.shadow.specs.Taken.{believed, known_after, known_stored, new_cell, resets as resets_marks, taken_erase};
 
@@ -24,7 +24,7 @@ use datastream::{Command, Order, Orders};
 
 /// What is believed of a cell that a write has stored or a read has returned.
 pub(crate) fn place_of(cell: Cell) -> CellBelief
-    ensures { result ≡ place_stored cell }
+    ensures { result ≡ belief_of_cell cell }
 {
     match cell {
         Cell::Attr(attr) => CellBelief::Attr(

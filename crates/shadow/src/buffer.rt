@@ -5,7 +5,7 @@ ghost use Rattle.datastream.specs.Fields.{fields as fields_in};
 ghost use Rattle.shadow.specs.declared.cell_belief.CellBelief.TheVariants.{Unknown};
 ghost use Rattle.shadow.specs.InPlace.{chars_known, beliefs_held, known_text, misses_here, other_here, IsHeld};
 ghost use Rattle.shadow.specs.Runs.{placed, other_next};
-ghost use Rattle.shadow.specs.Since.{place_stored, places_stored};
+ghost use Rattle.shadow.specs.Since.{belief_of_cell, beliefs_of_cells};
 ghost use Rattle.shadow.specs.AfterReadBuffer.{differs, others, same_attr as are_same};
 
 use crate::apply_write::place_of;
@@ -23,9 +23,9 @@ pub(crate) fn same_attr(one: Attr, other: Attr) -> bool
 
 /// The next character that was read, if one comes before the first attribute; `whole` follows `rest`.
 pub(crate) fn next_char(rest: &mut Cells<'_>, whole: &mut Cells<'_>) -> Option<u8>
-    ensures { let ahead = places_stored rest.old ++ places_stored whole.old in
+    ensures { let ahead = beliefs_of_cells rest.old ++ beliefs_of_cells whole.old in
         MatchOption result (known_text (chars_known ahead) ≡ []) (λ char. known_text (chars_known ahead)
-        ≡ char ∷ known_text (chars_known (places_stored rest.new ++ places_stored whole.new))) }
+        ≡ char ∷ known_text (chars_known (beliefs_of_cells rest.new ++ beliefs_of_cells whole.new))) }
 {
     match rest.next() {
         Some(Cell::Char(char)) => Some(char),
@@ -36,8 +36,8 @@ pub(crate) fn next_char(rest: &mut Cells<'_>, whole: &mut Cells<'_>) -> Option<u
 
 /// The next character of `whole`; `None` at an attribute or at the end.
 fn next_round(whole: &mut Cells<'_>) -> Option<u8>
-    ensures { MatchOption result (known_text (chars_known (places_stored whole.old)) ≡ []) (λ char. known_text
-        (chars_known (places_stored whole.old)) ≡ char ∷ known_text (chars_known (places_stored whole.new))) }
+    ensures { MatchOption result (known_text (chars_known (beliefs_of_cells whole.old)) ≡ []) (λ char. known_text
+        (chars_known (beliefs_of_cells whole.old)) ≡ char ∷ known_text (chars_known (beliefs_of_cells whole.new))) }
 {
     match whole.next() {
         Some(Cell::Char(char)) => Some(char),
@@ -60,7 +60,7 @@ fn differs_here(place: CellBelief, char: Option<u8>) -> bool
 /// Whether the characters read before the first attribute differ from the known ones, or are more or fewer.
 fn are_others(known: Ahead<'_>, rest: Cells<'_>, whole: Cells<'_>) -> bool
     ensures { result ≡ differs (chars_known known.entry)
-        (known_text (chars_known (places_stored rest.entry ++ places_stored whole.entry))) }
+        (known_text (chars_known (beliefs_of_cells rest.entry ++ beliefs_of_cells whole.entry))) }
 {
     let mut rest = rest;
     let mut whole = whole;
@@ -89,7 +89,7 @@ pub(crate) fn is_other_text(
 ) -> bool
     requires { place < length beliefs.now }
     ensures { result ≡ differs (chars_known (drop (place + 1) beliefs.now ++ beliefs.now))
-        (known_text (chars_known (places_stored rest.now ++ places_stored whole.now))) }
+        (known_text (chars_known (beliefs_of_cells rest.now ++ beliefs_of_cells whole.now))) }
 {
     // For the contract: the screen has at most `MOST_CELLS` cells.
     let _cells = beliefs.len();
@@ -110,8 +110,8 @@ pub(crate) fn is_other(
     whole: &Cells<'_>,
 ) -> bool
     requires { place < length beliefs.now }
-    ensures { result ≡ other_here (slice_index_or beliefs.now place Unknown) (place_stored cell)
-        (drop (place + 1) beliefs.now ++ beliefs.now) (places_stored rest.now ++ places_stored whole.now) }
+    ensures { result ≡ other_here (slice_index_or beliefs.now place Unknown) (belief_of_cell cell)
+        (drop (place + 1) beliefs.now ++ beliefs.now) (beliefs_of_cells rest.now ++ beliefs_of_cells whole.now) }
 {
     match (beliefs.get(place), cell) {
         (CellBelief::Attr(believed, _, _), Cell::Attr(attr)) => {
@@ -175,7 +175,7 @@ fn put_run(beliefs: &mut CellBeliefs, from: usize, text: &[u8]) -> usize
 /// Replaces all beliefs by the cells that were read of a screen of this size.
 pub(crate) fn put_read(beliefs: &mut CellBeliefs, cells: Cells<'_>, size: Size)
     requires { length cells ≡ cells_in size }
-    ensures { beliefs.new ≡ places_stored cells.entry }
+    ensures { beliefs.new ≡ beliefs_of_cells cells.entry }
 {
     beliefs.clear(size);
     // For the contract: the screen has at most `MOST_CELLS` cells.

@@ -10,11 +10,11 @@ use std::marker::Model;
 pub(crate) enum TextKnowledge {
     /// Each cell says itself whether its character is known.
     Cells,
-    /// The field's characters are the text of its `Told` cells, or all nulls.
+    /// The field's characters are the text of its `Unplaced` cells, or all nulls.
     ExactOrNulls,
-    /// The field's characters without nulls are the text of its `Told` cells.
+    /// The field's characters without nulls are the text of its `Unplaced` cells.
     Text,
-    /// The field's characters without nulls are the text of its `Told` cells, or all are nulls.
+    /// The field's characters without nulls are the text of its `Unplaced` cells, or all are nulls.
     TextOrNulls,
 }
 

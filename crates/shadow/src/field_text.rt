@@ -2,7 +2,7 @@
 ghost use Rattle.std.specs.Prelude.{◌≡◌, ◌∷◌, List, [], MatchOption};
 ghost use Rattle.std.specs.Iterator.{YieldsFirst, item_count};
 ghost use Rattle.shadow.specs.FieldTexts.{text_in};
-ghost use Rattle.shadow.specs.declared.cell_belief.CellBelief.{CellBelief as CellBeliefPlace};
+ghost use Rattle.shadow.specs.declared.cell_belief.CellBelief.{CellBelief as CellBeliefKind};
 
 use crate::cell_belief::CellBelief;
 use crate::cell_beliefs::{Ahead, CellBeliefs};
@@ -14,7 +14,7 @@ use std::marker::Model;
 pub(crate) enum TextPlaces {
     /// Those whose characters are known.
     Known,
-    /// The `Told` ones.
+    /// The `Unplaced` ones.
     Unplaced,
     /// None: there is no text.
     Nowhere,
@@ -38,7 +38,7 @@ impl<'a> Model for FieldText<'a> {
 
 /// The character that a cell has of the text, if it has one.
 fn character_at(text_places: TextPlaces, place: CellBelief) -> Option<u8>
-    ensures { (rest : List CellBeliefPlace) → MatchOption result (text_in text_places (place ∷ rest) ≡ [])
+    ensures { (rest : List CellBeliefKind) → MatchOption result (text_in text_places (place ∷ rest) ≡ [])
         (λ char. text_in text_places (place ∷ rest) ≡ char ∷ text_in text_places rest) }
 {
     match (text_places, place) {

@@ -3,7 +3,7 @@
 ghost use Rattle.shadow.specs.Doubt.{DoubtAllowsTheScreen, DoubtAllowsInput, DoubtListsFields, DoubtKeepsTheSize, DoubtStaysExact, DoubtStaysProtected, DoubtCanBeStored, DoubtIsOnce};
 ghost use Rattle.shadow.specs.TextUnknown.{LongOpensNothing, ReadLeavesNothingOpen, EraseLeavesNothingOpen, ClearIsHeard, PaintOpensNothing};
 ghost use Rattle.shadow.specs.Notes.{NoteOverwritesProtected, NoteOverwritesBare, PlacedStaysKnown, NoteStaysListed, NoteStaysTold, NoteStaysExact, NoteOpensNothing, NoteStaysWhole};
-ghost use Rattle.shadow.specs.Laws.{HearsModified, HearsAll, HearsBuffer, WrittenIsTaken, WantedIsPainted, PaintIsTaken, PaintedIsKnown, PaintIsBounded, PaintIsPlain, PaintIsSpelt, KnownIsThere, AttributesAreKnown};
+ghost use Rattle.shadow.specs.Laws.{HearsModified, HearsAll, HearsBuffer, WrittenIsTaken, WantedIsPainted, PaintIsTaken, PaintedIsKnown, PaintIsBounded, PaintIsPlain, PaintIsEncoded, KnownIsThere, AttributesAreKnown};
 ghost use Rattle.shadow.specs.Exactness.{NothingIsExact, HeardStaysExact, HeardStaysProtected, TakenStaysExact, ErasedIsExact, PaintedIsExact, WrittenStaysProtected, ProtectedIsSeen, ReturnedIsTold};
 ghost use Rattle.shadow.specs.RuleBreaks.{RulesAreNotBroken};
 ghost use Rattle.shadow.specs.PaintedFields.{KeptStaysThere, WrittenIsThere};
@@ -33,7 +33,7 @@ pub fn what_is_written_is_taken()
 /// the belief into the wanted one, which meets the belief after the paint. Something is known then.
 pub fn what_is_wanted_is_painted()
     ensures plain { PaintIsPlain }
-    ensures spelt { PaintIsSpelt }
+    ensures encoded { PaintIsEncoded }
     ensures bounded { PaintIsBounded }
     ensures painted { WantedIsPainted }
     ensures taken { PaintIsTaken }

@@ -9,7 +9,7 @@ ghost use Rattle.shadow.specs.declared.rule_break.Rule.TheVariants.{Applies};
 ghost use Rattle.shadow.specs.InPlace.{belief_held, beliefs_held, chars_known, fact_held, known_text, IsHeld};
 ghost use Rattle.shadow.specs.RuleBreaks.{break_at, first_break, input_rule as input_rule_broken, is_believed, is_erased, lesser, mdt_differs, protected_rule as protected_rule_broken};
 ghost use Rattle.shadow.specs.Runs.{operator_rule_at, rule_at, rule_next};
-ghost use Rattle.shadow.specs.Since.{places_stored};
+ghost use Rattle.shadow.specs.Since.{beliefs_of_cells};
 
 use crate::buffer::{is_other, is_other_text, next_char};
 use crate::cell_belief::{CellBelief, TextKnowledge};
@@ -22,7 +22,8 @@ use datastream::Cells;
 
 /// Whether the characters that were read before the first attribute are all nulls; `whole` follows `rest`.
 fn are_erased(rest: Cells<'_>, whole: Cells<'_>) -> bool
-    ensures { result ≡ is_erased (known_text (chars_known (places_stored rest.entry ++ places_stored whole.entry))) }
+    ensures { result ≡ is_erased (known_text (chars_known (beliefs_of_cells rest.entry
+        ++ beliefs_of_cells whole.entry))) }
 {
     let mut rest = rest;
     let mut whole = whole;
@@ -37,7 +38,7 @@ fn are_erased(rest: Cells<'_>, whole: Cells<'_>) -> bool
 /// Whether the characters that were read before the first attribute are this text.
 fn are_told(told: FieldText<'_>, rest: Cells<'_>, whole: Cells<'_>) -> bool
     ensures { result
-        ≡ bytes_eq told.entry (known_text (chars_known (places_stored rest.entry ++ places_stored whole.entry))) }
+        ≡ bytes_eq told.entry (known_text (chars_known (beliefs_of_cells rest.entry ++ beliefs_of_cells whole.entry))) }
 {
     let mut rest = rest;
     let mut whole = whole;
@@ -53,7 +54,7 @@ fn are_told(told: FieldText<'_>, rest: Cells<'_>, whole: Cells<'_>) -> bool
 /// Whether the characters that were read before the first attribute are this text once nulls are left out.
 fn are_told_without_nulls(told: FieldText<'_>, rest: Cells<'_>, whole: Cells<'_>) -> bool
     ensures { result ≡ bytes_eq told.entry
-        (without_nulls (known_text (chars_known (places_stored rest.entry ++ places_stored whole.entry)))) }
+        (without_nulls (known_text (chars_known (beliefs_of_cells rest.entry ++ beliefs_of_cells whole.entry)))) }
 {
     let mut told = told;
     let mut rest = rest;
@@ -79,7 +80,7 @@ fn is_believed(
 ) -> bool
     requires { place < length beliefs.now }
     ensures { result ≡ is_believed (fact_held knowledge (drop (place + 1) beliefs.now ++ beliefs.now))
-        (known_text (chars_known (places_stored rest.now ++ places_stored whole.now))) }
+        (known_text (chars_known (beliefs_of_cells rest.now ++ beliefs_of_cells whole.now))) }
 {
     match knowledge {
         TextKnowledge::Cells => !is_other_text(beliefs, place, rest, whole),
@@ -114,7 +115,7 @@ fn input_rule(
         (belief_held place attribute mdt knowledge (drop (place + 1) beliefs.now ++ beliefs.now)) (record {
           place = place;
           attr = seen;
-          text = known_text (chars_known (places_stored rest.now ++ places_stored whole.now));
+          text = known_text (chars_known (beliefs_of_cells rest.now ++ beliefs_of_cells whole.now));
         }) }
 {
     if seen.mdt || are_erased(rest.copy(), whole.copy()) {
@@ -162,7 +163,7 @@ fn operator_rule(
 ) -> Option<Rule>
     requires { place < length beliefs.now }
     ensures { result ≡ operator_rule_at place held cell (drop (place + 1) beliefs.now ++ beliefs.now)
-        (known_text (chars_known (places_stored rest.now ++ places_stored whole.now))) }
+        (known_text (chars_known (beliefs_of_cells rest.now ++ beliefs_of_cells whole.now))) }
 {
     match (held, cell) {
         (CellBelief::Attr(attr, mdt, knowledge), Cell::Attr(seen)) => {
@@ -187,7 +188,7 @@ fn rule_broken(
     requires placed { place < length beliefs.now }
     requires held { IsHeld beliefs.now }
     ensures { result ≡ rule_at place (slice_index_or beliefs.now place Unknown) cell (drop (place + 1) beliefs.now
-        ++ beliefs.now) (known_text (chars_known (places_stored rest.now ++ places_stored whole.now))) }
+        ++ beliefs.now) (known_text (chars_known (beliefs_of_cells rest.now ++ beliefs_of_cells whole.now))) }
 {
     if is_other(beliefs, place, cell, rest, whole) {
         return Some(Rule::Applies);

@@ -2,7 +2,7 @@
 -- and a write.
 use Rattle.std.specs.Prelude.{◌≡◌, ◌≢◌, ◌<◌, ◌≤◌, ◌+◌, ◌-◌, ◌^◌, min, ◌&&◌, ◌||◌, ⊤, ℕ, Bool, true, false, not, ltb, List, [], length, replicate, slice_set, slice_index_or, Option, Some, None, is_some, Result}
 use Rattle.std.specs.declared.io.Error.{Error}
-use Rattle.host_core.specs.State.{Host, most_connections, phase_of, service_at}
+use Rattle.host_core.specs.State.{Host, most_connections, phase_of, state_at}
 use Rattle.host_core.specs.declared.links.LinkRead.{LinkRead}
 use Rattle.host_core.specs.declared.links.LinkRead.TheVariants as read
 use Rattle.host_core.specs.declared.links.LinkWrite.{LinkWrite}
@@ -60,11 +60,11 @@ counted count more = min (count + more) last_count
 -- ---- one call of a socket
 
 -- holds for at least one byte, and at most as many as there is room for
-abbrev pub GetsIn : LinkRead → ℕ → Type 0
-GetsIn (read.Got count) room = (0 < count) × (count ≤ room)
-GetsIn read.NotNow room = ⊤
-GetsIn read.Ended room = ⊤
-GetsIn read.Failed room = ⊤
+abbrev pub IsValidReadCount : LinkRead → ℕ → Type 0
+IsValidReadCount (read.Got count) room = (0 < count) × (count ≤ room)
+IsValidReadCount read.NotNow room = ⊤
+IsValidReadCount read.Ended room = ⊤
+IsValidReadCount read.Failed room = ⊤
 
 -- holds for at least one byte, and at most as many as the call was given
 abbrev pub TookSome : LinkWrite → ℕ → Type 0
@@ -75,28 +75,28 @@ TookSome write.Failed given = ⊤
 module _ {S : Type 0} where
   -- holds if a socket is read once, and its answer has this meaning
   pub record IsReadOnce (gave : S → ℕ → List ℕ → Result ℕ Error → S → Type 0) (old : S) (room : ℕ) (bytes : List ℕ)
-      (taken_for : LinkRead) (new : S) : Type 0 where
+      (link_result : LinkRead) (new : S) : Type 0 where
     pub answer : Result ℕ Error
     pub called : gave old room bytes answer new
-    pub taken : taken_for ≡ link_read answer
+    pub taken : link_result ≡ link_read answer
 
   -- holds if a socket is written once, and its answer has this meaning
   pub record IsWrittenOnce (took : S → List ℕ → Result ℕ Error → S → Type 0) (old : S) (bytes : List ℕ)
-      (taken_for : LinkWrite) (new : S) : Type 0 where
+      (link_result : LinkWrite) (new : S) : Type 0 where
     pub answer : Result ℕ Error
     pub called : took old bytes answer new
-    pub taken : taken_for ≡ link_write answer
+    pub taken : link_result ≡ link_write answer
 
   -- ---- a read
 
   -- holds if the socket of a slot is read once, into `room` bytes, and its answer has this meaning
   pub record ReadsSocket (gave : S → ℕ → List ℕ → Result ℕ Error → S → Type 0) (old : SocketSlot S) (room : ℕ)
-      (bytes : List ℕ) (taken_for : LinkRead) (new : SocketSlot S) : Type 0 where
+      (bytes : List ℕ) (link_result : LinkRead) (new : SocketSlot S) : Type 0 where
     pub socket : S
     pub after : S
     pub has_socket : old.socket ≡ Some socket
     pub may : may_be_read old room ≡ true
-    pub once : IsReadOnce gave socket room bytes taken_for after
+    pub once : IsReadOnce gave socket room bytes link_result after
     pub keeps_socket : new.socket ≡ Some after
 
   -- Holds if a read gives nothing: the socket isn't read, has nothing now, or a count of ends or failures can't rise.
@@ -129,12 +129,12 @@ module _ {S : Type 0} where
 
   -- holds if the socket of a slot is written once, and its answer has this meaning
   pub record WritesSocket (took : S → List ℕ → Result ℕ Error → S → Type 0) (old : SocketSlot S) (bytes : List ℕ)
-      (taken_for : LinkWrite) (new : SocketSlot S) : Type 0 where
+      (link_result : LinkWrite) (new : SocketSlot S) : Type 0 where
     pub socket : S
     pub after : S
     pub has_socket : old.socket ≡ Some socket
     pub may : may_be_written old bytes ≡ true
-    pub once : IsWrittenOnce took socket bytes taken_for after
+    pub once : IsWrittenOnce took socket bytes link_result after
     pub keeps_socket : new.socket ≡ Some after
 
   -- Holds if a write takes nothing: the socket isn't written, takes nothing now, or the count of failures can't rise.
@@ -226,4 +226,4 @@ module _ {S : Type 0} where
 
 -- holds if no number below this one is free
 abbrev pub AreTaken : ℕ → Host → Type 0
-AreTaken below host = (conn : ℕ) → conn < below → phase_of (service_at conn host) ≢ phase.Free
+AreTaken below host = (conn : ℕ) → conn < below → phase_of (state_at conn host) ≢ phase.Free

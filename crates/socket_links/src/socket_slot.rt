@@ -1,8 +1,8 @@
 //! The slot of a connection number: the socket of its connection, if there is one, and its counts.
 ghost use Rattle.std.specs.Prelude.{◌≡◌, true, false, length};
 ghost use Rattle.host_core.specs.Serves.{GotWithin, TookWithin, bytes_got};
-ghost use Rattle.job_streams.specs.RawCalls.{is_passing, link_read, link_write};
-ghost use Rattle.socket_links.specs.Sockets.{GetsIn, Gives, IsReadOnce, IsWrittenOnce, Raises, Takes, TookSome, counted, emptied, is_connected, is_held_back, opened, unused, with_waiting};
+ghost use Rattle.job_streams.specs.RawCalls.{is_transient, link_read, link_write};
+ghost use Rattle.socket_links.specs.Sockets.{IsValidReadCount, Gives, IsReadOnce, IsWrittenOnce, Raises, Takes, TookSome, counted, emptied, is_connected, is_held_back, opened, unused, with_waiting};
 
 use host_core::{LinkRead, LinkWrite};
 use job_streams::{RawRead, RawWrite};
@@ -22,8 +22,8 @@ fn is_held_back(waiting: usize) -> bool
 }
 
 /// Whether an error means only that the call did nothing and will be repeated.
-pub fn is_passing(kind: ErrorKind) -> bool
-    ensures { result ≡ is_passing kind }
+pub fn is_transient(kind: ErrorKind) -> bool
+    ensures { result ≡ is_transient kind }
 {
     matches!(kind, ErrorKind::WouldBlock | ErrorKind::Interrupted)
 }
@@ -35,7 +35,7 @@ fn link_read(answer: io::Result<usize>) -> LinkRead
     match answer {
         Ok(0) => LinkRead::Ended,
         Ok(count) => LinkRead::Got(count),
-        Err(error) if is_passing(error.kind()) => LinkRead::NotNow,
+        Err(error) if is_transient(error.kind()) => LinkRead::NotNow,
         Err(_) => LinkRead::Failed,
     }
 }
@@ -47,14 +47,14 @@ fn link_write(answer: io::Result<usize>) -> LinkWrite
     match answer {
         Ok(0) => LinkWrite::NotNow,
         Ok(count) => LinkWrite::Took(count),
-        Err(error) if is_passing(error.kind()) => LinkWrite::NotNow,
+        Err(error) if is_transient(error.kind()) => LinkWrite::NotNow,
         Err(_) => LinkWrite::Failed,
     }
 }
 
 /// Reads a socket once, into a buffer that has room.
 pub fn read_once<S: RawRead>(socket: &mut S, buffer: &mut [u8]) -> LinkRead
-    ensures within { GetsIn result (length buffer.new) }
+    ensures within { IsValidReadCount result (length buffer.new) }
     ensures once { IsReadOnce S.read_gave socket.old (length buffer.new)
         (bytes_got result buffer.new) result socket.new }
 {

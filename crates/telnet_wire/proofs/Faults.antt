@@ -13,7 +13,7 @@ use Rattle.telnet_wire.proofs.Prefixes.{escaped-first, escaped-not_command, cont
 use Rattle.telnet_wire.proofs.Streams.{items_after-append, unfinished_after-append, all-append}
 
 none_of_nil : BeginsWithNone []
-none_of_nil = BeginsWithNone-partial [] (record { token = End; missing = 255 ∷ 239 ∷ []; proper = λ e. cc; is_token = tt; is_short = tt; spelt = refl })
+none_of_nil = BeginsWithNone-partial [] (record { token = End; missing = 255 ∷ 239 ∷ []; proper = λ e. cc; is_token = tt; is_short = tt; encoded = refl })
 
 pub one_spelling : OneSpelling
 one_spelling tokens others p q e =
@@ -25,7 +25,7 @@ rest_of u p = record { unfinished = u; partial = p }
 pub one_reading : OneReading
 one_reading limit from bytes tokens others to other a ra b rb =
     let r = text-unique tokens others to.partial other.partial a.each b.each
-    (BeginsWithNone-partial to.partial ra.partial) (BeginsWithNone-partial other.partial rb.partial) (sym a.spelt ∙ b.spelt) in
+    (BeginsWithNone-partial to.partial ra.partial) (BeginsWithNone-partial other.partial rb.partial) (sym a.encoded ∙ b.encoded) in
     (r.0, same to other (a.unfinished ∙ ap (unfinished_after from.unfinished) r.0 ∙ sym b.unfinished) r.1)
   where
     same : (x y : Rest) → x.unfinished ≡ y.unfinished → x.partial ≡ y.partial → x ≡ y
@@ -136,7 +136,7 @@ no_stream : (fault : WireFault) (wrong : List ℕ) → SubWrong fault wrong → 
     → AllByRecursion IsToken vs → AllByRecursion IsShort vs → IsPartial r → wrong ++ more ≡ text vs ++ r → ⊥
 no_stream fault wrong h [] more r p q part e =
     not_token fault wrong h part.token [] (more ++ part.missing) part.is_token part.is_short
-    (append-nil (spelling part.token) ∙ part.spelt ∙ ap (λ z. z ++ part.missing) (sym e) ∙ append_assoc wrong more part.missing)
+    (append-nil (spelling part.token) ∙ part.encoded ∙ ap (λ z. z ++ part.missing) (sym e) ∙ append_assoc wrong more part.missing)
 no_stream fault wrong h (v ∷ vs) more r p q part e =
     not_token fault wrong h v (text vs ++ r) more p.0 q.0 (sym (append_assoc (spelling v) (text vs) r) ∙ sym e)
 
@@ -185,9 +185,9 @@ module _ (limit : ℕ) (from : Rest) (bytes : List ℕ) (tokens : List Token) (t
   longer : List Token
   longer = tokens ++ Data byte ∷ []
 
-  longer-spelt : from.partial ++ bytes ≡ text longer
+  longer-encoded : from.partial ++ bytes ≡ text longer
   unfolding longer
-  longer-spelt = reads.spelt ∙ ap (λ z. text tokens ++ z) (is ∙ sym (append-nil (escaped byte))) ∙ sym (flat_map-append spelling tokens (Data byte ∷ []))
+  longer-encoded = reads.encoded ∙ ap (λ z. text tokens ++ z) (is ∙ sym (append-nil (escaped byte))) ∙ sym (flat_map-append spelling tokens (Data byte ∷ []))
 
   longer-each : AllByRecursion IsToken longer
   unfolding longer
@@ -209,21 +209,21 @@ wrong_is_final limit from bytes more fault tokens to wrong reads rest =
     (λ d.
     let split = text-split (longer limit from bytes wrong.tokens wrong.to wrong.reads d.0 d.1 d.2) tokens more to.partial
     (longer-each limit from bytes wrong.tokens wrong.to wrong.reads d.0 d.1 d.2) reads.each (BeginsWithNone-partial to.partial rest.partial)
-    (ap (λ z. z ++ more) (sym (longer-spelt limit from bytes wrong.tokens wrong.to wrong.reads d.0 d.1 d.2)) ∙ append_assoc from.partial bytes more ∙ reads.spelt) in
+    (ap (λ z. z ++ more) (sym (longer-encoded limit from bytes wrong.tokens wrong.to wrong.reads d.0 d.1 d.2)) ∙ append_assoc from.partial bytes more ∙ reads.encoded) in
     let within = never_over limit from.unfinished (longer limit from bytes wrong.tokens wrong.to wrong.reads d.0 d.1 d.2) split.0
     (subst (λ z. AllByRecursion (IsWithin limit) (items_after from.unfinished z)) split.1 reads.records)
     (subst (λ z. length (unfinished_after from.unfinished z) ≤ limit) split.1 (subst (λ z. length z ≤ limit) reads.unfinished rest.unfinished)) in
     omega (arith, within, longer-over limit from bytes wrong.tokens wrong.to wrong.reads d.0 d.1 d.2))
     (λ s.
     let split = text-split wrong.tokens tokens (wrong.to.partial ++ more) to.partial wrong.reads.each reads.each (BeginsWithNone-partial to.partial rest.partial)
-    (sym (append_assoc (text wrong.tokens) wrong.to.partial more) ∙ ap (λ z. z ++ more) (sym wrong.reads.spelt) ∙ append_assoc from.partial bytes more ∙ reads.spelt) in
+    (sym (append_assoc (text wrong.tokens) wrong.to.partial more) ∙ ap (λ z. z ++ more) (sym wrong.reads.encoded) ∙ append_assoc from.partial bytes more ∙ reads.encoded) in
     no_stream fault wrong.to.partial s.0 split.0 more to.partial
     (all-right _ wrong.tokens split.0 (subst (AllByRecursion IsToken) split.1 reads.each))
     (all-right _ wrong.tokens split.0 (subst (AllByRecursion IsShort) split.1 reads.short)) rest.partial split.2)
     (wrong_cases limit wrong.to fault wrong.is_wrong)
 
 nil_partial : IsPartial []
-nil_partial = record { token = End; missing = 255 ∷ 239 ∷ []; proper = λ e. cc; is_token = tt; is_short = tt; spelt = refl }
+nil_partial = record { token = End; missing = 255 ∷ 239 ∷ []; proper = λ e. cc; is_token = tt; is_short = tt; encoded = refl }
 
 -- a list with one more element begins with another list: that is all of it, or begins the list
 last_or : {A : Type 0} (xs ys vs : List A) (z : A) → xs ++ z ∷ [] ≡ ys ++ vs → (vs ≡ []) ⊎ ((ws : List A) × (xs ≡ ys ++ ws))
@@ -242,7 +242,7 @@ last_or (x ∷ xs) (y ∷ ys) vs z e =
 record Over (limit : ℕ) (from : Rest) (bytes : List ℕ) : Type 0 where
   before : List Token
   byte : ℕ
-  spelt : from.partial ++ bytes ≡ text (before ++ Data byte ∷ [])
+  encoded : from.partial ++ bytes ≡ text (before ++ Data byte ∷ [])
   each : AllByRecursion IsToken (before ++ Data byte ∷ [])
   short : AllByRecursion IsShort (before ++ Data byte ∷ [])
   over : limit < length (unfinished_after from.unfinished (before ++ Data byte ∷ []))
@@ -255,7 +255,7 @@ unfolding longer
 over_from limit from bytes fault w byte is full = record {
   before = w.tokens;
   byte = byte;
-  spelt = longer-spelt limit from bytes w.tokens w.to w.reads byte is full;
+  encoded = longer-encoded limit from bytes w.tokens w.to w.reads byte is full;
   each = longer-each limit from bytes w.tokens w.to w.reads byte is full;
   short = longer-short limit from bytes w.tokens w.to w.reads byte is full;
   over = longer-over limit from bytes w.tokens w.to w.reads byte is full;
@@ -269,7 +269,7 @@ one_fault limit from bytes more fault other w v =
     (λ d. let over = over_from limit from bytes fault w d.0 d.1 d.2 in ⊎_elim
     (λ k. let again = over_from limit from (bytes ++ more) other v k.0 k.1 k.2 in
     let split = text-split (over.before ++ Data over.byte ∷ []) (again.before ++ Data again.byte ∷ []) more [] over.each again.each none_of_nil
-    (ap (λ z. z ++ more) (sym over.spelt) ∙ append_assoc from.partial bytes more ∙ again.spelt ∙ sym (append-nil (text (again.before ++ Data again.byte ∷ [])))) in
+    (ap (λ z. z ++ more) (sym over.encoded) ∙ append_assoc from.partial bytes more ∙ again.encoded ∙ sym (append-nil (text (again.before ++ Data again.byte ∷ [])))) in
     ⊎_elim
     (λ none. (split.2 ∙ append-nil (text split.0) ∙ ap text none, d.3 ∙ sym k.3))
     (λ r. absurd (omega (
@@ -282,7 +282,7 @@ one_fault limit from bytes more fault other w v =
     (last_or again.before (over.before ++ Data over.byte ∷ []) split.0 (Data again.byte) split.1))
     (λ s.
     let split = text-split (over.before ++ Data over.byte ∷ []) v.tokens more v.to.partial over.each v.reads.each (begins_with_none other v.to.partial s.0)
-    (ap (λ z. z ++ more) (sym over.spelt) ∙ append_assoc from.partial bytes more ∙ v.reads.spelt) in
+    (ap (λ z. z ++ more) (sym over.encoded) ∙ append_assoc from.partial bytes more ∙ v.reads.encoded) in
     absurd (omega (
       arith,
       over.over,
@@ -292,16 +292,16 @@ one_fault limit from bytes more fault other w v =
     )))
     (wrong_cases limit v.to other v.is_wrong))
     (λ s.
-    let start = sym (append_assoc (text w.tokens) w.to.partial more) ∙ ap (λ z. z ++ more) (sym w.reads.spelt) ∙ append_assoc from.partial bytes more in ⊎_elim
+    let start = sym (append_assoc (text w.tokens) w.to.partial more) ∙ ap (λ z. z ++ more) (sym w.reads.encoded) ∙ append_assoc from.partial bytes more in ⊎_elim
     (λ k. let again = over_from limit from (bytes ++ more) other v k.0 k.1 k.2 in
     let split = text-split w.tokens (again.before ++ Data again.byte ∷ []) (w.to.partial ++ more) [] w.reads.each again.each none_of_nil
-    (start ∙ again.spelt ∙ sym (append-nil (text (again.before ++ Data again.byte ∷ [])))) in
+    (start ∙ again.encoded ∙ sym (append-nil (text (again.before ++ Data again.byte ∷ [])))) in
     absurd (no_stream fault w.to.partial s.0 split.0 more []
     (all-right _ w.tokens split.0 (subst (AllByRecursion IsToken) split.1 again.each))
     (all-right _ w.tokens split.0 (subst (AllByRecursion IsShort) split.1 again.short)) nil_partial split.2))
     (λ t.
     let split = text-split w.tokens v.tokens (w.to.partial ++ more) v.to.partial w.reads.each v.reads.each (begins_with_none other v.to.partial t.0)
-    (start ∙ v.reads.spelt) in
+    (start ∙ v.reads.encoded) in
     two_subs fault other w.to.partial v.to.partial more split.0 s.0 t.0
     (all-right _ w.tokens split.0 (subst (AllByRecursion IsToken) split.1 v.reads.each))
     (all-right _ w.tokens split.0 (subst (AllByRecursion IsShort) split.1 v.reads.short)) split.2)
@@ -317,11 +317,11 @@ one_fault limit from bytes more fault other w v =
 pub reading_goes_on : ReadingGoesOn
 reading_goes_on limit from first more begun tokens mid to a b rest =
     let split = text-split begun tokens (mid.partial ++ more) to.partial a.each b.each (BeginsWithNone-partial to.partial rest.partial)
-    (sym (append_assoc (text begun) mid.partial more) ∙ ap (λ z. z ++ more) (sym a.spelt) ∙ append_assoc from.partial first more ∙ b.spelt) in (
+    (sym (append_assoc (text begun) mid.partial more) ∙ ap (λ z. z ++ more) (sym a.encoded) ∙ append_assoc from.partial first more ∙ b.encoded) in (
       split.0,
       split.1,
       record {
-        spelt = split.2;
+        encoded = split.2;
         unfinished = b.unfinished ∙ ap (unfinished_after from.unfinished) split.1 ∙ unfinished_after-append from.unfinished begun split.0
             ∙ ap (λ z. unfinished_after z split.0) (sym a.unfinished);
         each = all-right _ begun split.0 (subst (AllByRecursion IsToken) split.1 b.each);

@@ -29,10 +29,10 @@ holding limit unfinished partial ready = record {
 goes_on : (limit : ℕ) (unfinished before after : List ℕ) (byte : ℕ) (ready : Option WireItem)
     → before ++ byte ∷ [] ≡ after → length unfinished ≤ limit → IsPartial after
     → Takes (holding limit unfinished before ready) byte (holding limit unfinished after None)
-goes_on limit unfinished before after byte ready spelt fits part = record {
+goes_on limit unfinished before after byte ready encoded fits part = record {
   delivers = record {
     tokens = [];
-    reads = record { spelt = spelt; unfinished = refl; each = tt; short = tt; records = tt };
+    reads = record { encoded = encoded; unfinished = refl; each = tt; short = tt; records = tt };
     is_rest = record { unfinished = fits; partial = part };
     said = refl;
   };
@@ -45,15 +45,15 @@ goes_on limit unfinished before after byte ready spelt fits part = record {
 goes_wrong : (limit : ℕ) (unfinished before after : List ℕ) (byte : ℕ) (fault : WireFault) → before ++ byte ∷ [] ≡ after
     → IsWrong limit (record { unfinished = unfinished; partial = after }) fault
     → GoesWrong limit (record { unfinished = unfinished; partial = before }) (byte ∷ []) fault
-goes_wrong limit unfinished before after byte fault spelt wrong = record {
+goes_wrong limit unfinished before after byte fault encoded wrong = record {
   tokens = [];
   to = record { unfinished = unfinished; partial = after };
-  reads = record { spelt = spelt; unfinished = refl; each = tt; short = tt; records = tt };
+  reads = record { encoded = encoded; unfinished = refl; each = tt; short = tt; records = tt };
   is_wrong = wrong;
 }
 
 pub nothing_yet : IsPartial []
-nothing_yet = record { token = End; missing = 255 ∷ 239 ∷ []; proper = λ e. cc; is_token = tt; is_short = tt; spelt = refl }
+nothing_yet = record { token = End; missing = 255 ∷ 239 ∷ []; proper = λ e. cc; is_token = tt; is_short = tt; encoded = refl }
 
 -- a token is complete
 completes : (limit : ℕ) (unfinished before : List ℕ) (byte : ℕ) (ready : Option WireItem) (token : Token) (now : Option WireItem)
@@ -62,11 +62,11 @@ completes : (limit : ℕ) (unfinished before : List ℕ) (byte : ℕ) (ready : O
     → AllByRecursion (IsWithin limit) (items_after unfinished (token ∷ []))
     → length (unfinished_after unfinished (token ∷ [])) ≤ limit
     → Takes (holding limit unfinished before ready) byte (holding limit (unfinished_after unfinished (token ∷ [])) [] now)
-completes limit unfinished before byte ready token now spelt whole short items within fits = record {
+completes limit unfinished before byte ready token now encoded whole short items within fits = record {
   delivers = record {
     tokens = token ∷ [];
     reads = record {
-      spelt = spelt ∙ sym (append-nil (spelling token)) ∙ sym (append-nil (spelling token ++ []));
+      encoded = encoded ∙ sym (append-nil (spelling token)) ∙ sym (append-nil (spelling token ++ []));
       unfinished = refl;
       each = (whole, tt);
       short = (short, tt);
@@ -83,7 +83,7 @@ completes limit unfinished before byte ready token now spelt whole short items w
 module _ (gathered : Bounded) (content : List ℕ) where
   pub meets_iac : length gathered.bytes ≤ gathered.limit → Takes (held Between gathered content) 255 (held AfterIac gathered content)
   meets_iac fits = goes_on _ _ _ _ _ _ refl fits
-      (record { token = End; missing = 239 ∷ []; proper = λ e. cc; is_token = tt; is_short = tt; spelt = refl })
+      (record { token = End; missing = 239 ∷ []; proper = λ e. cc; is_token = tt; is_short = tt; encoded = refl })
 
   pub takes_data : (byte : ℕ) → byte ≢ 255 → length gathered.bytes < gathered.limit
       → Takes (held Between gathered content) byte (held Between (with_byte gathered byte) content)
@@ -108,12 +108,12 @@ module _ (gathered : Bounded) (content : List ℕ) where
   pub opens_sub : length gathered.bytes ≤ gathered.limit
       → Takes (held AfterIac gathered content) 250 (held InSub gathered [])
   opens_sub fits = goes_on _ _ _ _ _ _ refl fits
-      (record { token = Sub []; missing = 255 ∷ 240 ∷ []; proper = λ e. cc; is_token = tt; is_short = omega arith; spelt = refl })
+      (record { token = Sub []; missing = 255 ∷ 240 ∷ []; proper = λ e. cc; is_token = tt; is_short = omega arith; encoded = refl })
 
   pub meets_verb : (verb : Verb) → length gathered.bytes ≤ gathered.limit
       → Takes (held AfterIac gathered content) (code_of verb) (held (AfterVerb verb) gathered content)
   meets_verb verb fits = goes_on _ _ _ _ _ _ refl fits
-      (record { token = Opt verb 0; missing = 0 ∷ []; proper = λ e. cc; is_token = tt; is_short = tt; spelt = refl })
+      (record { token = Opt verb 0; missing = 0 ∷ []; proper = λ e. cc; is_token = tt; is_short = tt; encoded = refl })
 
   pub takes_other : (code : ℕ) → IsOtherCode code → length gathered.bytes ≤ gathered.limit
       → Takes (held AfterIac gathered content) code (held (Done (IsOther code)) gathered content)
@@ -124,7 +124,7 @@ module _ (gathered : Bounded) (content : List ℕ) where
   takes_option verb code fits = completes _ _ _ _ _ (Opt verb code) (Some _) refl tt tt refl (tt, tt) fits
 
   part_of_sub : (bytes : List ℕ) → length bytes ≤ 256 → IsPartial (opened bytes)
-  part_of_sub bytes fits = record { token = Sub bytes; missing = 255 ∷ 240 ∷ []; proper = λ e. cc; is_token = tt; is_short = fits; spelt = refl }
+  part_of_sub bytes fits = record { token = Sub bytes; missing = 255 ∷ 240 ∷ []; proper = λ e. cc; is_token = tt; is_short = fits; encoded = refl }
 
   -- one more byte of content
   opened_more : (bytes : List ℕ) (byte : ℕ) → opened (bytes ++ byte ∷ []) ≡ opened bytes ++ escaped byte
@@ -134,7 +134,7 @@ module _ (gathered : Bounded) (content : List ℕ) where
   pub meets_iac_in_sub : length gathered.bytes ≤ gathered.limit → length content ≤ 256
       → Takes (held InSub gathered content) 255 (held AfterIacInSub gathered content)
   meets_iac_in_sub fits inside = goes_on _ _ _ _ _ _ refl fits
-      (record { token = Sub content; missing = 240 ∷ []; proper = λ e. cc; is_token = tt; is_short = inside; spelt = sym (append_assoc (opened content) (255 ∷ []) (240 ∷ [])) })
+      (record { token = Sub content; missing = 240 ∷ []; proper = λ e. cc; is_token = tt; is_short = inside; encoded = sym (append_assoc (opened content) (255 ∷ []) (240 ∷ [])) })
 
   pub takes_content : (byte : ℕ) → byte ≢ 255 → length gathered.bytes ≤ gathered.limit → length content < 256
       → Takes (held InSub gathered content) byte (held InSub gathered (content ++ byte ∷ []))

@@ -32,8 +32,8 @@ all-append P (x ∷ xs) ys p q = (p.0, all-append P xs ys p.1 q)
 
 pub readings_compose : ReadingsCompose
 readings_compose limit from mid to first second ts us b c = record {
-  spelt = sym (append_assoc from.partial first second) ∙ ap (λ z. z ++ second) b.spelt ∙ append_assoc (text ts) mid.partial second
-      ∙ ap (λ z. text ts ++ z) c.spelt ∙ sym (append_assoc (text ts) (text us) to.partial)
+  encoded = sym (append_assoc from.partial first second) ∙ ap (λ z. z ++ second) b.encoded ∙ append_assoc (text ts) mid.partial second
+      ∙ ap (λ z. text ts ++ z) c.encoded ∙ sym (append_assoc (text ts) (text us) to.partial)
       ∙ ap (λ z. z ++ to.partial) (sym (flat_map-append spelling ts us));
   unfinished = rw (unfinished_after-append from.unfinished ts us, ← b.unfinished) c.unfinished;
   each = all-append _ ts us b.each c.each;
@@ -50,7 +50,7 @@ wrong_piece limit from mid first second ts fault b c = record {
 }
 
 pub reading_nothing : ReadingNothing
-reading_nothing limit rest = record { spelt = append-nil rest.partial; unfinished = refl; each = tt; short = tt; records = tt }
+reading_nothing limit rest = record { encoded = append-nil rest.partial; unfinished = refl; each = tt; short = tt; records = tt }
 
 pub nothing_is_rest : NothingIsRest
 nothing_is_rest limit = record { unfinished = omega arith; partial = nothing_yet }
@@ -97,7 +97,7 @@ pub item_is_read : ItemIsRead
 item_is_read limit (Record bytes) come = record {
   tokens = record_tokens bytes;
   reads = record {
-    spelt = sym (append-nil (text (record_tokens bytes)));
+    encoded = sym (append-nil (text (record_tokens bytes)));
     unfinished = sym (record_ended [] bytes);
     each = record_each bytes;
     short = record_short bytes;
@@ -108,19 +108,19 @@ item_is_read limit (Record bytes) come = record {
 }
 item_is_read limit (OptItem verb code) come = record {
   tokens = Opt verb code ∷ [];
-  reads = record { spelt = refl; unfinished = refl; each = (tt, tt); short = (tt, tt); records = (tt, tt) };
+  reads = record { encoded = refl; unfinished = refl; each = (tt, tt); short = (tt, tt); records = (tt, tt) };
   is_rest = nothing_is_rest limit;
   said = refl;
 }
 item_is_read limit (SubItem bytes) come = record {
   tokens = Sub bytes ∷ [];
-  reads = record { spelt = sym (append-nil (text (Sub bytes ∷ []))); unfinished = refl; each = (tt, tt); short = (come, tt); records = (tt, tt) };
+  reads = record { encoded = sym (append-nil (text (Sub bytes ∷ []))); unfinished = refl; each = (tt, tt); short = (come, tt); records = (tt, tt) };
   is_rest = nothing_is_rest limit;
   said = refl;
 }
 item_is_read limit (OtherItem code) come = record {
   tokens = Other code ∷ [];
-  reads = record { spelt = refl; unfinished = refl; each = (come, tt); short = (tt, tt); records = (tt, tt) };
+  reads = record { encoded = refl; unfinished = refl; each = (come, tt); short = (tt, tt); records = (tt, tt) };
   is_rest = nothing_is_rest limit;
   said = refl;
 }

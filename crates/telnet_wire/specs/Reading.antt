@@ -18,7 +18,7 @@ nothing = record { unfinished = []; partial = [] }
 
 -- Holds if these bytes, after the rest `from`, are these tokens, each within its limit, and the rest `to`.
 pub record Reads (limit : ℕ) (from : Rest) (bytes : List ℕ) (tokens : List Token) (to : Rest) : Type 0 where
-  pub spelt : from.partial ++ bytes ≡ text tokens ++ to.partial
+  pub encoded : from.partial ++ bytes ≡ text tokens ++ to.partial
   pub unfinished : to.unfinished ≡ unfinished_after from.unfinished tokens
   pub each : AllByRecursion IsToken tokens
   pub short : AllByRecursion IsShort tokens

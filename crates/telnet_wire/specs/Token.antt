@@ -64,4 +64,4 @@ pub record IsPartial (bytes : List ℕ) : Type 0 where
   pub proper : missing ≢ []
   pub is_token : IsToken token
   pub is_short : IsShort token
-  pub spelt : spelling token ≡ bytes ++ missing
+  pub encoded : spelling token ≡ bytes ++ missing

@@ -1,6 +1,6 @@
 -- What a record does to a bound terminal (RFC 1647, sections 8.1 and 10.4; for the effect of a command, and the data
 -- that it returns, GA23-0059-07, "3270 Data Stream Commands"; which commands are rejected is our profile).
-use Rattle.std.specs.Prelude.{◌≡◌, ◌≢◌, ◌==◌, ◌&&◌, ℕ, Bool, true, false, List, [], ◌∷◌, ◌++◌, Option, None, Some, if◌then◌else◌}
+use Rattle.std.specs.Prelude.{◌≡◌, ◌≢◌, ◌==◌, ◌&&◌, ◌||◌, ℕ, Bool, true, false, List, [], ◌∷◌, ◌++◌, Option, None, Some, if◌then◌else◌}
 use Rattle.codes3270.specs.Size.{alternate_of}
 use Rattle.datastream.specs.Screen.{Screen}
 use Rattle.datastream.specs.Grammar.{CommandParts, IsCommand, IsNoCommand, is_write}
@@ -70,6 +70,7 @@ applied command old = record old {
   screen = screen_applied command old.screen;
   keyboard = freed_if (asked_by command).restore old.keyboard;
   took_write = is_restoring_write command;
+  alarm = old.alarm || (asked_by command).alarm;
 }
 
 -- what a command that is executed sends: it is applied first, then a read returns its data, then the response follows

@@ -24,6 +24,7 @@ pub record Station : Type 0 where
   pub keyboard : Keyboard
   pub number : ℕ  -- of the next record of data on this connection
   pub took_write : Bool  -- whether the last byte completed a write with keyboard restore, which was applied
+  pub alarm : Bool  -- whether a write that was applied asked for the alarm, which nobody took since
 
 pub record Terminal : Type 0 where
   pub link : Link
@@ -38,7 +39,11 @@ pub record TerminalWithRoom : Type 0 where
 
 -- the station with this screen before a host writes on it: its keyboard waits
 abbrev pub waiting : SizedScreen → Station
-waiting screen = record { screen = screen; keyboard = fresh; number = 0; took_write = false }
+waiting screen = record { screen = screen; keyboard = fresh; number = 0; took_write = false; alarm = false }
+
+-- the terminal after its alarm is taken
+abbrev pub silenced : Terminal → Terminal
+silenced old = record old { station = record old.station { alarm = false } }
 
 -- a terminal of this model after `new` or `restart`
 abbrev pub new_terminal : Model → Terminal

@@ -1,5 +1,5 @@
 //! The display station: the screen and the keyboard, and what records and keys do to them.
-ghost use Rattle.std.specs.Prelude.{◌≡◌, ◌≤◌, ◌+◌, ◌++◌, ◌∷◌, [], Bool, None, Some, IfOk, MatchResult, length, vec_len};
+ghost use Rattle.std.specs.Prelude.{◌≡◌, ◌≤◌, ◌+◌, ◌++◌, ◌∷◌, [], Bool, false, None, Some, IfOk, MatchResult, length, vec_len};
 ghost use Rattle.std.specs.Vec.{vec_capacity};
 ghost use Rattle.datastream.specs.Grammar.{is_write};
 ghost use Rattle.codes3270.specs.Size.{alternate_of};
@@ -38,6 +38,7 @@ pub(crate) struct Station {
     keyboard: Keyboard,
     number: u16,
     took_write: bool,
+    alarm: bool,
     // Has room for the largest record that is sent.
     record_buffer: Vec<u8>,
 }
@@ -50,8 +51,13 @@ impl marker::Model for Station {
 
     ghost Value = { StationValue };
 
-    ghost view = { λ s.
-        record { screen = s.screen; keyboard = s.keyboard; number = s.number; took_write = s.took_write } };
+    ghost view = { λ s. record {
+      screen = s.screen;
+      keyboard = s.keyboard;
+      number = s.number;
+      took_write = s.took_write;
+      alarm = s.alarm;
+    } };
 
     ghost invariant = { λ s. record_room ≤ vec_capacity s.record_buffer };
 }
@@ -121,6 +127,7 @@ impl Station {
             keyboard: Keyboard::new(),
             number: 0,
             took_write: false,
+            alarm: false,
             record_buffer,
         })
     }
@@ -132,6 +139,7 @@ impl Station {
         self.keyboard = Keyboard::new();
         self.number = 0;
         self.took_write = false;
+        self.alarm = false;
     }
 
     /// Resets everything: the screen is blank, and the keyboard waits for a host.
@@ -158,6 +166,14 @@ impl Station {
         ensures { result ≡ self.now.took_write }
     {
         self.took_write
+    }
+
+    /// Whether a write sounded the alarm since the last call.
+    pub(crate) fn take_alarm(&mut self) -> bool
+        ensures alarm { result ≡ self.old.alarm }
+        ensures taken { self.new ≡ record self.old { alarm = false } }
+    {
+        std::mem::replace(&mut self.alarm, false)
     }
 
     /// Clears `took_write` before a byte is taken.
@@ -204,6 +220,7 @@ impl Station {
             self.keyboard.restored();
         }
         self.took_write = applied.restore && is_write(command.code());
+        self.alarm |= applied.alarm;
         if let Some(reading) = reading_of(command.code()) {
             self.send(reading, out);
         }

@@ -1,7 +1,7 @@
 //! The terminal: a Telnet decoder, a negotiation, a display station, and the bytes that it has to send.
 ghost use Rattle.std.specs.Prelude.{◌≡◌, ◌<◌, ◌≤◌, [], length, drop, IfOk, OnOk, OnErr};
 ghost use Rattle.telnet_wire.specs.DecoderValue.{fresh};
-ghost use Rattle.term_core.specs.State.{new_terminal, connected, lost, model_of, phase_of};
+ghost use Rattle.term_core.specs.State.{new_terminal, connected, lost, model_of, phase_of, silenced};
 ghost use Rattle.term_core.specs.Feeds.{Feeds};
 ghost use Rattle.term_core.specs.Presses.{LacksKeyRoom, after_key, answer_to_key};
 ghost use Rattle.term_core.specs.Room.{out_room};
@@ -29,8 +29,8 @@ enum Attachment {
 /// A 3278 display terminal of a model from 2 to 5: Telnet bytes and keys go in, Telnet bytes and a screen come out.
 ///
 /// Contracts see its link (the rest of the stream and the negotiation, while it is attached), its station (screen,
-/// keyboard, the sequence number of its next record, and `took_write`), the bytes that it has to send, and `room`, the
-/// capacity in bytes of the buffer that holds them.
+/// keyboard, the sequence number of its next record, `took_write`, and an alarm that wasn't taken), the bytes that it
+/// has to send, and `room`, the capacity in bytes of the buffer that holds them.
 ///
 /// `new` gives that buffer room for the largest reply and 1,024 bytes more ([`OUT_ROOM`](crate::OUT_ROOM)), and only
 /// `lost` may take it away. So `press` and `feed` need memory only while more than 1,024 bytes wait to be sent, or
@@ -240,6 +240,16 @@ impl Terminal {
         ensures { result ≡ self.now.terminal.station.took_write }
     {
         self.station.took_write()
+    }
+
+    /// Whether a write that was applied asked for the alarm (GA23-0059-07, "Write Control Character (WCC)") since the
+    /// last call, `connected`, `lost` or `restart`.
+    pub fn take_alarm(&mut self) -> bool
+        ensures alarm { result ≡ self.old.terminal.station.alarm }
+        ensures terminal { self.new.terminal ≡ silenced self.old.terminal }
+        ensures room { self.new.room ≡ self.old.room }
+    {
+        self.station.take_alarm()
     }
 
     /// The phase of its connection to the host.

@@ -45,11 +45,11 @@ type_again (Unnamed code) h =
 
 -- bytes that begin with a header have no fault
 pub fault_is_no_header : FaultIsNoHeader
-fault_is_no_header bytes Short header body h b = omega (arith, h, ap length b.spelt)
+fault_is_no_header bytes Short header body h b = omega (arith, h, ap length b.encoded)
 fault_is_no_header bytes BadFlag header body h b =
     let other : Header = h.0 in
     let one = h.2 in
-    let two = b.spelt in
+    let two = b.encoded in
     let codes : type_code header.kind ≡ type_code other.kind = cc in
     let flags : header.flag ≡ other.flag = cc in
     let kinds : header.kind ≡ other.kind = sym (type_again header.kind b.is_header.kind) ∙ ap type_of codes ∙ type_again other.kind h.3 in
@@ -72,8 +72,8 @@ same_header header other kinds requests flags numbers =
 -- bytes begin with one header at most
 pub one_header : OneHeader
 one_header bytes header other body rest b c =
-    let one = b.spelt in
-    let two = c.spelt in
+    let one = b.encoded in
+    let two = c.encoded in
     let codes : type_code header.kind ≡ type_code other.kind = cc in
     let requests : header.request ≡ other.request = cc in
     let flags : header.flag ≡ other.flag = cc in

@@ -30,13 +30,13 @@ one_hearing (Other code) comes other h k = h ∙ sym k
 
 -- what is sent says the message that is meant
 pub sent_says : (sending : OwnedMessage) → IsOwnedMessage sending → Says (payload_sent sending) (message_sent sending)
-sent_says sent.SendType h = record { is_message = tt; spelt = refl }
-sent_says (sent.TypeRequest model None) h = record { is_message = (device_is_text (device_for model), tt); spelt = refl }
-sent_says (sent.TypeRequest model (Some lu)) h = record { is_message = (device_is_text (device_for model), lu_is_text lu h); spelt = refl }
-sent_says (sent.TypeIs device lu) h = record { is_message = (device_is_text device, lu_is_text lu h); spelt = refl }
-sent_says (sent.TypeReject reason) h = record { is_message = tt; spelt = refl }
-sent_says sent.FunRequest h = record { is_message = tt; spelt = (2 ∷ [], refl, refl) }
-sent_says sent.FunIs h = record { is_message = tt; spelt = (2 ∷ [], refl, refl) }
+sent_says sent.SendType h = record { is_message = tt; encoded = refl }
+sent_says (sent.TypeRequest model None) h = record { is_message = (device_is_text (device_for model), tt); encoded = refl }
+sent_says (sent.TypeRequest model (Some lu)) h = record { is_message = (device_is_text (device_for model), lu_is_text lu h); encoded = refl }
+sent_says (sent.TypeIs device lu) h = record { is_message = (device_is_text device, lu_is_text lu h); encoded = refl }
+sent_says (sent.TypeReject reason) h = record { is_message = tt; encoded = refl }
+sent_says sent.FunRequest h = record { is_message = tt; encoded = (2 ∷ [], refl, refl) }
+sent_says sent.FunIs h = record { is_message = tt; encoded = (2 ∷ [], refl, refl) }
 
 -- and is heard as it
 pub sent_is_heard : (sending : OwnedMessage) → IsOwnedMessage sending → (comes : Comes) → PayloadSays (payload_sent sending) comes → comes ≡ message_says (message_sent sending)

@@ -73,7 +73,7 @@ is_text_by (byte ∷ bytes) h = refl
 -- the text at the front, split at the first byte that isn't graphic
 pub front_is : (bytes : List ℕ) (n : ℕ) → n ≡ position_or_len (λ byte. not (is_ascii_graphic byte)) bytes → 0 < length (take n bytes) → IsFront bytes (take n bytes) (drop n bytes)
 front_is bytes n e some = record {
-  spelt = sym (take-append-drop n bytes);
+  encoded = sym (take-append-drop n bytes);
   is_text = text_from_all (take n bytes) some (rw e (front is_ascii_graphic bytes).0);
   ends = rw e (end_is _ (front is_ascii_graphic bytes).1);
 }
@@ -102,28 +102,28 @@ end_of_name (Some (Associate name)) = refl
 -- a device request is none where what comes behind its text is no name
 pub no_request : (bytes text rest : List ℕ) → IsFront bytes text rest → ((name : Option Name) → IsName name → rest ≡ name_part name → ⊥)
     → (message : Message) → Says (40 ∷ 2 ∷ 7 ∷ bytes) message → ⊥
-no_request bytes text rest f none SendType s = let e = s.spelt in absurd (cc)
+no_request bytes text rest f none SendType s = let e = s.encoded in absurd (cc)
 no_request bytes text rest f none (TypeRequest device name) s =
-    let e : bytes ≡ device ++ name_part name = let h = s.spelt in cc in
-    let one = one_front text rest device (name_part name) (all_from_text text f.is_text) f.ends (all_from_text device s.is_message.0) (end_of_name name) (sym f.spelt ∙ e) in
+    let e : bytes ≡ device ++ name_part name = let h = s.encoded in cc in
+    let one = one_front text rest device (name_part name) (all_from_text text f.is_text) f.ends (all_from_text device s.is_message.0) (end_of_name name) (sym f.encoded ∙ e) in
     none name s.is_message.1 one.1
-no_request bytes text rest f none (TypeIs device name) s = let e = s.spelt in absurd (cc)
-no_request bytes text rest f none (TypeReject reason) s = let e = s.spelt in absurd (cc)
-no_request bytes text rest f none (FunRequest functions) s = let e = s.spelt.2 in absurd (cc)
-no_request bytes text rest f none (FunIs functions) s = let e = s.spelt.2 in absurd (cc)
+no_request bytes text rest f none (TypeIs device name) s = let e = s.encoded in absurd (cc)
+no_request bytes text rest f none (TypeReject reason) s = let e = s.encoded in absurd (cc)
+no_request bytes text rest f none (FunRequest functions) s = let e = s.encoded.2 in absurd (cc)
+no_request bytes text rest f none (FunIs functions) s = let e = s.encoded.2 in absurd (cc)
 
 -- a grant is none where what comes behind its text is no name
 pub no_grant : (bytes text rest : List ℕ) → IsFront bytes text rest → ((name : List ℕ) → is_text name ≡ true → rest ≡ 1 ∷ name → ⊥)
     → (message : Message) → Says (40 ∷ 2 ∷ 4 ∷ bytes) message → ⊥
-no_grant bytes text rest f none SendType s = let e = s.spelt in absurd (cc)
-no_grant bytes text rest f none (TypeRequest device name) s = let e = s.spelt in absurd (cc)
+no_grant bytes text rest f none SendType s = let e = s.encoded in absurd (cc)
+no_grant bytes text rest f none (TypeRequest device name) s = let e = s.encoded in absurd (cc)
 no_grant bytes text rest f none (TypeIs device name) s =
-    let e : bytes ≡ device ++ 1 ∷ name = let h = s.spelt in cc in
-    let one = one_front text rest device (1 ∷ name) (all_from_text text f.is_text) f.ends (all_from_text device s.is_message.0) refl (sym f.spelt ∙ e) in
+    let e : bytes ≡ device ++ 1 ∷ name = let h = s.encoded in cc in
+    let one = one_front text rest device (1 ∷ name) (all_from_text text f.is_text) f.ends (all_from_text device s.is_message.0) refl (sym f.encoded ∙ e) in
     none name s.is_message.1 one.1
-no_grant bytes text rest f none (TypeReject reason) s = let e = s.spelt in absurd (cc)
-no_grant bytes text rest f none (FunRequest functions) s = let e = s.spelt.2 in absurd (cc)
-no_grant bytes text rest f none (FunIs functions) s = let e = s.spelt.2 in absurd (cc)
+no_grant bytes text rest f none (TypeReject reason) s = let e = s.encoded in absurd (cc)
+no_grant bytes text rest f none (FunRequest functions) s = let e = s.encoded.2 in absurd (cc)
+no_grant bytes text rest f none (FunIs functions) s = let e = s.encoded.2 in absurd (cc)
 
 -- a name of an LU is a text
 letter_is_graphic : (letter : ℕ) → is_lu_letter letter ≡ true → is_ascii_graphic letter ≡ true
@@ -174,54 +174,54 @@ one_name (Some (Associate a)) (Some (Associate b)) e = cc
 pub one_message : OneMessage
 one_message bytes SendType SendType s t = refl
 one_message bytes (TypeRequest device name) (TypeRequest device' name') s t =
-    let same : device ++ name_part name ≡ device' ++ name_part name' = let a = s.spelt in let b = t.spelt in cc in
+    let same : device ++ name_part name ≡ device' ++ name_part name' = let a = s.encoded in let b = t.encoded in cc in
     let one = one_front device (name_part name) device' (name_part name') (all_from_text device s.is_message.0) (end_of_name name) (all_from_text device' t.is_message.0) (end_of_name name') same in
     let names = one_name name name' one.1 in
     rw (one.0, names) refl
 one_message bytes (TypeIs device name) (TypeIs device' name') s t =
-    let same : device ++ 1 ∷ name ≡ device' ++ 1 ∷ name' = let a = s.spelt in let b = t.spelt in cc in
+    let same : device ++ 1 ∷ name ≡ device' ++ 1 ∷ name' = let a = s.encoded in let b = t.encoded in cc in
     let one = one_front device (1 ∷ name) device' (1 ∷ name') (all_from_text device s.is_message.0) refl (all_from_text device' t.is_message.0) refl same in
     let names : name ≡ name' = let e = one.1 in cc in
     rw (one.0, names) refl
 one_message bytes (TypeReject reason) (TypeReject reason') s t =
-    let codes : reason.0 ≡ reason'.0 = let a = s.spelt in let b = t.spelt in cc in
+    let codes : reason.0 ≡ reason'.0 = let a = s.encoded in let b = t.encoded in cc in
     ap (λ (n : ℕ). TypeReject (record { 0 = n })) codes
 one_message bytes (FunRequest functions) (FunRequest functions') s t =
-    let lists : s.spelt.0 ≡ t.spelt.0 = let a = s.spelt.2 in let b = t.spelt.2 in cc in
-    ap FunRequest (sym s.spelt.1 ∙ ap functions_of lists ∙ t.spelt.1)
+    let lists : s.encoded.0 ≡ t.encoded.0 = let a = s.encoded.2 in let b = t.encoded.2 in cc in
+    ap FunRequest (sym s.encoded.1 ∙ ap functions_of lists ∙ t.encoded.1)
 one_message bytes (FunIs functions) (FunIs functions') s t =
-    let lists : s.spelt.0 ≡ t.spelt.0 = let a = s.spelt.2 in let b = t.spelt.2 in cc in
-    ap FunIs (sym s.spelt.1 ∙ ap functions_of lists ∙ t.spelt.1)
-one_message bytes SendType (TypeRequest d n) s t = absurd (let a = s.spelt in let b = t.spelt in cc)
-one_message bytes SendType (TypeIs d n) s t = absurd (let a = s.spelt in let b = t.spelt in cc)
-one_message bytes SendType (TypeReject r) s t = absurd (let a = s.spelt in let b = t.spelt in cc)
-one_message bytes SendType (FunRequest f) s t = absurd (let a = s.spelt in let b = t.spelt.2 in cc)
-one_message bytes SendType (FunIs f) s t = absurd (let a = s.spelt in let b = t.spelt.2 in cc)
-one_message bytes (TypeRequest d n) SendType s t = absurd (let a = s.spelt in let b = t.spelt in cc)
-one_message bytes (TypeRequest d n) (TypeIs d' n') s t = absurd (let a = s.spelt in let b = t.spelt in cc)
-one_message bytes (TypeRequest d n) (TypeReject r) s t = absurd (let a = s.spelt in let b = t.spelt in cc)
-one_message bytes (TypeRequest d n) (FunRequest f) s t = absurd (let a = s.spelt in let b = t.spelt.2 in cc)
-one_message bytes (TypeRequest d n) (FunIs f) s t = absurd (let a = s.spelt in let b = t.spelt.2 in cc)
-one_message bytes (TypeIs d n) SendType s t = absurd (let a = s.spelt in let b = t.spelt in cc)
-one_message bytes (TypeIs d n) (TypeRequest d' n') s t = absurd (let a = s.spelt in let b = t.spelt in cc)
-one_message bytes (TypeIs d n) (TypeReject r) s t = absurd (let a = s.spelt in let b = t.spelt in cc)
-one_message bytes (TypeIs d n) (FunRequest f) s t = absurd (let a = s.spelt in let b = t.spelt.2 in cc)
-one_message bytes (TypeIs d n) (FunIs f) s t = absurd (let a = s.spelt in let b = t.spelt.2 in cc)
-one_message bytes (TypeReject r) SendType s t = absurd (let a = s.spelt in let b = t.spelt in cc)
-one_message bytes (TypeReject r) (TypeRequest d' n') s t = absurd (let a = s.spelt in let b = t.spelt in cc)
-one_message bytes (TypeReject r) (TypeIs d' n') s t = absurd (let a = s.spelt in let b = t.spelt in cc)
-one_message bytes (TypeReject r) (FunRequest f) s t = absurd (let a = s.spelt in let b = t.spelt.2 in cc)
-one_message bytes (TypeReject r) (FunIs f) s t = absurd (let a = s.spelt in let b = t.spelt.2 in cc)
-one_message bytes (FunRequest f) SendType s t = absurd (let a = s.spelt.2 in let b = t.spelt in cc)
-one_message bytes (FunRequest f) (TypeRequest d' n') s t = absurd (let a = s.spelt.2 in let b = t.spelt in cc)
-one_message bytes (FunRequest f) (TypeIs d' n') s t = absurd (let a = s.spelt.2 in let b = t.spelt in cc)
-one_message bytes (FunRequest f) (TypeReject r) s t = absurd (let a = s.spelt.2 in let b = t.spelt in cc)
-one_message bytes (FunRequest f) (FunIs f') s t = absurd (let a = s.spelt.2 in let b = t.spelt.2 in cc)
-one_message bytes (FunIs f) SendType s t = absurd (let a = s.spelt.2 in let b = t.spelt in cc)
-one_message bytes (FunIs f) (TypeRequest d' n') s t = absurd (let a = s.spelt.2 in let b = t.spelt in cc)
-one_message bytes (FunIs f) (TypeIs d' n') s t = absurd (let a = s.spelt.2 in let b = t.spelt in cc)
-one_message bytes (FunIs f) (TypeReject r) s t = absurd (let a = s.spelt.2 in let b = t.spelt in cc)
-one_message bytes (FunIs f) (FunRequest f') s t = absurd (let a = s.spelt.2 in let b = t.spelt.2 in cc)
+    let lists : s.encoded.0 ≡ t.encoded.0 = let a = s.encoded.2 in let b = t.encoded.2 in cc in
+    ap FunIs (sym s.encoded.1 ∙ ap functions_of lists ∙ t.encoded.1)
+one_message bytes SendType (TypeRequest d n) s t = absurd (let a = s.encoded in let b = t.encoded in cc)
+one_message bytes SendType (TypeIs d n) s t = absurd (let a = s.encoded in let b = t.encoded in cc)
+one_message bytes SendType (TypeReject r) s t = absurd (let a = s.encoded in let b = t.encoded in cc)
+one_message bytes SendType (FunRequest f) s t = absurd (let a = s.encoded in let b = t.encoded.2 in cc)
+one_message bytes SendType (FunIs f) s t = absurd (let a = s.encoded in let b = t.encoded.2 in cc)
+one_message bytes (TypeRequest d n) SendType s t = absurd (let a = s.encoded in let b = t.encoded in cc)
+one_message bytes (TypeRequest d n) (TypeIs d' n') s t = absurd (let a = s.encoded in let b = t.encoded in cc)
+one_message bytes (TypeRequest d n) (TypeReject r) s t = absurd (let a = s.encoded in let b = t.encoded in cc)
+one_message bytes (TypeRequest d n) (FunRequest f) s t = absurd (let a = s.encoded in let b = t.encoded.2 in cc)
+one_message bytes (TypeRequest d n) (FunIs f) s t = absurd (let a = s.encoded in let b = t.encoded.2 in cc)
+one_message bytes (TypeIs d n) SendType s t = absurd (let a = s.encoded in let b = t.encoded in cc)
+one_message bytes (TypeIs d n) (TypeRequest d' n') s t = absurd (let a = s.encoded in let b = t.encoded in cc)
+one_message bytes (TypeIs d n) (TypeReject r) s t = absurd (let a = s.encoded in let b = t.encoded in cc)
+one_message bytes (TypeIs d n) (FunRequest f) s t = absurd (let a = s.encoded in let b = t.encoded.2 in cc)
+one_message bytes (TypeIs d n) (FunIs f) s t = absurd (let a = s.encoded in let b = t.encoded.2 in cc)
+one_message bytes (TypeReject r) SendType s t = absurd (let a = s.encoded in let b = t.encoded in cc)
+one_message bytes (TypeReject r) (TypeRequest d' n') s t = absurd (let a = s.encoded in let b = t.encoded in cc)
+one_message bytes (TypeReject r) (TypeIs d' n') s t = absurd (let a = s.encoded in let b = t.encoded in cc)
+one_message bytes (TypeReject r) (FunRequest f) s t = absurd (let a = s.encoded in let b = t.encoded.2 in cc)
+one_message bytes (TypeReject r) (FunIs f) s t = absurd (let a = s.encoded in let b = t.encoded.2 in cc)
+one_message bytes (FunRequest f) SendType s t = absurd (let a = s.encoded.2 in let b = t.encoded in cc)
+one_message bytes (FunRequest f) (TypeRequest d' n') s t = absurd (let a = s.encoded.2 in let b = t.encoded in cc)
+one_message bytes (FunRequest f) (TypeIs d' n') s t = absurd (let a = s.encoded.2 in let b = t.encoded in cc)
+one_message bytes (FunRequest f) (TypeReject r) s t = absurd (let a = s.encoded.2 in let b = t.encoded in cc)
+one_message bytes (FunRequest f) (FunIs f') s t = absurd (let a = s.encoded.2 in let b = t.encoded.2 in cc)
+one_message bytes (FunIs f) SendType s t = absurd (let a = s.encoded.2 in let b = t.encoded in cc)
+one_message bytes (FunIs f) (TypeRequest d' n') s t = absurd (let a = s.encoded.2 in let b = t.encoded in cc)
+one_message bytes (FunIs f) (TypeIs d' n') s t = absurd (let a = s.encoded.2 in let b = t.encoded in cc)
+one_message bytes (FunIs f) (TypeReject r) s t = absurd (let a = s.encoded.2 in let b = t.encoded in cc)
+one_message bytes (FunIs f) (FunRequest f') s t = absurd (let a = s.encoded.2 in let b = t.encoded.2 in cc)
 
 -- a message begins with the option's code
 ours : (bytes : List ℕ) (message : Message) → Spells message bytes → (rest : List ℕ) × (bytes ≡ 0x28 ∷ rest)
@@ -233,7 +233,7 @@ ours bytes (FunRequest f) s = (_, s.2)
 ours bytes (FunIs f) s = (_, s.2)
 
 pub fault_is_no_message : FaultIsNoMessage
-fault_is_no_message bytes NotOurs message h s = let o = ours bytes message s.spelt in h o.0 o.1
+fault_is_no_message bytes NotOurs message h s = let o = ours bytes message s.encoded in h o.0 o.1
 fault_is_no_message bytes Malformed message h s = h.1 message s
 
 pub one_sub_fault : OneSubFault
@@ -244,12 +244,12 @@ one_sub_fault bytes Malformed NotOurs h k = absurd (k h.0.0 h.0.1)
 
 -- a message that lies in bytes is said by them
 pub said : (bytes : List ℕ) (message : SubMessage) → LiesIn bytes message → Says bytes (message_of message)
-said bytes lent.SendType l = record { is_message = l.is_message; spelt = l.spelt }
-said bytes (lent.TypeRequest device name) l = record { is_message = l.is_message; spelt = l.spelt }
-said bytes (lent.TypeIs device name) l = record { is_message = l.is_message; spelt = l.spelt }
-said bytes (lent.TypeReject reason) l = record { is_message = l.is_message; spelt = l.spelt }
-said bytes (lent.FunRequest list) l = record { is_message = l.is_message; spelt = (list.now, refl, l.spelt) }
-said bytes (lent.FunIs list) l = record { is_message = l.is_message; spelt = (list.now, refl, l.spelt) }
+said bytes lent.SendType l = record { is_message = l.is_message; encoded = l.encoded }
+said bytes (lent.TypeRequest device name) l = record { is_message = l.is_message; encoded = l.encoded }
+said bytes (lent.TypeIs device name) l = record { is_message = l.is_message; encoded = l.encoded }
+said bytes (lent.TypeReject reason) l = record { is_message = l.is_message; encoded = l.encoded }
+said bytes (lent.FunRequest list) l = record { is_message = l.is_message; encoded = (list.now, refl, l.encoded) }
+said bytes (lent.FunIs list) l = record { is_message = l.is_message; encoded = (list.now, refl, l.encoded) }
 
 -- whatever message bytes spell is found, where what is found is right
 pub all_found : (bytes : List ℕ) (r : Result SubMessage SubFault) → IfOk r (LiesIn bytes) → IfErr r (HasFault bytes)

@@ -64,7 +64,7 @@ header_length = 5
 pub record Begins (bytes : List ℕ) (header : Header) (body : List ℕ) : Type 0 where
   pub is_header : IsHeader header
   pub number : header.seq < 2 ^ 16
-  pub spelt : bytes ≡ spelling header ++ body
+  pub encoded : bytes ≡ spelling header ++ body
 
 -- holds if these bytes don't begin with a header: there are too few, or the type has no such RESPONSE-FLAG
 abbrev pub HasFault : List ℕ → HeadFault → Type 0

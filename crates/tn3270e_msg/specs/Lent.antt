@@ -35,4 +35,4 @@ payload (lent.FunIs list) = 0x28 ∷ 3 ∷ 4 ∷ list.now
 -- holds if these bytes are the payload of this message
 pub record LiesIn (bytes : List ℕ) (message : SubMessage) : Type 0 where
   pub is_message : IsMessage (message_of message)
-  pub spelt : bytes ≡ payload message
+  pub encoded : bytes ≡ payload message

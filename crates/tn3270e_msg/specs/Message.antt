@@ -50,7 +50,7 @@ Spells (FunIs functions) bytes = (list : List ℕ) × (functions_of list ≡ fun
 -- holds if these bytes are this message's payload
 pub record Says (bytes : List ℕ) (message : Message) : Type 0 where
   pub is_message : IsMessage message
-  pub spelt : Spells message bytes
+  pub encoded : Spells message bytes
 
 -- holds if these bytes are no message: they belong to another option, or they are malformed
 abbrev pub HasFault : List ℕ → SubFault → Type 0

@@ -98,24 +98,24 @@ IsOwnedMessage (sent.TypeIs device lu) = IsTrue (is_lu lu)
 IsOwnedMessage _ = Unit {0}
 
 -- what an end sends: an option's negotiation, or a message
-pub data Saying : Type 0 where
-  Opt : Verb → ℕ → Saying
-  Sub : OwnedMessage → Saying
+pub data NegotiationMessage : Type 0 where
+  Opt : Verb → ℕ → NegotiationMessage
+  Sub : OwnedMessage → NegotiationMessage
 
 -- what it means to the other end
-abbrev pub says : Saying → Comes
-says (Saying.Opt verb code) = option_says verb code
-says (Saying.Sub sending) = message_says (message_sent sending)
+abbrev pub says : NegotiationMessage → Comes
+says (NegotiationMessage.Opt verb code) = option_says verb code
+says (NegotiationMessage.Sub sending) = message_says (message_sent sending)
 
 -- the item that is sent
-abbrev pub item_of : Saying → WireItem
-item_of (Saying.Opt verb code) = OptItem verb code
-item_of (Saying.Sub sending) = SubItem (payload_sent sending)
+abbrev pub item_of : NegotiationMessage → WireItem
+item_of (NegotiationMessage.Opt verb code) = OptItem verb code
+item_of (NegotiationMessage.Sub sending) = SubItem (payload_sent sending)
 
 -- what a reply sends
-abbrev pub sayings : Reply → List Saying
-sayings (reply.Opt verb code) = Saying.Opt verb code ∷ []
-sayings (reply.Sub sending after) = Saying.Sub sending ∷ []
+abbrev pub sayings : Reply → List NegotiationMessage
+sayings (reply.Opt verb code) = NegotiationMessage.Opt verb code ∷ []
+sayings (reply.Sub sending after) = NegotiationMessage.Sub sending ∷ []
 sayings _ = []
 
 -- the items that a reply sends

@@ -9,7 +9,7 @@ use Rattle.tty_keys.specs.declared.keystroke.Keystroke.TheVariants.{Key, Unknown
 use Rattle.tty_keys.specs.Table.{character, first_of}
 
 pub character_is : (bytes rest : List ℕ) (letter : ℕ) → IsUtf8 bytes → bytes ≡ encode_utf8 letter ++ rest → character bytes ≡ Key (Char letter)
-character_is bytes rest letter utf8 spelt = rw (is_utf8-from_IsUtf8 bytes utf8, chars_past_char bytes rest letter utf8 spelt) refl
+character_is bytes rest letter utf8 encoded = rw (is_utf8-from_IsUtf8 bytes utf8, chars_past_char bytes rest letter utf8 encoded) refl
 
 pub no_character : (text : List ℕ) → length text ≡ 0 → first_of (chars text) ≡ Unknown
 unfolding chars
@@ -17,7 +17,7 @@ no_character [] none = refl
 no_character (byte ∷ bytes) none = absurd (omega (arith, none))
 
 pub first_is : (text rest : List ℕ) (letter : ℕ) → IsUtf8 text → text ≡ encode_utf8 letter ++ rest → first_of (chars text) ≡ Key (Char letter)
-first_is text rest letter utf8 spelt = rw (chars_past_char text rest letter utf8 spelt) refl
+first_is text rest letter utf8 encoded = rw (chars_past_char text rest letter utf8 encoded) refl
 
 pub well_formed : (bytes text : List ℕ) → text ≡ bytes → IsUtf8 bytes → first_of (chars text) ≡ character bytes
 well_formed bytes text same utf8 = rw (is_utf8-from_IsUtf8 bytes utf8, same) refl

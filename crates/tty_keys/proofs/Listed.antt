@@ -1,6 +1,6 @@
 -- The sequences of the table read as their keys.
 use Rattle.std.proofs.Common.{◌≡◌, ◌≢◌, ℕ, zero, suc, ◌+◌, ◌≤◌, Bool, true, false, not, ◌&&◌, nat_le, List, [], ◌∷◌, length, get_or, Option, Some, None, option_map, refl, ap, sym, subst, ◌∙◌, inl, inr, arith}
-use Rattle.std.specs.Prelude.{bytes_eq}
+use Rattle.std.specs.Prelude.{bytes_eq, codes, if◌then◌else◌}
 use Rattle.std.specs.List.{list_all, list_any}
 use Rattle.std.specs.Option.{option_or}
 use Rattle.std.proofs.lemmas.Bool.{and_parts, cases_Bool, or_cases, false≢true, leb-true, not-true}
@@ -10,8 +10,8 @@ use Rattle.std.proofs.lemmas.Slice.Eq.{bytes_eq-Decides}
 use Rattle.keyboard.specs.declared.key.Key.{Key as BoardKey}
 use Rattle.keyboard.specs.declared.key.Key.TheVariants.{Char, Tab, Pf, Pa}
 use Rattle.tty_keys.specs.declared.keystroke.Keystroke.{Keystroke}
-use Rattle.tty_keys.specs.declared.keystroke.Keystroke.TheVariants.{Key, Unknown}
-use Rattle.tty_keys.specs.Table.{pf_sequences, pa_sequences, other_sequences, other_keys, place_of, key_or_unknown, escaped, meaning}
+use Rattle.tty_keys.specs.declared.keystroke.Keystroke.TheVariants.{Key, Help, Redraw, Unknown}
+use Rattle.tty_keys.specs.Table.{pf_sequences, pa_sequences, other_sequences, other_keys, place_of, key_or, escaped, meaning}
 use Rattle.tty_keys.specs.Laws.{one, SequencesAreRead, SequencesTypeNothing}
 use Rattle.tty_keys.proofs.Single.{is_single, all_kept, single_read}
 
@@ -43,24 +43,32 @@ passes_at test keys sequence place all found =
 abbrev is_read : List ℕ → Bool
 is_read text = is_single [] (0x1B ∷ text) && nat_le (length text) 7
 
-abbrev key_at : Option ℕ → Option ℕ → Option ℕ → Keystroke
+abbrev key_at : (pf pa other : Option ℕ) → Option BoardKey
 key_at pf pa other =
-    key_or_unknown (option_or (option_or (option_map (λ place. Pf (place + 1)) pf) (option_map (λ place. Pa (place + 1)) pa)) (option_map (λ place. get_or other_keys place Tab) other))
+    option_or (option_or (option_map (λ place. Pf (place + 1)) pf) (option_map (λ place. Pa (place + 1)) pa)) (option_map (λ place. get_or other_keys place Tab) other)
 
-in_a_row : (pf pa other : Option ℕ) (P : Type 0) → ((place : ℕ) → pf ≡ Some place → P) → ((place : ℕ) → pa ≡ Some place → P)
-    → ((place : ℕ) → other ≡ Some place → P) → key_at pf pa other ≢ Unknown → P
-in_a_row (Some place) pa other P first second third known = first place refl
-in_a_row None (Some place) other P first second third known = second place refl
-in_a_row None None (Some place) P first second third known = third place refl
-in_a_row None None None P first second third known = absurd (known refl)
+abbrev keystroke_at : (pf pa other : Option ℕ) (help ready : Bool) → Keystroke
+keystroke_at pf pa other help ready = key_or (if help then Help else if ready then Redraw else Unknown) (key_at pf pa other)
+
+in_a_row : (pf pa other : Option ℕ) (help ready : Bool) (P : Type 0) → ((place : ℕ) → pf ≡ Some place → P) → ((place : ℕ) → pa ≡ Some place → P)
+    → ((place : ℕ) → other ≡ Some place → P) → (help ≡ true → P) → (ready ≡ true → P) → keystroke_at pf pa other help ready ≢ Unknown → P
+in_a_row (Some place) pa other help ready P first second third fourth fifth known = first place refl
+in_a_row None (Some place) other help ready P first second third fourth fifth known = second place refl
+in_a_row None None (Some place) help ready P first second third fourth fifth known = third place refl
+in_a_row None None None true ready P first second third fourth fifth known = fourth refl
+in_a_row None None None false true P first second third fourth fifth known = fifth refl
+in_a_row None None None false false P first second third fourth fifth known = absurd (known refl)
 
 known_is_read : (sequence : List ℕ) → escaped sequence ≢ Unknown → is_read sequence ≡ true
 unfolding escaped
 known_is_read sequence known =
-    in_a_row (place_of pf_sequences sequence) (place_of pa_sequences sequence) (place_of other_sequences sequence) (is_read sequence ≡ true)
+    in_a_row (place_of pf_sequences sequence) (place_of pa_sequences sequence) (place_of other_sequences sequence)
+    (list_any (λ text. bytes_eq text sequence) (codes "?" ∷ [])) (list_any (λ text. bytes_eq text sequence) (codes "[0n" ∷ [])) (is_read sequence ≡ true)
     (λ place found. passes_at is_read pf_sequences sequence place refl found)
     (λ place found. passes_at is_read pa_sequences sequence place refl found)
     (λ place found. passes_at is_read other_sequences sequence place refl found)
+    (λ found. passes is_read (codes "?" ∷ []) sequence refl found)
+    (λ found. passes is_read (codes "[0n" ∷ []) sequence refl found)
     known
 
 pub sequences_are_read : SequencesAreRead
@@ -84,12 +92,16 @@ abbrev types : Keystroke → Bool
 types (Key key) = is_char key
 types _ = false
 
-types_none : (pf pa other : Option ℕ) (letter : ℕ) → key_at pf pa other ≢ Key (Char letter)
-types_none (Some place) pa other letter is = cc
-types_none None (Some place) other letter is = cc
-types_none None None (Some place) letter is = false≢true (sym (none_at other_keys place refl) ∙ ap types is)
-types_none None None None letter is = cc
+types_none : (pf pa other : Option ℕ) (help ready : Bool) (letter : ℕ) → keystroke_at pf pa other help ready ≢ Key (Char letter)
+types_none (Some place) pa other help ready letter is = cc
+types_none None (Some place) other help ready letter is = cc
+types_none None None (Some place) help ready letter is = false≢true (sym (none_at other_keys place refl) ∙ ap types is)
+types_none None None None true ready letter is = cc
+types_none None None None false true letter is = cc
+types_none None None None false false letter is = cc
 
 pub sequences_type_nothing : SequencesTypeNothing
 unfolding escaped
-sequences_type_nothing sequence letter = types_none (place_of pf_sequences sequence) (place_of pa_sequences sequence) (place_of other_sequences sequence) letter
+sequences_type_nothing sequence letter =
+    types_none (place_of pf_sequences sequence) (place_of pa_sequences sequence) (place_of other_sequences sequence)
+    (list_any (λ text. bytes_eq text sequence) (codes "?" ∷ [])) (list_any (λ text. bytes_eq text sequence) (codes "[0n" ∷ [])) letter

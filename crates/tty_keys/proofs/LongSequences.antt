@@ -9,7 +9,7 @@ use Rattle.std.proofs.lemmas.Bool.Decides.{nat_tests}
 use Rattle.tty_keys.specs.declared.keystroke.Keystroke.TheVariants.{Key}
 use Rattle.keyboard.specs.declared.key.Key.TheVariants.{Char}
 use Rattle.tty_keys.specs.Table.{meaning}
-use Rattle.tty_keys.specs.Forms.{completes, goes_on}
+use Rattle.tty_keys.specs.Forms.{completes, may_continue}
 use Rattle.tty_keys.specs.Reading.{grown}
 use Rattle.tty_keys.specs.Laws.{ControlSequencesAreOne, ControlsBreakOff}
 use Rattle.tty_keys.proofs.Single.{is_single, all_grown, keeps_first, single_read}
@@ -20,7 +20,7 @@ abbrev begins_plain : List ℕ → Bool
 begins_plain [] = false
 begins_plain (first ∷ rest) = not (first == 0x5B)
 
-single_more : (kept : List ℕ) (byte : ℕ) (bytes : List ℕ) → goes_on kept byte ≡ true → completes kept byte ≡ false
+single_more : (kept : List ℕ) (byte : ℕ) (bytes : List ℕ) → may_continue kept byte ≡ true → completes kept byte ≡ false
     → is_single (grown kept byte) bytes ≡ true → is_single kept (byte ∷ bytes) ≡ true
 single_more kept byte [] goes more rest = absurd (false≢true rest)
 single_more kept byte (next ∷ bytes) goes more rest = rw (goes, more, rest) refl
@@ -35,7 +35,7 @@ single_after kept [] last plain all range = last_after kept last plain range
 single_after [] (byte ∷ parameters) last plain all range = absurd cc
 single_after (first ∷ rest) (byte ∷ parameters) last plain all range =
     let byte_range : IsInRange 0x20 0x3F byte = all.0 in
-    let goes : goes_on (0x1B ∷ 0x5B ∷ first ∷ rest) byte ≡ true = grind (arith, nat_tests) in
+    let goes : may_continue (0x1B ∷ 0x5B ∷ first ∷ rest) byte ≡ true = grind (arith, nat_tests) in
     let more : completes (0x1B ∷ 0x5B ∷ first ∷ rest) byte ≡ false = grind (arith, nat_tests) in
     single_more (0x1B ∷ 0x5B ∷ first ∷ rest) byte (parameters ++ last ∷ []) goes more
     (single_after (first ∷ take 5 (rest ++ byte ∷ [])) parameters last plain all.1 range)
@@ -48,7 +48,7 @@ single_csi [] last all range other =
 single_csi (byte ∷ parameters) last all range other =
     let byte_range : IsInRange 0x20 0x3F byte = all.0 in
     let more : completes (0x1B ∷ 0x5B ∷ []) byte ≡ false = grind (arith, nat_tests) in
-    let goes : goes_on (0x1B ∷ 0x5B ∷ []) byte ≡ true = grind (arith, nat_tests) in
+    let goes : may_continue (0x1B ∷ 0x5B ∷ []) byte ≡ true = grind (arith, nat_tests) in
     let plain : begins_plain (byte ∷ []) ≡ true = grind (arith, nat_tests) in
     single_more (0x1B ∷ 0x5B ∷ []) byte (parameters ++ last ∷ []) goes more (single_after (byte ∷ []) parameters last plain all.1 range)
 
@@ -62,7 +62,7 @@ control_sequences_are_one parameters final all range other =
     let bytes : List ℕ = 0x5B ∷ (parameters ++ final ∷ []) in
     (meaning (all_grown [] (0x1B ∷ bytes)), single_read [] (0x1B ∷ bytes) (single_csi parameters final all range other), types_nothing bytes)
 
-stops : (kept : List ℕ) (byte : ℕ) → is_ascii_control byte ≡ true → kept ≢ [] → (kept ≡ 0x1B ∷ [] → byte ≢ 0x09) → goes_on kept byte ≡ false
+stops : (kept : List ℕ) (byte : ℕ) → is_ascii_control byte ≡ true → kept ≢ [] → (kept ≡ 0x1B ∷ [] → byte ≢ 0x09) → may_continue kept byte ≡ false
 stops [] byte control some tab = absurd (some refl)
 stops (first ∷ []) byte control some tab =
     elim (cases_eq first 0x1B) [

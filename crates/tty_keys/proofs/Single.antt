@@ -3,24 +3,24 @@ use Rattle.std.proofs.Common.{◌≡◌, ℕ, ◌+◌, ◌≤◌, Bool, true, fa
 use Rattle.std.proofs.lemmas.Bool.{and_parts, false≢true, not-true}
 use Rattle.std.proofs.lemmas.List.{length-append, take_all}
 use Rattle.tty_keys.specs.Table.{meaning}
-use Rattle.tty_keys.specs.Forms.{goes_on, completes}
+use Rattle.tty_keys.specs.Forms.{may_continue, completes}
 use Rattle.tty_keys.specs.Reading.{Reading, grown, joined, read_byte, read_bytes}
 use Rattle.tty_keys.specs.Laws.{one}
 
 abbrev pub is_single : List ℕ → List ℕ → Bool
 is_single kept [] = false
-is_single kept (byte ∷ []) = goes_on kept byte && completes kept byte
-is_single kept (byte ∷ next ∷ bytes) = (goes_on kept byte && not (completes kept byte)) && is_single (grown kept byte) (next ∷ bytes)
+is_single kept (byte ∷ []) = may_continue kept byte && completes kept byte
+is_single kept (byte ∷ next ∷ bytes) = (may_continue kept byte && not (completes kept byte)) && is_single (grown kept byte) (next ∷ bytes)
 
 -- all bytes after those kept
 abbrev pub all_grown : List ℕ → List ℕ → List ℕ
 all_grown kept [] = kept
 all_grown kept (byte ∷ bytes) = all_grown (grown kept byte) bytes
 
-read_last : (kept : List ℕ) (byte : ℕ) → goes_on kept byte ≡ true → completes kept byte ≡ true → read_byte kept byte ≡ one (meaning (grown kept byte))
+read_last : (kept : List ℕ) (byte : ℕ) → may_continue kept byte ≡ true → completes kept byte ≡ true → read_byte kept byte ≡ one (meaning (grown kept byte))
 read_last kept byte goes last = rw (goes, last) refl
 
-read_more : (kept : List ℕ) (byte : ℕ) → goes_on kept byte ≡ true → completes kept byte ≡ false
+read_more : (kept : List ℕ) (byte : ℕ) → may_continue kept byte ≡ true → completes kept byte ≡ false
     → read_byte kept byte ≡ record { keystrokes = []; kept = grown kept byte }
 read_more kept byte goes more = rw (goes, more) refl
 

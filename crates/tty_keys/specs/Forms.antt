@@ -28,9 +28,9 @@ abbrev pub goes_on_escaped : List ℕ → ℕ → Bool
 goes_on_escaped [] byte = byte == 0x09 || not (is_ascii_control byte)
 goes_on_escaped (first ∷ rest) byte = if opens first then is_in_range 0x20 0x7E byte else is_continuation byte
 
-abbrev pub goes_on : List ℕ → ℕ → Bool
-goes_on [] byte = true
-goes_on (first ∷ rest) byte = if first == 0x1B then goes_on_escaped rest byte else is_continuation byte
+abbrev pub may_continue : List ℕ → ℕ → Bool
+may_continue [] byte = true
+may_continue (first ∷ rest) byte = if first == 0x1B then goes_on_escaped rest byte else is_continuation byte
 
 -- whether a byte, after these, is the last of a control sequence, of what follows ESC, or of any keystroke
 abbrev pub completes_csi : List ℕ → ℕ → Bool

@@ -3,9 +3,9 @@ use Rattle.std.specs.Prelude.{ℕ, List, [], ◌∷◌, ◌++◌, take, Option, 
 use Rattle.std.specs.Option.{option_to_list}
 use Rattle.tty_keys.specs.declared.keystroke.Keystroke.{Keystroke}
 use Rattle.tty_keys.specs.declared.keystroke.Keystroke.TheVariants.{Unknown}
-use Rattle.tty_keys.specs.declared.keystroke.Pushed.{Pushed}
+use Rattle.tty_keys.specs.declared.keystroke.PushResult.{PushResult}
 use Rattle.tty_keys.specs.Table.{meaning}
-use Rattle.tty_keys.specs.Forms.{goes_on, completes}
+use Rattle.tty_keys.specs.Forms.{may_continue, completes}
 
 -- the keystrokes that bytes complete, and the kept bytes of the next one
 pub record Reading : Type 0 where
@@ -25,7 +25,7 @@ read_on kept byte =
 -- the reading of any byte: one that may not follow the kept ones begins the next keystroke, and they are an Unknown
 abbrev pub read_byte : List ℕ → ℕ → Reading
 read_byte kept byte =
-    if goes_on kept byte then read_on kept byte
+    if may_continue kept byte then read_on kept byte
     else (let next = read_on [] byte in record { keystrokes = Unknown ∷ next.keystrokes; kept = next.kept })
 
 -- two readings, one after the other, as one
@@ -43,5 +43,5 @@ after_pause [] = None
 after_pause (first ∷ rest) = Some Unknown
 
 -- the keystrokes that `push` reports
-abbrev pub keystrokes_of : Pushed → List Keystroke
+abbrev pub keystrokes_of : PushResult → List Keystroke
 keystrokes_of pushed = (if pushed.interrupted then Unknown ∷ [] else []) ++ option_to_list pushed.keystroke

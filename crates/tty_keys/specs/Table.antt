@@ -1,8 +1,10 @@
 -- What the bytes of each keystroke mean (our profile: c3270's default keymap where it has the key, the sequences of
--- xterm, tmux, screen, rxvt and the Linux console). Where terminals send one sequence for different keys, it has
--- xterm's or the Linux console's meaning: `CSI 23~` and `CSI 24~` are F11 and F12, which rxvt also sends for Shift-F1
--- and Shift-F2, and `CSI 25~` to `CSI 34~` are the Linux console's Shift-F1 to Shift-F8, which rxvt sends for Shift-F3
--- to Shift-F10.
+-- xterm, tmux, screen, rxvt and the Linux console). Page Up and Page Down, with which c3270 scrolls through its old
+-- screens, are PF7 and PF8, as in x3270's keymap `rlx`. End, with which c3270 moves the cursor, is Erase EOF, as in
+-- x3270's keymap `ncd`, and so are Shift-End and Ctrl-End, as in `rlx` and `ibm-xterm`. Where terminals send one
+-- sequence for different keys, it has xterm's or the Linux console's meaning: `CSI 23~` and `CSI 24~` are F11 and F12,
+-- which rxvt also sends for Shift-F1 and Shift-F2, and `CSI 25~` to `CSI 34~` are the Linux console's Shift-F1 to
+-- Shift-F8, which rxvt sends for Shift-F3 to Shift-F10.
 use Rattle.std.specs.Prelude.{ℕ, ◌+◌, ◌==◌, List, [], ◌∷◌, Option, Some, None, if◌then◌else◌, bytes_eq, codes, get_or}
 use Rattle.std.specs.Char.{is_ascii_control}
 use Rattle.std.specs.List.{list_any, position}
@@ -11,7 +13,7 @@ use Rattle.std.specs.Str.{chars, is_utf8}
 use Rattle.keyboard.specs.declared.key.Key.{Key as BoardKey}
 use Rattle.keyboard.specs.declared.key.Key.TheVariants.{Char, Tab, BackTab, NewLine, Home, CursorUp, CursorDown, CursorLeft, CursorRight, Backspace, Insert, Delete, EraseEof, EraseInput, Reset, Enter, Pf, Pa, Clear}
 use Rattle.tty_keys.specs.declared.keystroke.Keystroke.{Keystroke}
-use Rattle.tty_keys.specs.declared.keystroke.Keystroke.TheVariants.{Key, Redraw, Quit, Unknown}
+use Rattle.tty_keys.specs.declared.keystroke.Keystroke.TheVariants.{Key, Redraw, Status, Help, Quit, Unknown}
 
 -- the keystroke that a control character means
 abbrev pub control : ℕ → Keystroke
@@ -24,6 +26,7 @@ control byte =
     else if byte == 0x0C then Redraw  -- Ctrl-L
     else if byte == 0x0D then Key Enter  -- CR
     else if byte == 0x12 then Key Reset  -- Ctrl-R
+    else if byte == 0x14 then Status  -- Ctrl-T
     else if byte == 0x15 then Key EraseInput  -- Ctrl-U
     else if byte == 0x1D then Quit  -- Ctrl-]
     else if byte == 0x7F then Key Backspace  -- DEL
@@ -39,8 +42,8 @@ pf_sequences =
     ∷ (codes "OS" ∷ codes "[14~" ∷ codes "[[D" ∷ [])
     ∷ (codes "[15~" ∷ codes "[[E" ∷ [])
     ∷ (codes "[17~" ∷ [])
-    ∷ (codes "[18~" ∷ [])
-    ∷ (codes "[19~" ∷ [])
+    ∷ (codes "[18~" ∷ codes "[5~" ∷ [])  -- and Page Up
+    ∷ (codes "[19~" ∷ codes "[6~" ∷ [])  -- and Page Down
     ∷ (codes "[20~" ∷ [])
     ∷ (codes "[21~" ∷ [])
     ∷ (codes "[23~" ∷ [])
@@ -64,7 +67,7 @@ pf_sequences =
 abbrev pub pa_sequences : List (List (List ℕ))
 pa_sequences = (codes "1" ∷ []) ∷ (codes "2" ∷ []) ∷ (codes "3" ∷ []) ∷ []
 
--- the sequences of the cursor keys up, down, right and left, of Home, Insert, Delete and Back Tab
+-- the sequences of the cursor keys up, down, right and left, of Home, Insert, Delete, Back Tab and Erase EOF
 abbrev pub other_sequences : List (List (List ℕ))
 other_sequences =
     (codes "[A" ∷ codes "OA" ∷ [])
@@ -75,11 +78,14 @@ other_sequences =
     ∷ (codes "[2~" ∷ [])
     ∷ (codes "[3~" ∷ [])
     ∷ (codes "[Z" ∷ (9 ∷ []) ∷ [])
+    -- End, and with Shift and with Ctrl
+    ∷ (codes "[F" ∷ codes "OF" ∷ codes "[4~" ∷ codes "[8~" ∷ codes "[1;2F" ∷ codes "[1;5F" ∷ [])
     ∷ []
 
 -- the keys of `other_sequences`, in the same order
 abbrev pub other_keys : List BoardKey
-other_keys = CursorUp ∷ CursorDown ∷ CursorRight ∷ CursorLeft ∷ Home ∷ Insert ∷ Delete ∷ BackTab ∷ []
+other_keys = CursorUp ∷ CursorDown ∷ CursorRight ∷ CursorLeft ∷ Home ∷ Insert ∷ Delete ∷ BackTab
+    ∷ EraseEof ∷ []
 
 -- the index of the key that has this sequence
 abbrev pub place_of : List (List (List ℕ)) → List ℕ → Option ℕ
@@ -95,13 +101,22 @@ pa_key sequence = option_map (λ place. Pa (place + 1)) (place_of pa_sequences s
 abbrev pub other_key : List ℕ → Option BoardKey
 other_key sequence = option_map (λ place. get_or other_keys place Tab) (place_of other_sequences sequence)
 
-abbrev pub key_or_unknown : Option BoardKey → Keystroke
-key_or_unknown None = Unknown
-key_or_unknown (Some key) = Key key
+-- the keystroke that isn't a key of the 3278 and has this sequence; `CSI 0n` is DSR with parameter 0, by which a tty
+-- says that it is ready (ECMA-48, 8.3.35)
+abbrev pub other_keystroke : List ℕ → Keystroke
+other_keystroke sequence =
+    if list_any (λ text. bytes_eq text sequence) (codes "?" ∷ []) then Help
+    else if list_any (λ text. bytes_eq text sequence) (codes "[0n" ∷ []) then Redraw
+    else Unknown
+
+abbrev pub key_or : Keystroke → Option BoardKey → Keystroke
+key_or other None = other
+key_or other (Some key) = Key key
 
 -- the keystroke that the bytes after ESC mean
 unfoldable pub escaped : List ℕ → Keystroke
-escaped sequence = key_or_unknown (option_or (option_or (pf_key sequence) (pa_key sequence)) (other_key sequence))
+escaped sequence = key_or (other_keystroke sequence)
+    (option_or (option_or (pf_key sequence) (pa_key sequence)) (other_key sequence))
 
 -- the keystroke for the first character of a text, and for the character that bytes encode in UTF-8 (RFC 3629)
 abbrev pub first_of : List ℕ → Keystroke

@@ -1,6 +1,6 @@
 //! Which bytes belong to a keystroke, and which is its last.
 ghost use Rattle.std.specs.Prelude.{◌≡◌};
-ghost use Rattle.tty_keys.specs.Forms.{completes, completes_escaped, completes_csi, goes_on, goes_on_escaped, is_continuation, is_final, utf8_length};
+ghost use Rattle.tty_keys.specs.Forms.{completes, completes_escaped, completes_csi, may_continue, goes_on_escaped, is_continuation, is_final, utf8_length};
 
 /// The byte that begins an escape sequence.
 pub(crate) const ESC: u8 = 0x1B;
@@ -35,8 +35,8 @@ fn is_final(byte: u8) -> bool
 }
 
 /// Whether a byte may follow the bytes `kept` of a keystroke.
-pub(crate) fn goes_on(kept: &[u8], byte: u8) -> bool
-    ensures { result ≡ goes_on kept.now byte }
+pub(crate) fn may_continue(kept: &[u8], byte: u8) -> bool
+    ensures { result ≡ may_continue kept.now byte }
 {
     match kept {
         [] => true,

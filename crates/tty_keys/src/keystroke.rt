@@ -6,8 +6,12 @@ use keyboard::Key;
 pub enum Keystroke {
     /// A key of the 3278. A character outside of code page 037 is one, too: the keyboard refuses it.
     Key(Key),
-    /// Ctrl-L: the program must draw the whole screen again.
+    /// Ctrl-L, or a tty's report that it is ready: the program must draw the whole screen again.
     Redraw,
+    /// Ctrl-T: the program must show the status row, if the tty has no row for it.
+    Status,
+    /// ESC and `?`: the program must show the table of keys.
+    Help,
     /// Ctrl-]: the program must end.
     Quit,
     /// A byte, an escape sequence or an ill-formed character that has no meaning.
@@ -16,7 +20,7 @@ pub enum Keystroke {
 
 /// What a byte does: the keystroke that it completes, and whether it breaks off another.
 #[derive(Clone, Copy, Debug, PartialEq, Eq)]
-pub struct Pushed {
+pub struct PushResult {
     /// Whether the byte broke off a sequence or a character before its end. That counts as a
     /// [`Keystroke::Unknown`] before `keystroke`.
     pub interrupted: bool,

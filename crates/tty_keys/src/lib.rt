@@ -31,5 +31,5 @@ pub mod laws;
 mod reader;
 mod table;
 
-pub use keystroke::{Keystroke, Pushed};
+pub use keystroke::{Keystroke, PushResult};
 pub use reader::KeyReader;

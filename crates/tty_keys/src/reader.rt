@@ -3,8 +3,8 @@ ghost use Rattle.std.specs.Prelude.{◌≡◌, ◌==◌, ◌≤◌, [], length};
 ghost use Rattle.tty_keys.specs.Table.{meaning};
 ghost use Rattle.tty_keys.specs.Reading.{grown, read_byte, after_pause, keystrokes_of};
 
-use crate::forms::{completes, goes_on};
-use crate::keystroke::{Keystroke, Pushed};
+use crate::forms::{completes, may_continue};
+use crate::keystroke::{Keystroke, PushResult};
 use crate::table::meaning;
 use arrayvec::ArrayVec;
 use std::marker::Model;
@@ -45,18 +45,18 @@ impl KeyReader {
     }
 
     /// Takes the next byte, and returns the keystroke that it completes, if it completes one.
-    pub fn push(&mut self, byte: u8) -> Pushed
+    pub fn push(&mut self, byte: u8) -> PushResult
         ensures keystrokes { keystrokes_of result ≡ (read_byte self.old byte).keystrokes }
         ensures kept { self.new ≡ (read_byte self.old byte).kept }
     {
-        let interrupted = !goes_on(&self.kept, byte);
+        let interrupted = !may_continue(&self.kept, byte);
         if interrupted {
             self.kept.clear();
         }
         let is_last = completes(&self.kept, byte);
         self.keep(byte);
         let keystroke = if is_last { Some(self.take()) } else { None };
-        Pushed {
+        PushResult {
             interrupted,
             keystroke,
         }

@@ -2,7 +2,7 @@
 ghost use Rattle.std.specs.Prelude.{◌≡◌, ◌<◌, IfSome, bytes_eq, length, position};
 ghost use Rattle.std.specs.List.{list_any};
 ghost use Rattle.std.specs.Str.{chars};
-ghost use Rattle.tty_keys.specs.Table.{control, character, escaped, first_of, meaning, other_key, pa_key, pf_key};
+ghost use Rattle.tty_keys.specs.Table.{control, character, escaped, first_of, meaning, other_key, other_keystroke, pa_key, pf_key};
 
 use crate::forms::ESC;
 use crate::keystroke::Keystroke;
@@ -19,8 +19,8 @@ static PF_SEQUENCES: [&[&str]; 24] = [
     &["OS", "[14~", "[[D"],
     &["[15~", "[[E"],
     &["[17~"],
-    &["[18~"],
-    &["[19~"],
+    &["[18~", "[5~"],
+    &["[19~", "[6~"],
     &["[20~"],
     &["[21~"],
     &["[23~"],
@@ -41,7 +41,7 @@ static PF_SEQUENCES: [&[&str]; 24] = [
 
 static PA_SEQUENCES: [&[&str]; 3] = [&["1"], &["2"], &["3"]];
 
-static OTHER_SEQUENCES: [&[&str]; 8] = [
+static OTHER_SEQUENCES: [&[&str]; 9] = [
     &["[A", "OA"],
     &["[B", "OB"],
     &["[C", "OC"],
@@ -50,10 +50,11 @@ static OTHER_SEQUENCES: [&[&str]; 8] = [
     &["[2~"],
     &["[3~"],
     &["[Z", "\t"],
+    &["[F", "OF", "[4~", "[8~", "[1;2F", "[1;5F"],
 ];
 
 /// The keys of `OTHER_SEQUENCES`, in the same order.
-const OTHER_KEYS: [Key; 8] = [
+const OTHER_KEYS: [Key; 9] = [
     Key::CursorUp,
     Key::CursorDown,
     Key::CursorRight,
@@ -62,6 +63,7 @@ const OTHER_KEYS: [Key; 8] = [
     Key::Insert,
     Key::Delete,
     Key::BackTab,
+    Key::EraseEof,
 ];
 
 /// Whether a sequence is one of these.
@@ -105,6 +107,19 @@ fn other_key(sequence: &[u8]) -> Option<Key>
     Some(OTHER_KEYS[place])
 }
 
+/// The keystroke that isn't a key of the 3278 and has this sequence.
+fn other_keystroke(sequence: &[u8]) -> Keystroke
+    ensures { result ≡ other_keystroke sequence.now }
+{
+    if is_among(&["?"], sequence) {
+        Keystroke::Help
+    } else if is_among(&["[0n"], sequence) {
+        Keystroke::Redraw
+    } else {
+        Keystroke::Unknown
+    }
+}
+
 /// The keystroke that the bytes after ESC mean.
 #[tactic(auto, unfolding(crate::specs::Table::escaped))]
 fn escaped(sequence: &[u8]) -> Keystroke
@@ -114,7 +129,7 @@ fn escaped(sequence: &[u8]) -> Keystroke
         .or_else(|| pa_key(sequence))
         .or_else(|| other_key(sequence));
     let Some(key) = found else {
-        return Keystroke::Unknown;
+        return other_keystroke(sequence);
     };
     Keystroke::Key(key)
 }
@@ -132,6 +147,7 @@ fn control(byte: u8) -> Keystroke
         0x0C => Keystroke::Redraw,
         0x0D => Keystroke::Key(Key::Enter),
         0x12 => Keystroke::Key(Key::Reset),
+        0x14 => Keystroke::Status,
         0x15 => Keystroke::Key(Key::EraseInput),
         0x1D => Keystroke::Quit,
         _ => Keystroke::Unknown,

@@ -6,7 +6,7 @@ use Rattle.tty_screen.specs.declared.place.Place.{Place}
 use Rattle.tty_screen.specs.declared.look.Look.{Look}
 use Rattle.tty_screen.specs.declared.picture.PictureCell.{PictureCell}
 use Rattle.tty_screen.specs.Pictures.{blank_cell, next_place}
-use Rattle.tty_screen.specs.Spelling.{spelt, all_spelt}
+use Rattle.tty_screen.specs.Spelling.{encoded, all_spelt}
 use Rattle.tty_screen.specs.Changes.{change, run_after, changes}
 
 first_left : (cells : List PictureCell) (index : ℕ) → get_or (drop index cells) 0 blank_cell ≡ get_or cells index blank_cell
@@ -27,6 +27,6 @@ change_more columns place next run goes olds news index default old below was th
     ap (λ (cells : List PictureCell). all_spelt (changes columns place run (drop index olds) cells)) (drop_more news index default below)
     ∙ ap (λ (first : PictureCell). all_spelt (change place run first new ++ changes columns (next_place columns place) (run_after columns place first new) (drop 1 (drop index olds)) left)) (first_left olds index ∙ sym was)
     ∙ ap (λ (rest : List PictureCell). all_spelt (change place run old new ++ changes columns (next_place columns place) (run_after columns place old new) rest left)) (rest_left olds index)
-    ∙ flat_map-append spelt (change place run old new) (changes columns (next_place columns place) (run_after columns place old new) (drop (index + 1) olds) left)
+    ∙ flat_map-append encoded (change place run old new) (changes columns (next_place columns place) (run_after columns place old new) (drop (index + 1) olds) left)
     ∙ ap (λ (at : Place). all_spelt (change place run old new) ++ all_spelt (changes columns at (run_after columns place old new) (drop (index + 1) olds) left)) (sym there)
     ∙ ap (λ (look : Option Look). all_spelt (change place run old new) ++ all_spelt (changes columns next look (drop (index + 1) olds) left)) (sym on)

@@ -1,4 +1,4 @@
--- What is spelt is read back.
+-- What is encoded is read back.
 use Rattle.std.proofs.Common.{◌≡◌, ℕ, ◌+◌, ◌-◌, ◌*◌, ◌/◌, ◌%◌, ◌<◌, ◌==◌, ◌&&◌, ◌||◌, not, nat_lt, Bool, true, false, List, [], ◌∷◌, ◌++◌, arith, refl, sym, ◌∙◌, ap, append_assoc, lit<}
 use Rattle.std.specs.Char.{encode_utf8}
 use Rattle.std.proofs.Math.Nat.{mod-lt}
@@ -9,13 +9,13 @@ use Rattle.tty_screen.specs.declared.look.Look.{Look}
 use Rattle.tty_screen.specs.declared.look.Look.TheVariants.{Plain, UnprotectedNormal, UnprotectedBright, ProtectedNormal, ProtectedBright}
 use Rattle.tty_screen.specs.StatusRow.{three_digits}
 use Rattle.tty_screen.specs.Pictures.{is_graphic}
-use Rattle.tty_screen.specs.Spelling.{spelt, all_spelt, selection}
+use Rattle.tty_screen.specs.Spelling.{encoded, all_spelt, selection}
 use Rattle.tty_screen.specs.Tty.{Control}
 use Rattle.tty_screen.specs.Reading.{Awaits, is_digit, awaits_next, said_by, read_from, read}
 
 -- behind what spells a control function, that function is read
 abbrev pub IsReadBack : Control → Type 0
-IsReadBack control = (rest : List ℕ) → read (spelt control ++ rest) ≡ control ∷ read rest
+IsReadBack control = (rest : List ℕ) → read (encoded control ++ rest) ≡ control ∷ read rest
 
 -- ---- characters
 

@@ -1,6 +1,6 @@
 -- The picture of a screen, a keyboard and a status (our profile).
-use Rattle.std.specs.Prelude.{ℕ, ◌+◌, ◌/◌, ◌%◌, Bool, List, ◌++◌, map, length, Option, slice_index_or}
-use Rattle.std.specs.List.{range_with_len}
+use Rattle.std.specs.Prelude.{ℕ, ◌+◌, ◌-◌, ◌/◌, ◌%◌, Bool, List, [], ◌++◌, map, length, take, Option, get_or, slice_index_or}
+use Rattle.std.specs.List.{flat_map, range_with_len}
 use Rattle.codes3270.specs.declared.attribute.Cell.{Cell}
 use Rattle.codes3270.specs.declared.attribute.Cell.TheVariants.{Char}
 use Rattle.datastream.specs.Screen.{attribute_over}
@@ -11,8 +11,10 @@ use Rattle.keyboard.specs.State.{Keyboard}
 use Rattle.tty_screen.specs.declared.place.Place.{Place}
 use Rattle.tty_screen.specs.declared.picture.PictureCell.{PictureCell}
 use Rattle.tty_screen.specs.Looks.{look_of}
-use Rattle.tty_screen.specs.Pictures.{PictureParts}
-use Rattle.tty_screen.specs.StatusRow.{status_cells}
+use Rattle.tty_screen.specs.Pictures.{PictureParts, origin}
+use Rattle.tty_screen.specs.StatusRow.{in_columns, status_cells}
+use Rattle.tty_screen.specs.declared.status.StatusPlace.{StatusPlace}
+use Rattle.tty_screen.specs.declared.status.StatusPlace.TheVariants as status
 
 -- the picture's cell for an address: the character that is printed for it, in a hidden field a blank, and its look
 abbrev pub painted_at : List Cell → ℕ → PictureCell
@@ -28,13 +30,39 @@ screen_cells cells = map (painted_at cells) (range_with_len 0 (length cells))
 abbrev pub place_of : ℕ → ℕ → Place
 place_of columns at = record { row = at / columns; column = at % columns }
 
--- the picture: the rows of the screen, and the status row below them
-abbrev pub picture_of : SizedScreen → Keyboard → Bool → Option Refusal → List ℕ → PictureParts
-picture_of sized keyboard connected refusal lu =
+-- how many rows the status row adds
+abbrev pub status_rows : StatusPlace → ℕ
+status_rows status.Below = 1
+status_rows status.Over = 0
+status_rows status.Nowhere = 0
+
+-- the rows of a screen with this many columns, and the status row
+abbrev pub with_status : StatusPlace → (columns : ℕ) → (screen row : List PictureCell) → List PictureCell
+with_status status.Below columns screen row = screen ++ row
+with_status status.Over columns screen row = take (length screen - columns) screen ++ row
+with_status status.Nowhere columns screen row = screen
+
+-- the picture: the rows of the screen, and the status row at its place
+abbrev pub picture_of : StatusPlace → SizedScreen → Keyboard → Bool → Option Refusal → List ℕ → PictureParts
+picture_of place sized keyboard connected refusal lu =
     let cursor : Place = place_of sized.size.columns sized.screen.cursor in
     record {
-      rows = sized.size.rows + 1;
+      rows = sized.size.rows + status_rows place;
       columns = sized.size.columns;
-      cells = screen_cells sized.screen.cells ++ status_cells sized.size.columns keyboard connected refusal lu cursor;
+      cells = with_status place sized.size.columns (screen_cells sized.screen.cells)
+          (status_cells sized.size.columns keyboard connected refusal lu cursor);
       cursor = cursor;
     }
+
+-- the first rows and columns of a page of text
+abbrev pub page_cells : (rows columns : ℕ) → List (List ℕ) → List PictureCell
+page_cells rows columns lines = flat_map (λ row. in_columns columns (get_or lines row [])) (range_with_len 0 rows)
+
+-- the picture of a page of text in place of a screen: as many rows and columns, and the cursor in the upper left corner
+abbrev pub page_of : SizedScreen → List (List ℕ) → PictureParts
+page_of sized lines = record {
+  rows = sized.size.rows;
+  columns = sized.size.columns;
+  cells = page_cells sized.size.rows sized.size.columns lines;
+  cursor = origin;
+}

@@ -22,16 +22,17 @@ further parameter = 0x3B ∷ parameter_text parameter
 
 -- The bytes of a control function. CUP ends with `H`; its parameters are row and column from 1 on, with three digits
 -- each. SGR ends with `m`, ED with `J`.
-abbrev pub spelt : Control → List ℕ
-spelt (Control.Graphic glyph) = encode_utf8 glyph
-spelt (Control.CursorTo place) =
+abbrev pub encoded : Control → List ℕ
+encoded (Control.Graphic glyph) = encode_utf8 glyph
+encoded (Control.CursorTo place) =
     introducer ++ (three_digits (place.row + 1) ++ 0x3B ∷ three_digits (place.column + 1) ++ 0x48 ∷ [])
-spelt (Control.SelectRendition first more) = introducer ++ (parameter_text first ++ flat_map further more ++ 0x6D ∷ [])
-spelt Control.EraseAll = introducer ++ 0x32 ∷ 0x4A ∷ []
-spelt Control.Bell = 0x07 ∷ []
+encoded (Control.SelectRendition first more) = introducer ++ (parameter_text first ++ flat_map further more
+    ++ 0x6D ∷ [])
+encoded Control.EraseAll = introducer ++ 0x32 ∷ 0x4A ∷ []
+encoded Control.Bell = 0x07 ∷ []
 
 abbrev pub all_spelt : List Control → List ℕ
-all_spelt controls = flat_map spelt controls
+all_spelt controls = flat_map encoded controls
 
 -- the SGR that selects a look
 abbrev pub selection : Look → Control
@@ -42,4 +43,4 @@ selection ProtectedNormal = Control.SelectRendition 0 (34 ∷ [])
 selection ProtectedBright = Control.SelectRendition 0 (1 ∷ 37 ∷ [])
 
 abbrev pub spelt_look : Look → List ℕ
-spelt_look look = spelt (selection look)
+spelt_look look = encoded (selection look)

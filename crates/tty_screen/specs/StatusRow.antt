@@ -1,5 +1,5 @@
 -- The status row (our profile). From column 0 on it has the connection, from 16 the reason, from 32 insert mode, from
--- 40 the LU, and from 72 to 78 row and column of the cursor, each from 1 on.
+-- 40 the LU, from 55 which key shows the table of keys, and from 72 to 78 row and column of the cursor, each from 1 on.
 use Rattle.std.specs.Prelude.{ℕ, ◌+◌, ◌/◌, ◌%◌, ◌-◌, Bool, true, false, List, [], ◌∷◌, ◌++◌, map, Option, Some, None, if◌then◌else◌, codes, slice_index_or, nat_lt, ◌&&◌}
 use Rattle.std.specs.List.{range_with_len}
 use Rattle.keyboard.specs.declared.key.Lock.{Lock}
@@ -42,6 +42,9 @@ abbrev pub insert_word : Bool → List ℕ
 insert_word true = codes "^"
 insert_word false = []
 
+abbrev pub keys_hint : List ℕ
+keys_hint = codes "ESC ? shows keys"
+
 -- a graphic character of ASCII as it is, and a blank for any other byte
 abbrev pub graphic_or_blank : ℕ → ℕ
 graphic_or_blank byte = if nat_lt 0x20 byte && nat_lt byte 0x7F then byte else 0x20
@@ -68,5 +71,6 @@ status_cells columns keyboard connected refusal lu cursor =
     in_columns 16 (connection_word connected)
     ++ in_columns 16 (reason keyboard.lock refusal)
     ++ in_columns 8 (insert_word keyboard.inserting)
-    ++ in_columns 32 lu
+    ++ in_columns 15 lu
+    ++ in_columns 17 keys_hint
     ++ in_columns (columns - 72) (position_text cursor)

@@ -8,13 +8,14 @@
 //! drawing.draw(picture, &mut out)?;
 //! ```
 //!
-//! A [`Picture`] is what an operator sees of a screen, a keyboard and a [`Status`]: a list of cells, each a character
-//! and a [`Look`]. A [`Drawing`] remembers the picture that the tty shows, and [`Drawing::draw`] appends the bytes that
+//! A [`Picture`] is what an operator sees of a screen, a keyboard and a [`Status`], or a page of text: a list of cells,
+//! each a character and a [`Look`]. A [`Drawing`] remembers the picture that the tty shows, and [`Drawing::draw`]
+//! appends the bytes that
 //! turn it into the next picture: in each row only the cells that changed are written. [`Drawing::forget`] makes the
 //! next call draw all.
 //!
 //! `specs/` has the definitions: `Tty` says what a tty does with the control functions that are used here (ECMA-48),
-//! `Spelling` how they are encoded, `Painting` what a picture shows, `StatusRow` its last row, and `Drawn` when a tty
+//! `Spelling` how they are encoded, `Painting` what a picture shows, `StatusRow` its status row, and `Drawn` when a tty
 //! shows a picture. `Changes` is the list of what is written.
 #![tactic(auto)]
 
@@ -33,4 +34,4 @@ pub use output::put_bell;
 pub use picture::{Picture, PictureCell};
 pub use place::Place;
 pub use room::{TooSmall, check_room};
-pub use status::Status;
+pub use status::{Status, StatusPlace};

@@ -2,7 +2,7 @@
 ghost use Rattle.std.specs.Prelude.{◌≡◌, ◌<◌, ◌++◌, [], None, Some};
 ghost use Rattle.codes3270.specs.Appending.{Appends, AppendsSome};
 ghost use Rattle.tty_screen.specs.Tty.{Control};
-ghost use Rattle.tty_screen.specs.Spelling.{spelt, spelt_look, all_spelt};
+ghost use Rattle.tty_screen.specs.Spelling.{encoded, spelt_look, all_spelt};
 ghost use Rattle.tty_screen.specs.Pictures.{origin};
 ghost use Rattle.tty_screen.specs.Changes.{written, change, changes, run_after};
 
@@ -14,14 +14,14 @@ use std::alloc::AllocError;
 /// Appends BEL, which sounds the alarm of the tty and changes nothing that it shows (ECMA-48, 8.3.3). Err only if
 /// memory is refused; then nothing is appended.
 pub fn put_bell(out: &mut Vec<u8>) -> Result<(), AllocError>
-    ensures { Appends out.old out.new result (spelt Control.Bell) }
+    ensures { Appends out.old out.new result (encoded Control.Bell) }
 {
     out.extend_from_slice(b"\x07")
 }
 
 /// Appends SGR with parameter 0 (default rendition), and ED with parameter 2 (erase all).
 pub(crate) fn put_erase(out: &mut Vec<u8>) -> Result<(), AllocError>
-    ensures { AppendsSome out.old out.new result (spelt (Control.SelectRendition 0 []) ++ spelt Control.EraseAll) }
+    ensures { AppendsSome out.old out.new result (encoded (Control.SelectRendition 0 []) ++ encoded Control.EraseAll) }
 {
     out.extend_from_slice(b"\x1b[0m\x1b[2J")
 }
@@ -30,7 +30,7 @@ pub(crate) fn put_erase(out: &mut Vec<u8>) -> Result<(), AllocError>
 pub(crate) fn put_place(out: &mut Vec<u8>, place: Place) -> Result<(), AllocError>
     requires row { place.row < usize.MAX }
     requires column { place.column < usize.MAX }
-    ensures { AppendsSome out.old out.new result (spelt (Control.CursorTo place)) }
+    ensures { AppendsSome out.old out.new result (encoded (Control.CursorTo place)) }
 {
     let [a, b, c] = three_digits(place.row + 1);
     let [d, e, f] = three_digits(place.column + 1);
@@ -46,7 +46,7 @@ fn put_look(out: &mut Vec<u8>, look: Look) -> Result<(), AllocError>
 
 /// Appends a graphic character in UTF-8.
 fn put_glyph(out: &mut Vec<u8>, glyph: char) -> Result<(), AllocError>
-    ensures { AppendsSome out.old out.new result (spelt (Control.Graphic glyph)) }
+    ensures { AppendsSome out.old out.new result (encoded (Control.Graphic glyph)) }
 {
     let mut room = [0; 4];
     out.extend_from_slice(glyph.encode_utf8(&mut room).as_bytes())
@@ -54,7 +54,7 @@ fn put_glyph(out: &mut Vec<u8>, glyph: char) -> Result<(), AllocError>
 
 /// Appends a cell's look and its character.
 fn put_looking(out: &mut Vec<u8>, cell: PictureCell) -> Result<(), AllocError>
-    ensures { AppendsSome out.old out.new result (spelt_look cell.look ++ spelt (Control.Graphic cell.glyph)) }
+    ensures { AppendsSome out.old out.new result (spelt_look cell.look ++ encoded (Control.Graphic cell.glyph)) }
 {
     put_look(out, cell.look)?;
     put_glyph(out, cell.glyph)

@@ -1,14 +1,16 @@
 //! Pictures: what an operator sees.
-ghost use Rattle.std.specs.Prelude.{◌≡◌, ◌<◌, ◌≤◌, ◌*◌, ◌+◌, ◌++◌, [], map, length, Bool, IfOk, OnOk, slice_index_or};
+ghost use Rattle.std.specs.Prelude.{◌≡◌, ◌<◌, ◌≤◌, ◌*◌, ◌+◌, ◌-◌, ◌++◌, [], map, length, take, get_or, Bool, IfOk, OnOk, slice_index_or};
 ghost use Rattle.codes3270.specs.Size.{cells_in};
 ghost use Rattle.tty_screen.specs.Pictures.{IsSized, blank_cell, same_cell, plain};
 ghost use Rattle.tty_screen.specs.Changes.{same_size};
-ghost use Rattle.tty_screen.specs.Painting.{picture_of, painted_at, place_of, screen_cells};
+ghost use Rattle.tty_screen.specs.Painting.{page_cells, page_of, picture_of, painted_at, place_of, screen_cells, status_rows, with_status};
 ghost use Rattle.tty_screen.specs.StatusRow.{in_columns, letter_at, three_digits, position_text, status_cells};
 
 use crate::look::{Look, look_of};
 use crate::place::Place;
-use crate::status::{Status, connection_word, graphic_or_blank, insert_word, reason};
+use crate::status::{
+    KEYS_HINT, Status, StatusPlace, connection_word, graphic_or_blank, insert_word, reason,
+};
 use codes3270::{Addr, Size};
 use keyboard::Keyboard;
 use presentation::Screen;
@@ -24,8 +26,9 @@ pub struct PictureCell {
     pub look: Look,
 }
 
-/// What an operator sees of a screen, a keyboard and a status: the rows of the screen, a status row below them, and a
-/// cursor. Contracts see the number of rows and of columns, the list of the cells, row by row, and the cursor's place.
+/// What an operator sees of a screen, a keyboard and a status: the rows of the screen, a status row, and a cursor; or a
+/// page of text. Contracts see the number of rows and of columns, the list of the cells, row by row, and the cursor's
+/// place.
 #[derive(Drop)]
 pub struct Picture {
     rows: usize,
@@ -166,8 +169,84 @@ fn put_status(
     put_text(cells, 16, connection_word(status.connected))?;
     put_text(cells, 16, reason(keyboard.lock(), status.refusal))?;
     put_text(cells, 8, insert_word(keyboard.inserting()))?;
-    put_text(cells, 32, status.lu)?;
+    put_text(cells, 15, status.lu)?;
+    put_text(cells, 17, KEYS_HINT)?;
     put_text(cells, columns - 72, &position_text(cursor))
+}
+
+/// Adds the status row over the last `columns` cells.
+fn put_status_over(
+    cells: &mut Vec<PictureCell>,
+    columns: usize,
+    keyboard: Keyboard,
+    status: &Status<'_>,
+    cursor: Place,
+) -> Result<(), AllocError>
+    requires columns { 72 ≤ columns }
+    requires row { cursor.row < usize.MAX }
+    requires column { cursor.column < usize.MAX }
+    ensures { let status = status.now in
+        OnOk result (cells.new.items ≡ take (length cells.old.items - columns) cells.old.items
+        ++ status_cells columns keyboard status.connected status.refusal status.lu.now cursor) }
+{
+    cells.truncate(cells.len().saturating_sub(columns));
+    put_status(cells, columns, keyboard, status, cursor)
+}
+
+/// Adds the status row at its place.
+fn put_status_at_place(
+    cells: &mut Vec<PictureCell>,
+    columns: usize,
+    keyboard: Keyboard,
+    status: &Status<'_>,
+    cursor: Place,
+) -> Result<(), AllocError>
+    requires columns { 72 ≤ columns }
+    requires row { cursor.row < usize.MAX }
+    requires column { cursor.column < usize.MAX }
+    ensures { let status = status.now in
+        OnOk result (cells.new.items ≡ with_status status.place columns cells.old.items
+        (status_cells columns keyboard status.connected status.refusal status.lu.now cursor)) }
+{
+    match status.place {
+        StatusPlace::Below => put_status(cells, columns, keyboard, status, cursor),
+        StatusPlace::Over => put_status_over(cells, columns, keyboard, status, cursor),
+        StatusPlace::Nowhere => Ok(()),
+    }
+}
+
+/// How many rows the status row adds.
+fn status_rows(place: StatusPlace) -> usize
+    ensures value { result ≡ status_rows place }
+    ensures few { result ≤ 1 }
+{
+    match place {
+        StatusPlace::Below => 1,
+        StatusPlace::Over | StatusPlace::Nowhere => 0,
+    }
+}
+
+/// A line of a text; empty beyond its end.
+fn line_at<'a>(lines: &[&'a str], row: usize) -> &'a [u8]
+    ensures { result.now ≡ get_or (map (λ line. line.now) lines.now) row [] }
+{
+    lines.get(row).copied().unwrap_or("").as_bytes()
+}
+
+/// Adds rows of a page of text.
+fn put_page(
+    cells: &mut Vec<PictureCell>,
+    rows: usize,
+    columns: usize,
+    lines: &[&str],
+) -> Result<(), AllocError>
+    ensures { OnOk result (cells.new.items
+        ≡ cells.old.items ++ page_cells rows columns (map (λ line. line.now) lines.now)) }
+{
+    for row in 0..rows {
+        put_text(cells, columns, line_at(lines, row))?;
+    }
+    Ok(())
 }
 
 /// The number of columns of a screen.
@@ -180,12 +259,21 @@ fn columns_of(screen: &Screen) -> usize
     usize::from(screen.size().cols())
 }
 
-/// The number of rows of a screen's picture: those of the screen, and the status row.
-fn rows_of(screen: &Screen) -> usize
-    ensures value { result ≡ screen.now.size.rows + 1 }
+/// The number of rows of a screen.
+fn screen_rows(screen: &Screen) -> usize
+    ensures value { result ≡ screen.now.size.rows }
+    ensures some { 0 < result }
+    ensures few { result < 999 }
+{
+    usize::from(screen.size().rows())
+}
+
+/// The number of rows of a screen's picture: those of the screen, and the status row if it is below them.
+fn rows_of(screen: &Screen, place: StatusPlace) -> usize
+    ensures value { result ≡ screen.now.size.rows + status_rows place }
     ensures few { result < 1000 }
 {
-    usize::from(screen.size().rows()) + 1
+    screen_rows(screen) + status_rows(place)
 }
 
 /// The place of a screen's cursor.
@@ -207,10 +295,10 @@ impl Picture {
     /// What an operator sees of a screen, a keyboard and a status (our profile). Err only if memory is refused.
     ///
     /// The rows of the screen show what `Screen::glyph_at` returns, a hidden field as blanks, each cell in its
-    /// [`Look`]. The status row below them shows `connected` or `not connected`; why the keyboard accepts no keys:
+    /// [`Look`]. The status row, where it is, shows `connected` or `not connected`; why the keyboard accepts no keys:
     /// `X SYSTEM` while it waits for the host, `X PROTECTED`, `X NUMERIC` or `X NO ROOM` for the refusal that locked
-    /// it, and `X NO CODE` for a character that has no code; `^` in insert mode; the name of the LU; and row and column
-    /// of the cursor, each from 1 on.
+    /// it, and `X NO CODE` for a character that has no code; `^` in insert mode; the name of the LU; which key shows
+    /// the table of keys; and row and column of the cursor, each from 1 on.
     pub fn new(
         alloc: Global,
         screen: &Screen,
@@ -219,18 +307,35 @@ impl Picture {
     ) -> Result<Picture, AllocError>
         ensures { let status = status.now in
             IfOk result (λ picture. picture
-            ≡ picture_of screen.now keyboard status.connected status.refusal status.lu.now) }
+            ≡ picture_of status.place screen.now keyboard status.connected status.refusal status.lu.now) }
     {
         let columns = columns_of(screen);
         let cursor = cursor_of(screen);
         let mut cells = Vec::new(alloc);
         put_screen(&mut cells, screen)?;
-        put_status(&mut cells, columns, keyboard, status, cursor)?;
+        put_status_at_place(&mut cells, columns, keyboard, status, cursor)?;
         Ok(Picture {
-            rows: rows_of(screen),
+            rows: rows_of(screen, status.place),
             columns,
             cells,
             cursor,
+        })
+    }
+
+    /// A page of text in ASCII in place of a screen: the first rows and columns of these lines, and the cursor in the
+    /// upper left corner. Err only if memory is refused.
+    pub fn page(alloc: Global, screen: &Screen, lines: &[&str]) -> Result<Picture, AllocError>
+        ensures { IfOk result (λ picture. picture ≡ page_of screen.now (map (λ line. line.now) lines.now)) }
+    {
+        let rows = screen_rows(screen);
+        let columns = columns_of(screen);
+        let mut cells = Vec::new(alloc);
+        put_page(&mut cells, rows, columns, lines)?;
+        Ok(Picture {
+            rows,
+            columns,
+            cells,
+            cursor: Place { row: 0, column: 0 },
         })
     }
 
@@ -241,7 +346,7 @@ impl Picture {
         self.columns
     }
 
-    /// Its cells, row by row, with the status row last.
+    /// Its cells, row by row.
     pub fn cells(&self) -> &[PictureCell]
         ensures value { result.now ≡ self.now.cells }
         ensures sized { IsSized self.now }

@@ -1,11 +1,11 @@
 //! Whether a tty has room for a screen.
-ghost use Rattle.std.specs.Prelude.{◌≡◌, ◌≤◌, ◌+◌, MatchResult};
+ghost use Rattle.std.specs.Prelude.{◌≡◌, ◌≤◌, MatchResult};
 
 use codes3270::Size;
 use std::error::Error;
 use std::fmt;
 
-/// A tty that is too small for a screen and its status row. `{}` prints it in one line.
+/// A tty that is too small for a screen. `{}` prints it in one line.
 #[derive(Clone, Copy, Debug, PartialEq, Eq)]
 pub struct TooSmall {
     /// The rows of the tty.
@@ -40,16 +40,17 @@ impl fmt::Display for TooSmall {
 
 impl Error for TooSmall {}
 
-/// Checks that a tty of this many rows and columns has a place for each cell of a screen of this size and of the status
-/// row below it; it may be larger. To check for all screens of a terminal, pass its model's alternate size.
+/// Checks that a tty of this many rows and columns has a place for each cell of a screen of this size; it may be
+/// larger.
+/// To check for all screens of a terminal, pass its model's alternate size.
 pub fn check_room(size: Size, rows: u16, columns: u16) -> Result<(), TooSmall>
     ensures { MatchResult result
-        (λ _. (size.rows + 1 ≤ rows) × (size.columns ≤ columns))
+        (λ _. (size.rows ≤ rows) × (size.columns ≤ columns))
         (λ fault. (fault
-        ≡ record { rows = rows; columns = columns; needed_rows = size.rows + 1; needed_columns = size.columns })
-        × (size.rows + 1 ≤ rows → size.columns ≤ columns → ⊥)) }
+        ≡ record { rows = rows; columns = columns; needed_rows = size.rows; needed_columns = size.columns })
+        × (size.rows ≤ rows → size.columns ≤ columns → ⊥)) }
 {
-    let needed_rows = size.rows() + 1;
+    let needed_rows = size.rows();
     let needed_columns = size.cols();
     if needed_rows <= rows && needed_columns <= columns {
         Ok(())

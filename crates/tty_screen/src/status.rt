@@ -4,16 +4,32 @@ ghost use Rattle.tty_screen.specs.StatusRow.{connection_word, reason, refusal_re
 
 use keyboard::{Lock, Refusal};
 
-/// What the status row shows in addition to the state of screen and keyboard.
+/// Where a picture has the status row.
+#[derive(Clone, Copy, Debug, PartialEq, Eq)]
+pub enum StatusPlace {
+    /// In a row of its own, below those of the screen.
+    Below,
+    /// Over the last row of the screen.
+    Over,
+    /// Nowhere.
+    Nowhere,
+}
+
+/// Where the status row is, and what it shows in addition to the state of screen and keyboard.
 #[derive(Clone, Copy, Debug)]
 pub struct Status<'a> {
+    /// Where the status row is.
+    pub place: StatusPlace,
     /// Whether the terminal is connected to a host.
     pub connected: bool,
     /// The refusal that set the lock to `Error`; while the lock is free, `NoCode` if the last key was refused for it.
     pub refusal: Option<Refusal>,
-    /// The name of the LU in ASCII, of which the first 32 bytes are shown; empty if there is none.
+    /// The name of the LU in ASCII, of which the first 15 bytes are shown; empty if there is none.
     pub lu: &'a [u8],
 }
+
+/// Which key shows the table of keys.
+pub(crate) const KEYS_HINT: &[u8] = b"ESC ? shows keys";
 
 /// The word for whether the terminal is connected.
 pub(crate) fn connection_word(connected: bool) -> &'static [u8]

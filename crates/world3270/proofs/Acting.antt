@@ -34,12 +34,12 @@ use Rattle.std.specs.Prelude.{◌&&◌, not}
 use Rattle.std.specs.Option.{option_and_then, option_map_or}
 use Rattle.world3270.specs.refinement.LowerLaws.{LowerLaws}
 use Rattle.world3270.specs.model.Link.{Link, sent, host_sent}
-use Rattle.world3270.specs.refinement.Phases.{UnderWay, Talking, Serving, LinkPhase, IsAgreed, IsAt, IsHostTalk, IsTermTalk, turn_at, pending_at, down_at, up_at}
+use Rattle.world3270.specs.refinement.Phases.{IsInFlight, NegotiationPhase, SessionPhase, LinkPhase, IsAgreed, IsAt, IsHostTalk, IsTermTalk, turn_at, pending_at, down_at, up_at}
 use Rattle.world3270.specs.statement.TurnReasons.{IsOccasion, IsOpenBy, IsOpenFor}
 use Rattle.host_core.specs.declared.unheard.Unheard.{Unheard}
 use Rattle.host_core.specs.declared.unheard.Unheard.TheVariants as unheards
 use Rattle.world3270.specs.statement.Showing.{IsDecided, KnowsItsFields, WantsItsPanelOn}
-use Rattle.world3270.specs.refinement.Invariant.{local_state_of, AllowsInput, FactsAreExact, IfRelies, IsNew, Decides, Fact, Kept, Sizes, may_differ_at, ShownAt, ShownIn}
+use Rattle.world3270.specs.refinement.Invariant.{local_state_of, AllowsInput, FactsAreExact, IfRelies, IsNew, Decides, Fact, ConnectionInvariant, Sizes, may_differ_at, ShownAt, ShownIn}
 use Rattle.world3270.specs.refinement.View.{View, view_of}
 use Rattle.world3270.proofs.Down.{none_open}
 use Rattle.world3270.proofs.Queues.{more, still}
@@ -109,15 +109,15 @@ sent_at link sending wanted from to same at host term turn pending down up = rec
   term_talk = term at.term_talk;
   turn = turn;
   pending = pending;
-  goes_down = subst (UnderWay link.lost (sent link.lost link.down (sending.message ∷ []))) down (more link.lost link.down (down_at link.term.display.model from) (sending.message ∷ []) at.goes_down);
-  goes_up = subst (UnderWay link.lost link.up) (sym up) at.goes_up;
+  goes_down = subst (IsInFlight link.lost (sent link.lost link.down (sending.message ∷ []))) down (more link.lost link.down (down_at link.term.display.model from) (sending.message ∷ []) at.goes_down);
+  goes_up = subst (IsInFlight link.lost link.up) (sym up) at.goes_up;
 }
 
 -- a sending that leads to a moment
-pub kept_sent : (app : Application) (link : Link) (sending : SentValue) (k : Kept app (view_of link)) (to : LinkPhase) → Sends link sending → IsSizeOf app link.term.display.model sending.conn.size
+pub kept_sent : (app : Application) (link : Link) (sending : SentValue) (k : ConnectionInvariant app (view_of link)) (to : LinkPhase) → Sends link sending → IsSizeOf app link.term.display.model sending.conn.size
     → (may_differ_at to ≡ false → link.term.display.size ≡ sending.conn.size) → IsAt (view_of (sent_view sending link)) k.wanted to
     → Fact k.wanted (local_state_of (view_of (sent_view sending link))) to → ShownAt app link.term.waits sending.conn link.term.display.before_restored link.term.display.last_restored link.term.display.screen to
-    → Kept app (view_of (sent_view sending link))
+    → ConnectionInvariant app (view_of (sent_view sending link))
 kept_sent app link sending k to same size steady at fact shown = record {
   whole = k.whole;
   cursor = k.cursor;
@@ -166,7 +166,7 @@ pub model_here : (link : Link) (lu : List ℕ) → IsAgreed link.term.display.mo
 model_here link lu talks = ap (λ (state : HostState). unwrap_or (model_asked state) M2) talks.state_is ∙ talks.model_is
 
 -- so what is shown has a size that the terminal may have
-size_shown : LowerLaws → (app : Application) → IsApplication app → (link : Link) (k : Kept app (view_of link)) (lu : List ℕ) (panel : ℕ) (message : Message) (keep : Bool) (values : Values)
+size_shown : LowerLaws → (app : Application) → IsApplication app → (link : Link) (k : ConnectionInvariant app (view_of link)) (lu : List ℕ) (panel : ℕ) (message : Message) (keep : Bool) (values : Values)
     → IsAgreed link.term.display.model lu link.host.talk → IsSizeOf app link.term.display.model (wants_of app (when_shown link.host) panel message keep values).size
 size_shown given app is link k lu panel message keep values talks =
     let here = model_here link lu talks in
@@ -227,23 +227,23 @@ keeps_by (Decision.Do Act.Read) = false
 keeps_by (Decision.Do (Act.Show panel message keep values)) = keep
 keeps_by Decision.Asks = false
 
-module _ (given : LowerLaws) (app : Application) (is : IsApplication app) (link : Link) (k : Kept app (view_of link)) where
+module _ (given : LowerLaws) (app : Application) (is : IsApplication app) (link : Link) (k : ConnectionInvariant app (view_of link)) where
   -- the host's end once a panel is shown
   sends_shown : (panel : ℕ) (message : Message) (keep : Bool) (values : Values) → Sends link (shown app link.host panel message keep values)
   sends_shown panel message keep values = record { talk = refl; exact = exact_despite given link.host.unheard link.host.shadow k.exact }
 
   -- before the terminal knows that both agreed
-  paints_first : (lu : List ℕ) (panel : ℕ) (message : Message) (keep : Bool) (values : Values) → IsAt (view_of link) k.wanted (LinkPhase.Talks (Talking.Agreeing lu)) → IsNew (local_state_of (view_of link))
-      → IsDecided app link.host (Act.Show panel message keep values) → (keep ≡ true → KnowsItsFields app link.host) → Kept app (view_of (sent_view (done app link.host (Act.Show panel message keep values)) link))
+  paints_first : (lu : List ℕ) (panel : ℕ) (message : Message) (keep : Bool) (values : Values) → IsAt (view_of link) k.wanted (LinkPhase.Negotiating (NegotiationPhase.Agreeing lu)) → IsNew (local_state_of (view_of link))
+      → IsDecided app link.host (Act.Show panel message keep values) → (keep ≡ true → KnowsItsFields app link.host) → ConnectionInvariant app (view_of (sent_view (done app link.host (Act.Show panel message keep values)) link))
   paints_first lu panel message keep values at n choice knows =
       let sending : SentValue = shown app link.host panel message keep values in
       let conn : Session = when_shown link.host in
       let wants : WantedScreen = wants_of app conn panel message keep values in
       let same : Sends link sending = sends_shown panel message keep values in
       let meets : Meets link.host.shadow link.term.display.screen = subst (λ s. Meets s link.term.display.screen) (sym n.shadow) tt in
-      let to : LinkPhase = LinkPhase.Begins lu link.host.next_seq (command_of app conn panel message keep values) wants conn.shadow in
+      let to : LinkPhase = LinkPhase.FirstPaint lu link.host.next_seq (command_of app conn panel message keep values) wants conn.shadow in
       kept_sent app link sending k to same (size_shown given app is link k lu panel message keep values at.host_talk) (λ steady. absurd (cc))
-      (sent_at link sending k.wanted (LinkPhase.Talks (Talking.Agreeing lu)) to same at (λ talk is. is) (λ is. is) refl refl refl refl)
+      (sent_at link sending k.wanted (LinkPhase.Negotiating (NegotiationPhase.Agreeing lu)) to same at (λ talk is. is) (λ is. is) refl refl refl refl)
       (record {
         lock = n.lock;
         over_is = refl;
@@ -256,7 +256,7 @@ module _ (given : LowerLaws) (app : Application) (is : IsApplication app) (link 
       (wants_its app link.term.waits link.host link.term.display.screen panel message keep values choice knows meets)
 
   -- what it knows when it decides on a key
-  knows_its : ShownIn app link.term.waits link.host link.term.display.before_restored link.term.display.last_restored link.term.display.screen Serving.Deciding → (link.host.turn_reason ≡ turn_reasons.Agreement → ⊥) → KnowsItsFields app link.host
+  knows_its : ShownIn app link.term.waits link.host link.term.display.before_restored link.term.display.last_restored link.term.display.screen SessionPhase.Deciding → (link.host.turn_reason ≡ turn_reasons.Agreement → ⊥) → KnowsItsFields app link.host
   knows_its showing later =
       let wanted = (showing.0 later).wanted_for in
       record {
@@ -273,17 +273,17 @@ module _ (given : LowerLaws) (app : Application) (is : IsApplication app) (link 
       let same : false ≡ keep = ap keeps_by both in
       absurd (let wrong : false ≡ true = same ∙ keeps in cc)
 
-  paints : (lu : List ℕ) (panel : ℕ) (message : Message) (keep : Bool) (values : Values) → IfRelies link.host.unheard (NothingIsOpen link.host.shadow) → IsAt (view_of link) k.wanted (LinkPhase.Serves lu Serving.Deciding)
+  paints : (lu : List ℕ) (panel : ℕ) (message : Message) (keep : Bool) (values : Values) → IfRelies link.host.unheard (NothingIsOpen link.host.shadow) → IsAt (view_of link) k.wanted (LinkPhase.InSession lu SessionPhase.Deciding)
       → Decides (local_state_of (view_of link)) link.host.shadow
-      → IsDecided app link.host (Act.Show panel message keep values) → (keep ≡ true → KnowsItsFields app link.host) → Kept app (view_of (sent_view (done app link.host (Act.Show panel message keep values)) link))
+      → IsDecided app link.host (Act.Show panel message keep values) → (keep ≡ true → KnowsItsFields app link.host) → ConnectionInvariant app (view_of (sent_view (done app link.host (Act.Show panel message keep values)) link))
   paints lu panel message keep values closed at f choice knows =
       let sending : SentValue = shown app link.host panel message keep values in
       let conn : Session = when_shown link.host in
       let wants : WantedScreen = wants_of app conn panel message keep values in
       let same : Sends link sending = sends_shown panel message keep values in
-      let to : LinkPhase = LinkPhase.Serves lu (Serving.Painting link.host.next_seq (command_of app conn panel message keep values) wants conn.shadow) in
+      let to : LinkPhase = LinkPhase.InSession lu (SessionPhase.Painting link.host.next_seq (command_of app conn panel message keep values) wants conn.shadow) in
       kept_sent app link sending k to same (size_shown given app is link k lu panel message keep values at.host_talk) (λ steady. absurd (cc))
-      (sent_at link sending k.wanted (LinkPhase.Serves lu Serving.Deciding) to same at (λ talk is. is) (λ is. is) refl refl refl refl)
+      (sent_at link sending k.wanted (LinkPhase.InSession lu SessionPhase.Deciding) to same at (λ talk is. is) (λ is. is) refl refl refl refl)
       (record {
         lock = f.lock;
         over_is = refl;
@@ -295,19 +295,19 @@ module _ (given : LowerLaws) (app : Application) (is : IsApplication app) (link 
       })
       (wants_its app link.term.waits link.host link.term.display.screen panel message keep values choice knows f.sees.meets)
 
-  asks : (lu : List ℕ) → link.term.display.size ≡ link.host.size → (link.term.display.screen.aid ≡ ClearAid → ⊥) → IsAt (view_of link) k.wanted (LinkPhase.Serves lu Serving.Deciding) → Decides (local_state_of (view_of link)) link.host.shadow
-      → ShownIn app link.term.waits link.host link.term.display.before_restored link.term.display.last_restored link.term.display.screen Serving.Deciding → Kept app (view_of (sent_view (done app link.host Act.Read) link))
+  asks : (lu : List ℕ) → link.term.display.size ≡ link.host.size → (link.term.display.screen.aid ≡ ClearAid → ⊥) → IsAt (view_of link) k.wanted (LinkPhase.InSession lu SessionPhase.Deciding) → Decides (local_state_of (view_of link)) link.host.shadow
+      → ShownIn app link.term.waits link.host link.term.display.before_restored link.term.display.last_restored link.term.display.screen SessionPhase.Deciding → ConnectionInvariant app (view_of (sent_view (done app link.host Act.Read) link))
   asks lu steady not_cleared at f showing =
       let sending : SentValue = done app link.host Act.Read in
       let same : Sends link sending = record { talk = refl; exact = k.exact } in
-      let to : LinkPhase = LinkPhase.Serves lu (Serving.Reading link.host.next_seq) in
+      let to : LinkPhase = LinkPhase.InSession lu (SessionPhase.Reading link.host.next_seq) in
       kept_sent app link sending k to same k.sizes.host (λ s. steady)
-      (sent_at link sending k.wanted (LinkPhase.Serves lu Serving.Deciding) to same at (λ talk is. is) (λ is. is) at.turn refl refl refl)
+      (sent_at link sending k.wanted (LinkPhase.InSession lu SessionPhase.Deciding) to same at (λ talk is. is) (λ is. is) at.turn refl refl refl)
       (record { decides = f; not_cleared = not_cleared })
       showing.0
 
-  acts_at : (lu : List ℕ) (decision : Decision) → link.term.display.size ≡ link.host.size → decision_on app link.host link.host.turn_reason ≡ decision → IsAt (view_of link) k.wanted (LinkPhase.Serves lu Serving.Deciding)
-      → Decides (local_state_of (view_of link)) link.host.shadow → ShownIn app link.term.waits link.host link.term.display.before_restored link.term.display.last_restored link.term.display.screen Serving.Deciding → Kept app (view_of (host_sent (decided app link.host decision) link))
+  acts_at : (lu : List ℕ) (decision : Decision) → link.term.display.size ≡ link.host.size → decision_on app link.host link.host.turn_reason ≡ decision → IsAt (view_of link) k.wanted (LinkPhase.InSession lu SessionPhase.Deciding)
+      → Decides (local_state_of (view_of link)) link.host.shadow → ShownIn app link.term.waits link.host link.term.display.before_restored link.term.display.last_restored link.term.display.screen SessionPhase.Deciding → ConnectionInvariant app (view_of (host_sent (decided app link.host decision) link))
   acts_at lu (Decision.Do Act.Read) steady e at f showing =
       asks lu steady (reads_uncleared app link.host link.host.turn_reason link.term.display.screen.aid f.turn_reason e) at f showing
   acts_at lu (Decision.Do (Act.Show panel message keep values)) steady e at f showing =
@@ -316,16 +316,16 @@ module _ (given : LowerLaws) (app : Application) (is : IsApplication app) (link 
   acts_at lu Decision.Asks steady e at f showing = k
 
   -- at agreement the first panel is shown
-  acts_new : (lu : List ℕ) → IsAt (view_of link) k.wanted (LinkPhase.Talks (Talking.Agreeing lu)) → IsNew (local_state_of (view_of link))
-      → Kept app (view_of (host_sent (decided app link.host (decision_on app link.host link.host.turn_reason)) link))
+  acts_new : (lu : List ℕ) → IsAt (view_of link) k.wanted (LinkPhase.Negotiating (NegotiationPhase.Agreeing lu)) → IsNew (local_state_of (view_of link))
+      → ConnectionInvariant app (view_of (host_sent (decided app link.host (decision_on app link.host link.host.turn_reason)) link))
   acts_new lu at n =
-      subst (λ o. Kept app (view_of (host_sent (decided app link.host (decision_on app link.host o)) link))) (sym n.turn_reason)
+      subst (λ o. ConnectionInvariant app (view_of (host_sent (decided app link.host (decision_on app link.host o)) link))) (sym n.turn_reason)
       (paints_first lu app.start Fresh false link.host.values at n (IsDecided.by_host (ap (λ (o : TurnReason). decision_on app link.host o) n.turn_reason)) (λ keeps. absurd (cc)))
 
   -- what is answered is shown
-  answers_at : (lu : List ℕ) (said : ApplicationAnswer) (panel : Option ℕ) → said.panel ≡ panel → is_ask (decision_on app link.host link.host.turn_reason) ≡ true → IsAt (view_of link) k.wanted (LinkPhase.Serves lu Serving.Deciding)
-      → Decides (local_state_of (view_of link)) link.host.shadow → ShownIn app link.term.waits link.host link.term.display.before_restored link.term.display.last_restored link.term.display.screen Serving.Deciding
-      → Kept app (view_of (sent_view (done app link.host (act_by app link.host said panel)) link))
+  answers_at : (lu : List ℕ) (said : ApplicationAnswer) (panel : Option ℕ) → said.panel ≡ panel → is_ask (decision_on app link.host link.host.turn_reason) ≡ true → IsAt (view_of link) k.wanted (LinkPhase.InSession lu SessionPhase.Deciding)
+      → Decides (local_state_of (view_of link)) link.host.shadow → ShownIn app link.term.waits link.host link.term.display.before_restored link.term.display.last_restored link.term.display.screen SessionPhase.Deciding
+      → ConnectionInvariant app (view_of (sent_view (done app link.host (act_by app link.host said panel)) link))
   answers_at lu said panel is_panel is_asked at f showing = by_panel panel is_panel
     where
       closed : IfRelies link.host.unheard (NothingIsOpen link.host.shadow)
@@ -334,7 +334,7 @@ module _ (given : LowerLaws) (app : Application) (is : IsApplication app) (link 
       choice : (panel : Option ℕ) → said.panel ≡ panel → IsDecided app link.host (act_by app link.host said panel)
       choice panel is_panel = IsDecided.by_application said is_asked (ap (λ (p : Option ℕ). act_by app link.host said p) (sym is_panel))
 
-      by_panel : (panel : Option ℕ) → said.panel ≡ panel → Kept app (view_of (sent_view (done app link.host (act_by app link.host said panel)) link))
+      by_panel : (panel : Option ℕ) → said.panel ≡ panel → ConnectionInvariant app (view_of (sent_view (done app link.host (act_by app link.host said panel)) link))
       by_panel None is_panel =
           paints lu link.host.panel (Told said.message said.cursor) (not (has_value_of (app.fields link.host.panel) said.values)) (values_for app link.host said None) closed at f (choice None is_panel)
           (λ keeps. knows_its showing (λ agreement. agreed_unasked app link.host agreement is_asked))
@@ -343,45 +343,45 @@ module _ (given : LowerLaws) (app : Application) (is : IsApplication app) (link 
 
   -- The host may act at two moments alone: at agreement, and when it decides on a key.
   data MayAct : Type 0 where
-    agreeing : (lu : List ℕ) → IsAt (view_of link) k.wanted (LinkPhase.Talks (Talking.Agreeing lu)) → IsNew (local_state_of (view_of link)) → MayAct
-    deciding : (lu : List ℕ) → Sizes app (view_of link) (LinkPhase.Serves lu Serving.Deciding) → IsAt (view_of link) k.wanted (LinkPhase.Serves lu Serving.Deciding)
-        → Decides (local_state_of (view_of link)) link.host.shadow → ShownIn app link.term.waits link.host link.term.display.before_restored link.term.display.last_restored link.term.display.screen Serving.Deciding → MayAct
+    agreeing : (lu : List ℕ) → IsAt (view_of link) k.wanted (LinkPhase.Negotiating (NegotiationPhase.Agreeing lu)) → IsNew (local_state_of (view_of link)) → MayAct
+    deciding : (lu : List ℕ) → Sizes app (view_of link) (LinkPhase.InSession lu SessionPhase.Deciding) → IsAt (view_of link) k.wanted (LinkPhase.InSession lu SessionPhase.Deciding)
+        → Decides (local_state_of (view_of link)) link.host.shadow → ShownIn app link.term.waits link.host link.term.display.before_restored link.term.display.last_restored link.term.display.screen SessionPhase.Deciding → MayAct
 
   may_act_at : link.host.turn ≡ whose.Host → link.host.pending ≡ Pending.Nothing → is_agreed link.host.talk.state ≡ true → MayAct
   may_act_at turns pends agrees = by_moment k.moment k.sizes k.at k.fact k.shown
     where
-      by_talk : (talking : Talking) → IsAt (view_of link) k.wanted (LinkPhase.Talks talking) → IsNew (local_state_of (view_of link)) → (lu : List ℕ) × (talking ≡ Talking.Agreeing lu) → MayAct
-      by_talk talking at n is = MayAct.agreeing is.0 (subst (λ (t : Talking). IsAt (view_of link) k.wanted (LinkPhase.Talks t)) is.1 at) n
+      by_talk : (talking : NegotiationPhase) → IsAt (view_of link) k.wanted (LinkPhase.Negotiating talking) → IsNew (local_state_of (view_of link)) → (lu : List ℕ) × (talking ≡ NegotiationPhase.Agreeing lu) → MayAct
+      by_talk talking at n is = MayAct.agreeing is.0 (subst (λ (t : NegotiationPhase). IsAt (view_of link) k.wanted (LinkPhase.Negotiating t)) is.1 at) n
 
-      by_serving : (lu : List ℕ) (serving : Serving) → Sizes app (view_of link) (LinkPhase.Serves lu serving) → IsAt (view_of link) k.wanted (LinkPhase.Serves lu serving) → Fact k.wanted (local_state_of (view_of link)) (LinkPhase.Serves lu serving)
-          → ShownIn app link.term.waits link.host link.term.display.before_restored link.term.display.last_restored link.term.display.screen serving → turn_at (LinkPhase.Serves lu serving) ≡ whose.Host
-          → pending_at (LinkPhase.Serves lu serving) ≡ Pending.Nothing → MayAct
-      by_serving lu Serving.Deciding s at f showing t p = MayAct.deciding lu s at f showing
-      by_serving lu (Serving.Reading number) s at f showing t p = absurd (cc)
-      by_serving lu (Serving.Reported number parts) s at f showing t p = absurd (cc)
-      by_serving lu (Serving.NotedLate number command) s at f showing t p = absurd (cc)
-      by_serving lu (Serving.AnsweredLate number command) s at f showing t p = absurd (cc)
-      by_serving lu (Serving.Painting number command wants over) s at f showing t p = absurd (cc)
-      by_serving lu (Serving.Answering kind number command) s at f showing t p = absurd (cc)
-      by_serving lu Serving.Operating s at f showing t p = absurd (cc)
-      by_serving lu (Serving.Noting number command) s at f showing t p = absurd (cc)
-      by_serving lu (Serving.KeyAlone parts) s at f showing t p = absurd (cc)
-      by_serving lu (Serving.KeyBehind kind number command parts) s at f showing t p = absurd (cc)
-      by_serving lu (Serving.KeyNoted number command parts) s at f showing t p = absurd (cc)
-      by_serving lu (Serving.KeyBefore number command parts) s at f showing t p = absurd (cc)
+      by_serving : (lu : List ℕ) (serving : SessionPhase) → Sizes app (view_of link) (LinkPhase.InSession lu serving) → IsAt (view_of link) k.wanted (LinkPhase.InSession lu serving) → Fact k.wanted (local_state_of (view_of link)) (LinkPhase.InSession lu serving)
+          → ShownIn app link.term.waits link.host link.term.display.before_restored link.term.display.last_restored link.term.display.screen serving → turn_at (LinkPhase.InSession lu serving) ≡ whose.Host
+          → pending_at (LinkPhase.InSession lu serving) ≡ Pending.Nothing → MayAct
+      by_serving lu SessionPhase.Deciding s at f showing t p = MayAct.deciding lu s at f showing
+      by_serving lu (SessionPhase.Reading number) s at f showing t p = absurd (cc)
+      by_serving lu (SessionPhase.BufferReturning number parts) s at f showing t p = absurd (cc)
+      by_serving lu (SessionPhase.DecidingNoteSent number command) s at f showing t p = absurd (cc)
+      by_serving lu (SessionPhase.DecidingNoteAnswered number command) s at f showing t p = absurd (cc)
+      by_serving lu (SessionPhase.Painting number command wants over) s at f showing t p = absurd (cc)
+      by_serving lu (SessionPhase.AwaitingWriteResponse kind number command) s at f showing t p = absurd (cc)
+      by_serving lu SessionPhase.OperatorTyping s at f showing t p = absurd (cc)
+      by_serving lu (SessionPhase.Noting number command) s at f showing t p = absurd (cc)
+      by_serving lu (SessionPhase.KeySent parts) s at f showing t p = absurd (cc)
+      by_serving lu (SessionPhase.KeySentAfterResponse kind number command parts) s at f showing t p = absurd (cc)
+      by_serving lu (SessionPhase.KeyCrossingNote number command parts) s at f showing t p = absurd (cc)
+      by_serving lu (SessionPhase.KeyBeforeNoteResponse number command parts) s at f showing t p = absurd (cc)
 
       by_moment : (moment : LinkPhase) → Sizes app (view_of link) moment → IsAt (view_of link) k.wanted moment → Fact k.wanted (local_state_of (view_of link)) moment
           → ShownAt app link.term.waits link.host link.term.display.before_restored link.term.display.last_restored link.term.display.screen moment → MayAct
-      by_moment (LinkPhase.Talks talking) s at f showing = by_talk talking at f.0 (agreed_there link.term.display.model talking link.host.talk at.host_talk agrees)
-      by_moment (LinkPhase.Begins lu number command wants over) s at f showing = let t = sym at.turn ∙ turns in absurd (cc)
-      by_moment (LinkPhase.Serves lu serving) s at f showing = by_serving lu serving s at f showing (sym at.turn ∙ turns) (sym at.pending ∙ pends)
+      by_moment (LinkPhase.Negotiating talking) s at f showing = by_talk talking at f.0 (agreed_there link.term.display.model talking link.host.talk at.host_talk agrees)
+      by_moment (LinkPhase.FirstPaint lu number command wants over) s at f showing = let t = sym at.turn ∙ turns in absurd (cc)
+      by_moment (LinkPhase.InSession lu serving) s at f showing = by_serving lu serving s at f showing (sym at.turn ∙ turns) (sym at.pending ∙ pends)
 
-  acts_then : MayAct → Kept app (view_of (host_sent (decided app link.host (decision_on app link.host link.host.turn_reason)) link))
+  acts_then : MayAct → ConnectionInvariant app (view_of (host_sent (decided app link.host (decision_on app link.host link.host.turn_reason)) link))
   acts_then (MayAct.agreeing lu at n) = acts_new lu at n
   acts_then (MayAct.deciding lu s at f showing) = acts_at lu (decision_on app link.host link.host.turn_reason) (s.same refl) refl at f showing
 
   acts_by : (turn : Turn) (pending : Pending) (agreed : Bool) → link.host.turn ≡ turn → link.host.pending ≡ pending → is_agreed link.host.talk.state ≡ agreed
-      → Kept app (view_of (host_sent (option_and_then (decided app link.host) (if may_act turn pending agreed then Some (decision_on app link.host link.host.turn_reason) else None)) link))
+      → ConnectionInvariant app (view_of (host_sent (option_and_then (decided app link.host) (if may_act turn pending agreed then Some (decision_on app link.host link.host.turn_reason) else None)) link))
   acts_by whose.Host Pending.Nothing true turns pends agrees = acts_then (may_act_at turns pends agrees)
   acts_by whose.Host Pending.Nothing false turns pends agrees = k
   acts_by whose.Host (Pending.Writing number command) agreed turns pends agrees = k
@@ -390,15 +390,15 @@ module _ (given : LowerLaws) (app : Application) (is : IsApplication app) (link 
   acts_by whose.Terminal pending agreed turns pends agrees = k
 
   -- the host acts, if it may
-  pub acts : Kept app (view_of (host_sent (acted app link.host) link))
+  pub acts : ConnectionInvariant app (view_of (host_sent (acted app link.host) link))
   acts = acts_by link.host.turn link.host.pending (is_agreed link.host.talk.state) refl refl refl
 
   -- ---- a question is open
 
   -- the host decides, and asks
   abbrev pub Asks : Type 0
-  Asks = (lu : List ℕ) × IsAt (view_of link) k.wanted (LinkPhase.Serves lu Serving.Deciding) × Decides (local_state_of (view_of link)) link.host.shadow
-      × (is_ask (decision_on app link.host link.host.turn_reason) ≡ true) × ShownIn app link.term.waits link.host link.term.display.before_restored link.term.display.last_restored link.term.display.screen Serving.Deciding
+  Asks = (lu : List ℕ) × IsAt (view_of link) k.wanted (LinkPhase.InSession lu SessionPhase.Deciding) × Decides (local_state_of (view_of link)) link.host.shadow
+      × (is_ask (decision_on app link.host link.host.turn_reason) ≡ true) × ShownIn app link.term.waits link.host link.term.display.before_restored link.term.display.last_restored link.term.display.screen SessionPhase.Deciding
 
   asks_then : is_ask (decision_on app link.host link.host.turn_reason) ≡ true → MayAct → Asks
   asks_then is_asked (MayAct.agreeing lu at n) = absurd (agreed_unasked app link.host n.turn_reason is_asked)
@@ -412,11 +412,11 @@ module _ (given : LowerLaws) (app : Application) (is : IsApplication app) (link 
       asks_then asks.1 (may_act_at when.0 when.1 when.2)
 
   -- what the application answers is shown, if a question is open
-  pub answers_are_shown : (said : ApplicationAnswer) → Kept app (view_of (host_sent (answered_on app link.host said) link))
+  pub answers_are_shown : (said : ApplicationAnswer) → ConnectionInvariant app (view_of (host_sent (answered_on app link.host said) link))
   answers_are_shown said = by_open (is_asking app link.host) refl (has_its_panel app said)
     where
       by_open : (asked : Bool) → is_asking app link.host ≡ asked → (has : Bool)
-          → Kept app (view_of (host_sent (if asked && has then Some (done app link.host (act_by app link.host said said.panel)) else None) link))
+          → ConnectionInvariant app (view_of (host_sent (if asked && has then Some (done app link.host (act_by app link.host said said.panel)) else None) link))
       by_open true open_now true =
           let asks = asks_deciding open_now in
           answers_at asks.0 said said.panel refl asks.3 asks.1 asks.2 asks.4
@@ -438,7 +438,7 @@ lost_at v wanted moment at = record {
   goes_up = still v.lost v.up (up_at v.model wanted moment) at.goes_up;
 }
 
-pub loses : (app : Application) (v : View) → Kept app v → Kept app (record v { lost = true })
+pub loses : (app : Application) (v : View) → ConnectionInvariant app v → ConnectionInvariant app (record v { lost = true })
 loses app v k = record {
   whole = k.whole;
   cursor = k.cursor;

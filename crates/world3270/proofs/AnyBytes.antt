@@ -10,11 +10,11 @@ use Rattle.host_core.specs.KeepAlive.{kept_alive}
 use Rattle.host_core.specs.Notes.{noted}
 use Rattle.host_core.specs.Questions.{answered_by, answered_in, answered_on, is_ticket, ticket_of}
 use Rattle.host_core.specs.Session.{Session}
-use Rattle.host_core.specs.State.{Connection, Service, connection_at, most_connections, service_at, session_at}
+use Rattle.host_core.specs.State.{Connection, Service, connection_at, most_connections, state_at, session_at}
 use Rattle.host_core.specs.declared.acted.Acted.{Acted}
 use Rattle.host_core.specs.declared.question.Answer.{Answer as ApplicationAnswer}
 use Rattle.host_core.specs.declared.question.Ticket.{Ticket}
-use Rattle.world3270.specs.statement.EveryTerminal.{Move, ReportedLink, after_moves}
+use Rattle.world3270.specs.statement.EveryTerminal.{Move, LinkWithReport, after_moves}
 use Rattle.world3270.specs.statement.EveryTerminalBytes.{AreMoves, AreMovesOf, IsHost, LeadTo, Moves, OverBytes, Represents, if_sent, on_connection, with_host}
 use Rattle.world3270.specs.refinement.Representation.{conn_of}
 use Rattle.world3270.proofs.Answered.{IsDone, by_act, by_answer}
@@ -39,19 +39,19 @@ answered_here app session ticket said (Service.Open rest held) conn is same = ap
 answered_here app session ticket said (Service.Closed cause) conn is same = absurd is
 
 -- a move, over messages, and the pool that it leaves
-record GoesWith (app : Application) (Good : ReportedLink → Type 0) (number : ℕ) (old new : OverBytes) (t : ReportedLink) (move : Moves app number old new) : Type 0 where
+record GoesWith (app : Application) (Good : LinkWithReport → Type 0) (number : ℕ) (old new : OverBytes) (t : LinkWithReport) (move : Moves app number old new) : Type 0 where
   goes : Goes app Good number new t
   are : AreMovesOf move goes.moves
   pool : IsSoundPool new.host.pool
 
 -- moves, one after another
-pub record GoesThrough (app : Application) (Good : ReportedLink → Type 0) (number : ℕ) (states : List OverBytes) (old new : OverBytes) (t : ReportedLink) (lead : LeadTo app number states old new) : Type 0 where
+pub record GoesThrough (app : Application) (Good : LinkWithReport → Type 0) (number : ℕ) (states : List OverBytes) (old new : OverBytes) (t : LinkWithReport) (lead : LeadTo app number states old new) : Type 0 where
   pub goes : Goes app Good number new t
   pub are : AreMoves app number states old new lead goes.moves
 
-module _ (takes : TakesLaws) (hears : HearsLaws) (app : Application) (Good : ReportedLink → Type 0) (kept : IsKept app Good) (number : ℕ) where
+module _ (takes : TakesLaws) (hears : HearsLaws) (app : Application) (Good : LinkWithReport → Type 0) (kept : IsKept app Good) (number : ℕ) where
   -- an answer to another question isn't taken
-  answer_goes : (old : OverBytes) (t : ReportedLink) (good : Good t) (is : Represents number old t) (served : IsServed number old.host) (said : ApplicationAnswer) (did : Acted) (connection : Connection) (taken : Bool) → AreTexts said.values
+  answer_goes : (old : OverBytes) (t : LinkWithReport) (good : Good t) (is : Represents number old t) (served : IsServed number old.host) (said : ApplicationAnswer) (did : Acted) (connection : Connection) (taken : Bool) → AreTexts said.values
       → IsDone (if taken then answered_on app t.link.host said else None) (connection_at number old.host) did connection → GoesBy app Good number (on_connection number connection old) t (if_sent did (Move.Answer said))
   answer_goes old t good is served said did connection true texts done =
       does_goes hears app Good kept number old t good is served (Move.Answer said) (answered_on app t.link.host said) did connection refl tt texts ((kept.ready t good).answers said texts) done
@@ -59,7 +59,7 @@ module _ (takes : TakesLaws) (hears : HearsLaws) (app : Application) (Good : Rep
       let none = unchanged hears app Good kept number old t good is served connection done.1 in
       record { goes = none.goes; are = none.are ∙ ap (λ (d : Acted). if_sent d (Move.Answer said)) (sym done.0) }
 
-  one_move : (old new : OverBytes) (t : ReportedLink) → Good t → Represents number old t → IsServed number old.host → (move : Moves app number old new) → GoesWith app Good number old new t move
+  one_move : (old new : OverBytes) (t : LinkWithReport) → Good t → Represents number old t → IsServed number old.host → (move : Moves app number old new) → GoesWith app Good number old new t move
   one_move old new t good is served (Moves.feeds bytes behind fed counter queue feeds same) =
       let front : List ℕ = take fed.taken bytes in
       let others : List ℕ = drop fed.taken bytes ++ behind in
@@ -78,9 +78,9 @@ module _ (takes : TakesLaws) (hears : HearsLaws) (app : Application) (Good : Rep
         pool = subst (λ (b : OverBytes). IsSoundPool b.host.pool) (sym same) served.pool;
       }
   one_move old new t good is served (Moves.acts did connection does same) =
-      let what = acted_here app (service_at number old.host) t.link.host is.is_open (conn_there hears app Good kept number old t good is served) in
+      let what = acted_here app (state_at number old.host) t.link.host is.is_open (conn_there hears app Good kept number old t good is served) in
       let done = subst (λ (w : Option Sent). IsDone w (connection_at number old.host) did connection) what
-      (by_act (acted_by app (service_at number old.host)) (connection_at number old.host) did connection does) in
+      (by_act (acted_by app (state_at number old.host)) (connection_at number old.host) did connection does) in
       let goes = does_goes hears app Good kept number old t good is served Move.Act (acted app t.link.host) did connection refl tt tt (kept.ready t good).acts done in
       record {
         goes = goes_as app Good number (on_connection number connection old) new t same goes.goes;
@@ -89,9 +89,9 @@ module _ (takes : TakesLaws) (hears : HearsLaws) (app : Application) (Good : Rep
       }
   one_move old new t good is served (Moves.answers ticket said did connection texts does same) =
       let session : ℕ = session_at number old.host in
-      let what = answered_here app session ticket said (service_at number old.host) t.link.host is.is_open (conn_there hears app Good kept number old t good is served) in
+      let what = answered_here app session ticket said (state_at number old.host) t.link.host is.is_open (conn_there hears app Good kept number old t good is served) in
       let done = subst (λ (w : Option Sent). IsDone w (connection_at number old.host) did connection) what
-      (by_answer app said (answered_by app session ticket said (service_at number old.host)) (connection_at number old.host) did connection does) in
+      (by_answer app said (answered_by app session ticket said (state_at number old.host)) (connection_at number old.host) did connection does) in
       let goes = answer_goes old t good is served said did connection (is_ticket ticket (ticket_of session t.link.host)) texts done in
       record {
         goes = goes_as app Good number (on_connection number connection old) new t same goes.goes;
@@ -99,9 +99,9 @@ module _ (takes : TakesLaws) (hears : HearsLaws) (app : Application) (Good : Rep
         pool = subst (λ (b : OverBytes). IsSoundPool b.host.pool) (sym same) served.pool;
       }
   one_move old new t good is served (Moves.notes text did connection is_text does same) =
-      let what = noted_here text (service_at number old.host) t.link.host is.is_open (conn_there hears app Good kept number old t good is served) in
+      let what = noted_here text (state_at number old.host) t.link.host is.is_open (conn_there hears app Good kept number old t good is served) in
       let done = subst (λ (w : Option Sent). IsDone w (connection_at number old.host) did connection) what
-      (by_act (noted_by text (service_at number old.host)) (connection_at number old.host) did connection does) in
+      (by_act (noted_by text (state_at number old.host)) (connection_at number old.host) did connection does) in
       let goes = does_goes hears app Good kept number old t good is served (Move.Note text) (noted text t.link.host) did connection refl is_text tt ((kept.ready t good).notes text is_text) done in
       record {
         goes = goes_as app Good number (on_connection number connection old) new t same goes.goes;
@@ -137,7 +137,7 @@ module _ (takes : TakesLaws) (hears : HearsLaws) (app : Application) (Good : Rep
       }
 
   -- The bytes represent the connection over messages after moves that keep the rules, whatever led to them.
-  pub all_moves : (states : List OverBytes) (old new : OverBytes) (t : ReportedLink) → number < most_connections → Good t → Represents number old t → IsServed number old.host
+  pub all_moves : (states : List OverBytes) (old new : OverBytes) (t : LinkWithReport) → number < most_connections → Good t → Represents number old t → IsServed number old.host
       → (lead : LeadTo app number states old new) → GoesThrough app Good number states old new t lead
   all_moves [] old new t below good is served same =
       record { goes = stays app Good number new t good (subst (λ (b : OverBytes). Represents number b t) (sym same) is); are = refl }

@@ -7,22 +7,22 @@ use Rattle.datastream.specs.InboundFields.{IsSendable, SentIsRead}
 use Rattle.host_core.specs.Application.{Application, AreTexts, WantsProperScreens, IsApplication}
 use Rattle.host_core.specs.Messages.{ToHost, ToTerminal}
 use Rattle.host_core.specs.Session.{Session, agreed_lu, is_agreed}
-use Rattle.host_core.specs.State.{Service, lu_of, service_at}
+use Rattle.host_core.specs.State.{Service, lu_of, state_at}
 use Rattle.host_core.specs.Feeds.{IsOpen}
 use Rattle.panels.specs.Characters.{AreCharacters}
 use Rattle.shadow.specs.PaintedFields.{KeptStaysThere, WrittenIsThere}
 use Rattle.telnet_wire.specs.Laws.{ItemsAreRead}
 use Rattle.tn3270e_msg.specs.Device.{model_of}
 use Rattle.tn3270e_msg.specs.HostTable.{granted}
-use Rattle.tn3270e_msg.specs.Talk.{Saying}
+use Rattle.tn3270e_msg.specs.Talk.{NegotiationMessage}
 use Rattle.tn3270e_msg.specs.declared.host_talk.HostState.{HostState}
 use Rattle.tn3270e_msg.specs.declared.host_talk.HostState.TheVariants.{Offered, Asked, Asking, Named, Countered, Agreed, Closed}
 use Rattle.tn3270e_msg.specs.declared.reply.OwnedMessage.TheVariants.{FunIs}
-use Rattle.world3270.specs.statement.EveryTerminal.{Begins, IsByTheRules, Move, ReportedLink, moved}
+use Rattle.world3270.specs.statement.EveryTerminal.{FirstPaint, IsByTheRules, Move, LinkWithReport, moved}
 use Rattle.world3270.specs.statement.EveryTerminalBytes.{BeginsOverBytes, LeadTo, OverBytes, RightOverBytes}
 use Rattle.world3270.specs.refinement.LowerLaws.{LowerLaws}
 use Rattle.world3270.specs.refinement.MessageLaws.{MessageLaws}
-use Rattle.world3270.specs.refinement.Readings.{IsReadAs, MayComeUp}
+use Rattle.world3270.specs.refinement.Readings.{IsReadAs, MayBeSent}
 use Rattle.world3270.specs.statement.Rules.{Binds}
 use Rattle.world3270.specs.refinement.Representation.{conn_of}
 use Rattle.world3270.specs.refinement.Represents.{RepresentsDown, without_commands, without_nops}
@@ -32,7 +32,7 @@ use Rattle.world3270.specs.model.Terminal.{Display}
 use Rattle.world3270.proofs.AnyBytes.{all_moves, last_host}
 use Rattle.world3270.proofs.AnyHost.{HearsLaws}
 use Rattle.world3270.proofs.AnyReady.{all_may_now, hears_now, same_now}
-use Rattle.world3270.proofs.AnySpelt.{IsTexts, acts_spelt, answers_spelt, move_texts, notes_spelt}
+use Rattle.world3270.proofs.AnySpelt.{HasSendableContent, acts_encodable, answers_spelt, move_texts, notes_spelt}
 use Rattle.world3270.proofs.AnyTerminal.{IsKept, IsWellFormedMove, Ready, TakesLaws}
 use Rattle.world3270.proofs.EveryTerminal.{begins_simulated, move_still, right_of}
 use Rattle.world3270.proofs.Numbers.{Numbered}
@@ -45,10 +45,10 @@ use Rattle.world3270.proofs.RepresentsLinks.{host_sends, nop_stands, up_stands}
 
 -- Some property of what comes up holds at agreement; all typed moves that keep the rules keep it; and by it what comes up
 -- next may come.
-pub record QueueIsKept (app : Application) (lu : List ℕ) (Queued : ReportedLink → Type 0) : Type 0 where
-  pub begins : (t : ReportedLink) → Begins app lu t → t.link.lost ≡ false → Queued t
-  pub goes_on : (move : Move) (t : ReportedLink) → Simulated app lu t → IsTexts t → Queued t → IsByTheRules move t → IsWellFormedMove move → Queued (moved app move t)
-  pub comes_up : (t : ReportedLink) → Simulated app lu t → IsTexts t → Queued t → (message : ToHost) (others : List ToHost) → t.link.up ≡ message ∷ others → MayComeUp t.link.host message
+pub record QueueIsKept (app : Application) (lu : List ℕ) (Queued : LinkWithReport → Type 0) : Type 0 where
+  pub begins : (t : LinkWithReport) → FirstPaint app lu t → t.link.lost ≡ false → Queued t
+  pub goes_on : (move : Move) (t : LinkWithReport) → Simulated app lu t → HasSendableContent t → Queued t → IsByTheRules move t → IsWellFormedMove move → Queued (moved app move t)
+  pub comes_up : (t : LinkWithReport) → Simulated app lu t → HasSendableContent t → Queued t → (message : ToHost) (others : List ToHost) → t.link.up ≡ message ∷ others → MayBeSent t.link.host message
 
 pub record AnyLaws : Type 0 where
   pub given : LowerLaws
@@ -92,12 +92,12 @@ any_laws known takes keeps nop marks taken compose items read written kept = rec
 
 -- ---- at agreement
 
-nothing_written : (lu : List ℕ) (t : ReportedLink) → Binds lu t.link.term.talk.talk.state t.link.down → All HasProperScreen t.link.down
+nothing_written : (lu : List ℕ) (t : LinkWithReport) → Binds lu t.link.term.talk.talk.state t.link.down → All HasProperScreen t.link.down
 nothing_written lu t (Binds.bound state down) = subst (All HasProperScreen) (sym down) (All-nil HasProperScreen)
 nothing_written lu t (Binds.about_to state down) =
-    subst (All HasProperScreen) (sym down) (All-cons HasProperScreen (ToTerminal.TalksDown (Saying.Sub FunIs)) [] tt (All-nil HasProperScreen))
+    subst (All HasProperScreen) (sym down) (All-cons HasProperScreen (ToTerminal.TalksDown (NegotiationMessage.Sub FunIs)) [] tt (All-nil HasProperScreen))
 
-begins_texts : (app : Application) → IsApplication app → (lu : List ℕ) (t : ReportedLink) → Begins app lu t → IsTexts t
+begins_texts : (app : Application) → IsApplication app → (lu : List ℕ) (t : LinkWithReport) → FirstPaint app lu t → HasSendableContent t
 begins_texts app is lu t b =
     let blank : IsSendable t.link.term.display.screen = subst (λ (d : Display). IsSendable d.screen) (sym b.blank) (blank_sendable (model_of b.device) app.begins is.begins) in
     record {
@@ -126,13 +126,13 @@ lu_there (Service.Closed cause) conn lu is same agreed = absurd is
 
 -- ---- the theorem
 
-module _ (laws : AnyLaws) (app : Application) (is : IsApplication app) (asks : WantsProperScreens app) (sizes : HasTheSizes app) (lu : List ℕ) (Queued : ReportedLink → Type 0) (queue : QueueIsKept app lu Queued) where
-  record Good (t : ReportedLink) : Type 0 where
+module _ (laws : AnyLaws) (app : Application) (is : IsApplication app) (asks : WantsProperScreens app) (sizes : HasTheSizes app) (lu : List ℕ) (Queued : LinkWithReport → Type 0) (queue : QueueIsKept app lu Queued) where
+  record Good (t : LinkWithReport) : Type 0 where
     simulated : Simulated app lu t
-    texts : IsTexts t
+    texts : HasSendableContent t
     queued : Queued t
 
-  ready : (t : ReportedLink) → Good t → Ready app t
+  ready : (t : LinkWithReport) → Good t → Ready app t
   ready t good =
       let given = laws.given in
       let may = all_may_now given app is sizes lu t.link.down t good.simulated refl in
@@ -145,7 +145,7 @@ module _ (laws : AnyLaws) (app : Application) (is : IsApplication app) (asks : W
         agreed = ap (λ (c : Session). is_agreed c.talk.state) good.simulated.simulates.host ∙ agrees_now good.simulated;
         comes_up = queue.comes_up t good.simulated good.texts good.queued;
         hears = hears_now given app is sizes lu t good.simulated;
-        acts = acts_spelt paint bounded given app is asks sizes lu t good.simulated good.texts;
+        acts = acts_encodable paint bounded given app is asks sizes lu t good.simulated good.texts;
         answers = answers_spelt paint bounded given app is asks sizes lu t good.simulated good.texts;
         notes = notes_spelt paint bounded given app is asks sizes lu t good.simulated good.texts;
       }
@@ -181,5 +181,5 @@ module _ (laws : AnyLaws) (app : Application) (is : IsApplication app) (asks : W
         represents = here;
         right = right;
         alone = λ other shares. (last_host app number states old new b.is_host lead).unshared other number lu shares
-            (lu_there (service_at number new.host) _ lu here.is_open same right.granted);
+            (lu_there (state_at number new.host) _ lu here.is_open same right.granted);
       }

@@ -30,15 +30,15 @@ use Rattle.host_core.specs.Messages.{ToHost}
 use Rattle.host_core.specs.Says.{item_sent}
 use Rattle.host_core.specs.Reports.{Reports, newly_bound, with_bound}
 use Rattle.host_core.specs.Session.{Session, agreed_lu, is_agreed}
-use Rattle.host_core.specs.State.{Connection, Host, Service, connection_at, service_at, unused, with_connection}
+use Rattle.host_core.specs.State.{Connection, Host, Service, connection_at, state_at, unused, with_connection}
 use Rattle.host_core.specs.Takes.{Answers, HostStep, freed_if, quiet, talked, talked_on, took as host_took}
 use Rattle.host_core.specs.declared.acted.Acted.{Acted}
 use Rattle.host_core.specs.declared.acted.Acted.TheVariants as acted_as
 use Rattle.world3270.specs.model.ByteWorld.{is_there}
-use Rattle.world3270.specs.statement.EveryTerminal.{IsByTheRules, Move, ReportedLink, after_moves, came_up, moved}
+use Rattle.world3270.specs.statement.EveryTerminal.{IsByTheRules, Move, LinkWithReport, after_moves, came_up, moved}
 use Rattle.world3270.specs.statement.EveryTerminalBytes.{IsUp, OverBytes, Represents, if_sent, link_over, on_connection}
 use Rattle.world3270.specs.model.Link.{Link, host_left_if, host_sent, sent}
-use Rattle.world3270.specs.refinement.Readings.{IsReadAs, MayComeUp}
+use Rattle.world3270.specs.refinement.Readings.{IsReadAs, MayBeSent}
 use Rattle.world3270.specs.refinement.Sendable.{CanBeSent}
 use Rattle.world3270.specs.refinement.Representation.{conn_of, rest_of}
 use Rattle.world3270.specs.refinement.Represents.{ByteLink, LinkRepresentsBy, is_bare_command, without_commands}
@@ -49,7 +49,7 @@ use Rattle.world3270.proofs.AnyTerminal.{Goes, GoesBy, IsKept, IsWellFormedMove,
 use Rattle.world3270.proofs.Frames.{connection_same}
 use Rattle.world3270.proofs.HostItems.{host_reads}
 use Rattle.world3270.proofs.HostSteps.{just_talks}
-use Rattle.world3270.proofs.ItemsSpelt.{Spells}
+use Rattle.world3270.proofs.ItemsSpelt.{IsEncodable}
 use Rattle.world3270.proofs.LinkUp.{link_behind, never_wrong, none_first, one_first, sends_stand}
 
 -- what leaves the talk as it was binds no terminal
@@ -104,7 +104,7 @@ abbrev with_parts : Host → List ℕ → List ℕ → OverBytes → OverBytes
 with_parts host down up old = record old { host = host; down = down; up = up }
 
 -- it represents this, whatever the host has on other connections
-represents_with : (number : ℕ) (host : Host) (connection : Connection) (down up : List ℕ) (old : OverBytes) (t : ReportedLink) → connection_at number host ≡ connection → IsOpen connection.service
+represents_with : (number : ℕ) (host : Host) (connection : Connection) (down up : List ℕ) (old : OverBytes) (t : LinkWithReport) → connection_at number host ≡ connection → IsOpen connection.service
     → LinkRepresentsBy without_commands IsReadAs (link_by connection down up old.tracked) t.link → old.waits ≡ t.waits → t.link.term.waits ≡ false → CanBeSent t.link.term.display.size t.link.term.display.screen
     → Represents number (with_parts host down up old) t
 represents_with number host connection down up old t at is_open stands waits unnamed stored = record {
@@ -139,13 +139,13 @@ pub record HearsLaws : Type 0 where
 abbrev pub fed_by : ℕ → ConnectionAndPool → List ℕ → OverBytes → OverBytes
 fed_by number counter up old = record old { host = with_connection_and_pool number counter old.host; up = up }
 
-pub record Fed (app : Application) (Good : ReportedLink → Type 0) (number : ℕ) (counter : ConnectionAndPool) (up : List ℕ) (old : OverBytes) (t : ReportedLink) : Type 0 where
+pub record Fed (app : Application) (Good : LinkWithReport → Type 0) (number : ℕ) (counter : ConnectionAndPool) (up : List ℕ) (old : OverBytes) (t : LinkWithReport) : Type 0 where
   pub goes : Goes app Good number (fed_by number counter up old) t
   pub ups : All IsUp goes.moves
   pub pool : IsSoundPool counter.pool
 
-module _ (laws : HearsLaws) (app : Application) (Good : ReportedLink → Type 0) (kept : IsKept app Good) (number : ℕ) where
-  module _ (old : OverBytes) (t : ReportedLink) (good : Good t) (is : Represents number old t) (served : IsServed number old.host) where
+module _ (laws : HearsLaws) (app : Application) (Good : LinkWithReport → Type 0) (kept : IsKept app Good) (number : ℕ) where
+  module _ (old : OverBytes) (t : LinkWithReport) (good : Good t) (is : Represents number old t) (served : IsServed number old.host) where
     abbrev line : Connection
     line = connection_at number old.host
 
@@ -192,7 +192,7 @@ module _ (laws : HearsLaws) (app : Application) (Good : ReportedLink → Type 0)
       abbrev step : HostStep
       step = host_took (answer_to old.host.pool) link.host message
 
-      abbrev now : ReportedLink
+      abbrev now : LinkWithReport
       now = moved app (Move.Up old.host.pool) t
 
       closes : step.closes ≡ None
@@ -216,7 +216,7 @@ module _ (laws : HearsLaws) (app : Application) (Good : ReportedLink → Type 0)
       step_is item done rest conn held read taken =
           let same : conn ≡ link.host = sym (ap conn_of held) ∙ conn_is in
           host_reads laws.one_header laws.fault_or_header laws.one_inbound (answer_to old.host.pool) conn item message done read
-          (subst (λ (c : Session). MayComeUp c message) (sym same) ((kept.ready t good).comes_up message others e)) taken
+          (subst (λ (c : Session). MayBeSent c message) (sym same) ((kept.ready t good).comes_up message others e)) taken
           ∙ ap (λ (c : Session). host_took (answer_to old.host.pool) c message) same
 
       hears_one : (item : WireItem) (done : HostStep) (byte : ℕ) (behind : List ℕ) (counter : ConnectionAndPool) (rest to : Rest) (conn : Session) → line.service ≡ Service.Open rest conn
@@ -273,7 +273,7 @@ module _ (laws : HearsLaws) (app : Application) (Good : ReportedLink → Type 0)
 
   -- ---- bytes, one after another
 
-  pub hears_bytes : (front behind : List ℕ) (old : OverBytes) (t : ReportedLink) (counter : ConnectionAndPool) → Good t → Represents number old t → IsServed number old.host → old.up ≡ front ++ behind
+  pub hears_bytes : (front behind : List ℕ) (old : OverBytes) (t : LinkWithReport) (counter : ConnectionAndPool) → Good t → Represents number old t → IsServed number old.host → old.up ≡ front ++ behind
       → TakesBytes number (connection_and_pool_at number old.host) front counter → Fed app Good number counter behind old t
   hears_bytes [] behind old t counter good is served queue same =
       let as_it_was : with_connection_and_pool number (connection_and_pool_at number old.host) old.host ≡ old.host = ap (λ connections. record old.host { connections = connections }) (set-get_or old.host.connections number unused) in
@@ -292,7 +292,7 @@ module _ (laws : HearsLaws) (app : Application) (Good : ReportedLink → Type 0)
       let at_mid : connection_and_pool_at number host ≡ mid = ap (λ (c : Connection). record { pool = mid.pool; connection = c }) (connection_same number mid.connection (record old.host { pool = mid.pool }) served.below) in
       let below : number < length host.connections = subst (λ (n : ℕ). number < n) (sym (length-set old.host.connections number mid.connection)) served.below in
       let next : OverBytes = fed_by number mid (front ++ behind) old in
-      let t_mid : ReportedLink = after_moves app one.goes.moves t in
+      let t_mid : LinkWithReport = after_moves app one.goes.moves t in
       let more = hears_bytes front behind next t_mid counter one.goes.good one.goes.represents (record { below = below; pool = one.pool }) refl
       (subst (λ (c : ConnectionAndPool). TakesBytes number c front counter) (sym at_mid) taken.2) in
       let once : with_connection_and_pool number counter host ≡ with_connection_and_pool number counter old.host =
@@ -307,8 +307,8 @@ module _ (laws : HearsLaws) (app : Application) (Good : ReportedLink → Type 0)
 
   -- ---- the host sends
 
-  module _ (old : OverBytes) (t : ReportedLink) (good : Good t) (is : Represents number old t) (served : IsServed number old.host) where
-    pub conn_there : conn_of (service_at number old.host) ≡ t.link.host
+  module _ (old : OverBytes) (t : LinkWithReport) (good : Good t) (is : Represents number old t) (served : IsServed number old.host) where
+    pub conn_there : conn_of (state_at number old.host) ≡ t.link.host
     conn_there = conn_is old t good is served
 
     -- a line with the same under way
@@ -340,40 +340,40 @@ module _ (laws : HearsLaws) (app : Application) (Good : ReportedLink → Type 0)
         (append_assoc old.down out (sent_bytes (item_sent sending.message ∷ [])))
     sent_link sending (Service.Closed cause) out is = absurd is
 
-    -- a message is sent, which is spelt
-    pub sends_goes : (move : Move) (sending : Sent) → moved app move t ≡ record t { link = host_sent (Some sending) t.link } → IsByTheRules move t → IsWellFormedMove move → Spells sending.message
+    -- a message is sent, which is encoded
+    pub sends_goes : (move : Move) (sending : Sent) → moved app move t ≡ record t { link = host_sent (Some sending) t.link } → IsByTheRules move t → IsWellFormedMove move → IsEncodable sending.message
         → GoesBy app Good number (on_connection number (sent_on sending (connection_at number old.host)) old) t (move ∷ [])
-    sends_goes move sending goes rules typed spelt =
+    sends_goes move sending goes rules typed encoded =
         let connection : Connection = sent_on sending (connection_at number old.host) in
         let link : Link = host_sent (Some sending) t.link in
-        let said = laws.sends (link_over number old) t.link sending.conn (item_sent sending.message ∷ []) (sending.message ∷ []) is.stands (spelt.comes, tt) (spelt.stands, tt) in
+        let said = laws.sends (link_over number old) t.link sending.conn (item_sent sending.message ∷ []) (sending.message ∷ []) is.stands (encoded.comes, tt) (encoded.stands, tt) in
         let stands : LinkRepresentsBy without_commands IsReadAs (link_by connection old.down old.up old.tracked) link =
-        subst (λ (b : ByteLink). LinkRepresentsBy without_commands IsReadAs b link) (sent_link sending (service_at number old.host) (connection_at number old.host).out is.is_open) said in
-        let now : ReportedLink = record t { link = link } in
+        subst (λ (b : ByteLink). LinkRepresentsBy without_commands IsReadAs b link) (sent_link sending (state_at number old.host) (connection_at number old.host).out is.is_open) said in
+        let now : LinkWithReport = record t { link = link } in
         record {
           goes = moves_once app Good kept number (on_connection number connection old) t move good rules typed
-              (subst (λ (u : ReportedLink). Represents number (on_connection number connection old) u) (sym goes)
+              (subst (λ (u : LinkWithReport). Represents number (on_connection number connection old) u) (sym goes)
               (represents_with number (with_connection number connection old.host) connection old.down old.up old now (at_line old t good is served connection old.host.pool)
-              (open_still sending.conn (service_at number old.host) is.is_open) stands is.waits is.unnamed is.stored));
+              (open_still sending.conn (state_at number old.host) is.is_open) stands is.waits is.unnamed is.stored));
           are = refl;
         }
 
     -- it is done, or memory is refused
     pub does_goes : (move : Move) (what : Option Sent) (did : Acted) (connection : Connection) → moved app move t ≡ record t { link = host_sent what t.link }
-        → IsByTheRules move t → IsWellFormedMove move → IfSome what (λ sending. Spells sending.message) → IsDone what (connection_at number old.host) did connection
+        → IsByTheRules move t → IsWellFormedMove move → IfSome what (λ sending. IsEncodable sending.message) → IsDone what (connection_at number old.host) did connection
         → GoesBy app Good number (on_connection number connection old) t (if_sent did move)
-    does_goes move None did connection goes rules typed spelt done =
+    does_goes move None did connection goes rules typed encoded done =
         let none = unchanged connection done.1 in
         record { goes = none.goes; are = none.are ∙ ap (λ (d : Acted). if_sent d move) (sym done.0) }
-    does_goes move (Some sending) acted_as.Sent connection goes rules typed spelt done =
-        let one = sends_goes move sending goes rules typed spelt in
+    does_goes move (Some sending) acted_as.Sent connection goes rules typed encoded done =
+        let one = sends_goes move sending goes rules typed encoded in
         record {
           goes = goes_as app Good number (on_connection number (sent_on sending (connection_at number old.host)) old) (on_connection number connection old) t
               (ap (λ (c : Connection). on_connection number c old) done) one.goes;
           are = one.are;
         }
-    does_goes move (Some sending) acted_as.Memory connection goes rules typed spelt done = unchanged connection done
-    does_goes move (Some sending) acted_as.Nothing connection goes rules typed spelt done = absurd done
+    does_goes move (Some sending) acted_as.Memory connection goes rules typed encoded done = unchanged connection done
+    does_goes move (Some sending) acted_as.Nothing connection goes rules typed encoded done = absurd done
 
     -- bytes are handed over
     pub hands_over_goes : (count : ℕ) → let line = connection_at number old.host in

@@ -26,20 +26,20 @@ use Rattle.host_core.specs.Takes.{form_awaited, Answers, HostStep, took as host_
 use Rattle.host_core.specs.declared.turn_reason.TurnReason.TheVariants as turn_reasons
 use Rattle.world3270.specs.statement.AsLeft.{ProtectedIsAsLeft, attribute_at}
 use Rattle.world3270.specs.refinement.LowerLaws.{LowerLaws}
-use Rattle.tn3270e_msg.specs.Talk.{Saying}
+use Rattle.tn3270e_msg.specs.Talk.{NegotiationMessage}
 use Rattle.world3270.specs.model.Link.{Link, sent, host_left_if, host_sent, term_left_if, term_stepped}
-use Rattle.world3270.specs.refinement.Readings.{HasNoLead}
-use Rattle.world3270.specs.refinement.Phases.{IsAt, Kind, LinkPhase, Serving, awaiting, pending_at, up_at}
+use Rattle.world3270.specs.refinement.Readings.{HasNoLeadingText}
+use Rattle.world3270.specs.refinement.Phases.{IsAt, Kind, LinkPhase, SessionPhase, awaiting, pending_at, up_at}
 use Rattle.world3270.specs.statement.Showing.{ShowsItsPanel}
-use Rattle.world3270.specs.refinement.Invariant.{Fact, Kept, ShownAt, local_state_of}
+use Rattle.world3270.specs.refinement.Invariant.{Fact, ConnectionInvariant, ShownAt, local_state_of}
 use Rattle.world3270.specs.refinement.View.{view_of}
-use Rattle.world3270.proofs.SecondKeys.{Extras, pending_after}
-use Rattle.codes3270.specs.Size.{Shape}
+use Rattle.world3270.proofs.SecondKeys.{AddsSecondKeys, pending_after}
+use Rattle.codes3270.specs.Size.{ScreenSize}
 use Rattle.codes3270.specs.declared.attention.Aid.{Aid}
 use Rattle.datastream.specs.KeptByKeys.{KeptByKeys, hold_under}
 use Rattle.datastream.specs.HeldLaws.{HeldIsRound}
 use Rattle.datastream.specs.Inbound.{without_nulls}
-use Rattle.datastream.specs.InboundFields.{Returned, buffer_data, lead_of, modified_data, parts_of_fields, returned_of}
+use Rattle.datastream.specs.InboundFields.{Returned, buffer_data, leading_text_of, modified_data, parts_of_fields, returned_of}
 use Rattle.datastream.specs.Meaning.{after_command}
 use Rattle.datastream.specs.Wanted.{WantedScreen}
 use Rattle.datastream.specs.declared.inbound_part.Part.{Part}
@@ -54,7 +54,7 @@ use Rattle.host_core.specs.Notes.{noted_as, may_note, noted}
 use Rattle.host_core.specs.Questions.{act_by, answered_on, has_its_panel, is_asking}
 use Rattle.host_core.specs.declared.question.Answer.{Answer as ApplicationAnswer}
 use Rattle.host_core.specs.declared.turn_reason.TurnReason.{TurnReason}
-use Rattle.world3270.specs.statement.EveryTerminal.{ReportedLink, came_up, key_pressed, operated, told_if, IsByTheRules, Move, came_down, moved}
+use Rattle.world3270.specs.statement.EveryTerminal.{LinkWithReport, came_up, key_pressed, operated, told_if, IsByTheRules, Move, came_down, moved}
 use Rattle.world3270.specs.model.Enabled.{is_queued}
 use Rattle.world3270.specs.statement.Rules.{Operates, after_sending, data_by, edited, shows, with_aid}
 use Rattle.world3270.specs.refinement.RepresentsLinks.{HasTheSizes, NoneCloses}
@@ -65,7 +65,7 @@ use Rattle.world3270.proofs.AnyReady.{all_may_now, hears_now, same_now}
 use Rattle.world3270.proofs.AnyTerminal.{IsWellFormedMove, came_one}
 use Rattle.lu_pool.specs.HolderLaws.{IsSound}
 use Rattle.world3270.proofs.AnyEvery.{AnyLaws}
-use Rattle.world3270.proofs.AnyQueue.{LeadsAreKept, leads_suffice}
+use Rattle.world3270.proofs.AnyQueue.{KeepsAddressFirst, address_first_suffices}
 use Rattle.world3270.specs.statement.EveryTerminalBytes.{EveryTerminalOverBytes}
 use Rattle.world3270.proofs.Simulation.{Simulated}
 use Rattle.world3270.proofs.StillKept.{Alike, walked}
@@ -115,7 +115,7 @@ no_read Kind.APaint number command e = modified_only e
 no_read Kind.ANote number command e = modified_only e
 
 -- So there are fields while a read is pending, which none is at agreement.
-pub has_fields : LowerLaws → (app : Application) → IsApplication app → (link : Link) → Kept app (view_of link) → (link.host.turn_reason ≡ turn_reasons.Agreement → ⊥) → form_awaited link.host.pending ≡ Buffer
+pub has_fields : LowerLaws → (app : Application) → IsApplication app → (link : Link) → ConnectionInvariant app (view_of link) → (link.host.turn_reason ≡ turn_reasons.Agreement → ⊥) → form_awaited link.host.pending ≡ Buffer
     → fields link.term.display.screen.cells ≡ [] → ⊥
 has_fields given app is link k asked reads none = by_moment k.moment k.at k.fact k.shown
   where
@@ -126,27 +126,27 @@ has_fields given app is link k asked reads none = by_moment k.moment k.at k.fact
     here not_cleared shows = panel_has_fields given app is link.term.waits link.host link.term.display.before_restored link.term.display.last_restored link.term.display.screen.cells (message_place link.term.display.size) shows
         (k.as_left not_cleared) none
 
-    by_serving : (lu : List ℕ) (serving : Serving) → form_awaited (pending_at (LinkPhase.Serves lu serving)) ≡ Buffer → Fact k.wanted (local_state_of (view_of link)) (LinkPhase.Serves lu serving)
-        → ShownAt app link.term.waits link.host link.term.display.before_restored link.term.display.last_restored link.term.display.screen (LinkPhase.Serves lu serving) → ⊥
-    by_serving lu (Serving.Reading number) reads f shown = here f.not_cleared (shown asked)
-    by_serving lu (Serving.Reported number parts) reads f shown = here f.not_cleared (shown asked)
-    by_serving lu Serving.Deciding reads f shown = modified_only reads
-    by_serving lu (Serving.NotedLate number command) reads f shown = modified_only reads
-    by_serving lu (Serving.AnsweredLate number command) reads f shown = modified_only reads
-    by_serving lu (Serving.Painting number command wanted over) reads f shown = modified_only reads
-    by_serving lu (Serving.Answering kind number command) reads f shown = no_read kind number command reads
-    by_serving lu Serving.Operating reads f shown = modified_only reads
-    by_serving lu (Serving.Noting number command) reads f shown = modified_only reads
-    by_serving lu (Serving.KeyAlone parts) reads f shown = modified_only reads
-    by_serving lu (Serving.KeyBehind kind number command parts) reads f shown = no_read kind number command reads
-    by_serving lu (Serving.KeyNoted number command parts) reads f shown = modified_only reads
-    by_serving lu (Serving.KeyBefore number command parts) reads f shown = modified_only reads
+    by_serving : (lu : List ℕ) (serving : SessionPhase) → form_awaited (pending_at (LinkPhase.InSession lu serving)) ≡ Buffer → Fact k.wanted (local_state_of (view_of link)) (LinkPhase.InSession lu serving)
+        → ShownAt app link.term.waits link.host link.term.display.before_restored link.term.display.last_restored link.term.display.screen (LinkPhase.InSession lu serving) → ⊥
+    by_serving lu (SessionPhase.Reading number) reads f shown = here f.not_cleared (shown asked)
+    by_serving lu (SessionPhase.BufferReturning number parts) reads f shown = here f.not_cleared (shown asked)
+    by_serving lu SessionPhase.Deciding reads f shown = modified_only reads
+    by_serving lu (SessionPhase.DecidingNoteSent number command) reads f shown = modified_only reads
+    by_serving lu (SessionPhase.DecidingNoteAnswered number command) reads f shown = modified_only reads
+    by_serving lu (SessionPhase.Painting number command wanted over) reads f shown = modified_only reads
+    by_serving lu (SessionPhase.AwaitingWriteResponse kind number command) reads f shown = no_read kind number command reads
+    by_serving lu SessionPhase.OperatorTyping reads f shown = modified_only reads
+    by_serving lu (SessionPhase.Noting number command) reads f shown = modified_only reads
+    by_serving lu (SessionPhase.KeySent parts) reads f shown = modified_only reads
+    by_serving lu (SessionPhase.KeySentAfterResponse kind number command parts) reads f shown = no_read kind number command reads
+    by_serving lu (SessionPhase.KeyCrossingNote number command parts) reads f shown = modified_only reads
+    by_serving lu (SessionPhase.KeyBeforeNoteResponse number command parts) reads f shown = modified_only reads
 
     by_moment : (moment : LinkPhase) → IsAt (view_of link) k.wanted moment → Fact k.wanted (local_state_of (view_of link)) moment
         → ShownAt app link.term.waits link.host link.term.display.before_restored link.term.display.last_restored link.term.display.screen moment → ⊥
-    by_moment (LinkPhase.Talks talking) at f shown = modified_only (reads_at (LinkPhase.Talks talking) at)
-    by_moment (LinkPhase.Begins lu number command wanted over) at f shown = modified_only (reads_at (LinkPhase.Begins lu number command wanted over) at)
-    by_moment (LinkPhase.Serves lu serving) at f shown = by_serving lu serving (reads_at (LinkPhase.Serves lu serving) at) f shown
+    by_moment (LinkPhase.Negotiating talking) at f shown = modified_only (reads_at (LinkPhase.Negotiating talking) at)
+    by_moment (LinkPhase.FirstPaint lu number command wanted over) at f shown = modified_only (reads_at (LinkPhase.FirstPaint lu number command wanted over) at)
+    by_moment (LinkPhase.InSession lu serving) at f shown = by_serving lu serving (reads_at (LinkPhase.InSession lu serving) at) f shown
 
 -- ---- what is queued
 
@@ -156,15 +156,16 @@ has_response (ToHost.Response number verdict ∷ messages) = true
 has_response (ToHost.Data parts ∷ messages) = has_response messages
 has_response (ToHost.TalksUp saying ∷ messages) = has_response messages
 
-abbrev HasNoLeadUp : ToHost → Type 0
-HasNoLeadUp (ToHost.Data parts) = parts.form ≡ Modified → HasNoLead parts.parts
-HasNoLeadUp (ToHost.TalksUp saying) = ⊤
-HasNoLeadUp (ToHost.Response number verdict) = ⊤
+abbrev HasNoLeadingTextUp : ToHost → Type 0
+HasNoLeadingTextUp (ToHost.Data parts) = parts.form ≡ Modified → HasNoLeadingText parts.parts
+HasNoLeadingTextUp (ToHost.TalksUp saying) = ⊤
+HasNoLeadingTextUp (ToHost.Response number verdict) = ⊤
 
--- data that no response is behind has no lead, or the screen that was told has no fields
-abbrev AreLeads : Type 0 → List ToHost → Type 0
-AreLeads Bare [] = ⊤
-AreLeads Bare (message ∷ messages) = (has_response messages ≡ false → HasNoLeadUp message ⊎ Bare) × AreLeads Bare messages
+-- no text stands before the first address of data that no response follows, unless the screen that the host was told
+-- has no fields (`Bare`)
+abbrev AddressesComeFirst : Type 0 → List ToHost → Type 0
+AddressesComeFirst Bare [] = ⊤
+AddressesComeFirst Bare (message ∷ messages) = (has_response messages ≡ false → HasNoLeadingTextUp message ⊎ Bare) × AddressesComeFirst Bare messages
 
 response_last : (messages : List ToHost) (number : ℕ) (verdict : Verdict) → has_response (messages ++ ToHost.Response number verdict ∷ []) ≡ true
 response_last [] number verdict = refl
@@ -173,16 +174,16 @@ response_last (ToHost.Data parts ∷ messages) number verdict = response_last me
 response_last (ToHost.TalksUp saying ∷ messages) number verdict = response_last messages number verdict
 
 -- a response is last: all before it is left out
-exempt : (Bare : Type 0) (messages : List ToHost) (number : ℕ) (verdict : Verdict) → AreLeads Bare (messages ++ ToHost.Response number verdict ∷ [])
+exempt : (Bare : Type 0) (messages : List ToHost) (number : ℕ) (verdict : Verdict) → AddressesComeFirst Bare (messages ++ ToHost.Response number verdict ∷ [])
 exempt Bare [] number verdict = ((λ e. inl tt), tt)
 exempt Bare (message ∷ messages) number verdict =
     ((λ e. absurd (let both : true ≡ false = sym (response_last messages number verdict) ∙ e in cc)), exempt Bare messages number verdict)
 
-weaker : (Bare Other : Type 0) → (Bare → Other) → (messages : List ToHost) → AreLeads Bare messages → AreLeads Other messages
+weaker : (Bare Other : Type 0) → (Bare → Other) → (messages : List ToHost) → AddressesComeFirst Bare messages → AddressesComeFirst Other messages
 weaker Bare Other goes [] leads = tt
 weaker Bare Other goes (message ∷ messages) leads = ((λ e. either (leads.0 e)), weaker Bare Other goes messages leads.1)
   where
-    either : HasNoLeadUp message ⊎ Bare → HasNoLeadUp message ⊎ Other
+    either : HasNoLeadingTextUp message ⊎ Bare → HasNoLeadingTextUp message ⊎ Other
     either (inl x) = inl x
     either (inr x) = inr (goes x)
 
@@ -192,36 +193,36 @@ data_last (ToHost.Response other said ∷ messages) parts = refl
 data_last (ToHost.Data other ∷ messages) parts = data_last messages parts
 data_last (ToHost.TalksUp saying ∷ messages) parts = data_last messages parts
 
-more_data : (Bare : Type 0) (messages : List ToHost) (parts : InboundParts) → AreLeads Bare messages → HasNoLeadUp (ToHost.Data parts) ⊎ Bare → AreLeads Bare (messages ++ ToHost.Data parts ∷ [])
+more_data : (Bare : Type 0) (messages : List ToHost) (parts : InboundParts) → AddressesComeFirst Bare messages → HasNoLeadingTextUp (ToHost.Data parts) ⊎ Bare → AddressesComeFirst Bare (messages ++ ToHost.Data parts ∷ [])
 more_data Bare [] parts leads last = ((λ e. last), tt)
 more_data Bare (message ∷ messages) parts leads last = ((λ e. leads.0 (sym (data_last messages parts) ∙ e)), more_data Bare messages parts leads.1 last)
 
-talk_last : (messages : List ToHost) (talk : List Saying) → has_response (messages ++ map ToHost.TalksUp talk) ≡ has_response messages
+talk_last : (messages : List ToHost) (talk : List NegotiationMessage) → has_response (messages ++ map ToHost.TalksUp talk) ≡ has_response messages
 talk_last [] [] = refl
 talk_last [] (saying ∷ talk) = talk_last [] talk
 talk_last (ToHost.Response other said ∷ messages) talk = refl
 talk_last (ToHost.Data other ∷ messages) talk = talk_last messages talk
 talk_last (ToHost.TalksUp saying ∷ messages) talk = talk_last messages talk
 
-more_talk : (Bare : Type 0) (messages : List ToHost) (talk : List Saying) → AreLeads Bare messages → AreLeads Bare (messages ++ map ToHost.TalksUp talk)
+more_talk : (Bare : Type 0) (messages : List ToHost) (talk : List NegotiationMessage) → AddressesComeFirst Bare messages → AddressesComeFirst Bare (messages ++ map ToHost.TalksUp talk)
 more_talk Bare [] [] leads = tt
 more_talk Bare [] (saying ∷ talk) leads = ((λ e. inl tt), more_talk Bare [] talk tt)
 more_talk Bare (message ∷ messages) talk leads = ((λ e. leads.0 (sym (talk_last messages talk) ∙ e)), more_talk Bare messages talk leads.1)
 
-if_sent : (Bare : Type 0) (lost : Bool) (queue says : List ToHost) → AreLeads Bare queue → AreLeads Bare (queue ++ says) → AreLeads Bare (sent lost queue says)
+if_sent : (Bare : Type 0) (lost : Bool) (queue says : List ToHost) → AddressesComeFirst Bare queue → AddressesComeFirst Bare (queue ++ says) → AddressesComeFirst Bare (sent lost queue says)
 if_sent Bare true queue says stays more = stays
 if_sent Bare false queue says stays more = more
 
 -- the first of a queue without responses
-first_lead : (Bare : Type 0) (message : ToHost) (messages : List ToHost) → AreLeads Bare (message ∷ messages) → has_response messages ≡ false → (Bare → ⊥) → HasNoLeadUp message
+first_lead : (Bare : Type 0) (message : ToHost) (messages : List ToHost) → AddressesComeFirst Bare (message ∷ messages) → has_response messages ≡ false → (Bare → ⊥) → HasNoLeadingTextUp message
 first_lead Bare message messages leads none fields = either (leads.0 none)
   where
-    either : HasNoLeadUp message ⊎ Bare → HasNoLeadUp message
+    either : HasNoLeadingTextUp message ⊎ Bare → HasNoLeadingTextUp message
     either (inl x) = x
     either (inr x) = absurd (fields x)
 
 -- second keys are no responses
-extras_respond : (turn : Turn) (pending : Pending) (told real : List ToHost) → Extras turn pending told real → has_response told ≡ false → has_response real ≡ false
+extras_respond : (turn : Turn) (pending : Pending) (told real : List ToHost) → AddsSecondKeys turn pending told real → has_response told ≡ false → has_response real ≡ false
 extras_respond turn pending told [] x none = refl
 extras_respond turn pending told (ToHost.Data parts ∷ real) (inl x) none = extras_respond turn pending told real x.2 none
 extras_respond turn pending told (ToHost.TalksUp saying ∷ real) (inl x) none = extras_respond turn pending told real x.2 none
@@ -276,49 +277,50 @@ noted_asked text conn true = λ reads e. modified_only reads
 
 -- ---- what holds
 
-pub record Leads (t : ReportedLink) : Type 0 where
+-- the host reads what it asked for, and each key's data in the queue begins with an address
+pub record KeysStartWithAddress (t : LinkWithReport) : Type 0 where
   pub asked : IsAsked t.link.host
-  pub queue : AreLeads (fields t.told.screen.cells ≡ []) t.link.up
+  pub queue : AddressesComeFirst (fields t.told.screen.cells ≡ []) t.link.up
 
-sent_leads : (what : Option Sent) (t : ReportedLink) → Leads t → IfSome what (λ sending. IsAsked sending.conn) → Leads (record t { link = host_sent what t.link })
+sent_leads : (what : Option Sent) (t : LinkWithReport) → KeysStartWithAddress t → IfSome what (λ sending. IsAsked sending.conn) → KeysStartWithAddress (record t { link = host_sent what t.link })
 sent_leads None t l asked = l
 sent_leads (Some sending) t l asked = record { asked = asked; queue = l.queue }
 
-host_left : (cause : Option Cause) (link : Link) (t : ReportedLink) → Leads (record t { link = link }) → Leads (record t { link = host_left_if cause link })
+host_left : (cause : Option Cause) (link : Link) (t : LinkWithReport) → KeysStartWithAddress (record t { link = link }) → KeysStartWithAddress (record t { link = host_left_if cause link })
 host_left None link t l = l
 host_left (Some cause) link t l = record { asked = l.asked; queue = l.queue }
 
-up_leads : (t : ReportedLink) → Leads t → (pool : List Entry) (up : List ToHost) → t.link.up ≡ up → Leads (came_up pool up t)
+up_leads : (t : LinkWithReport) → KeysStartWithAddress t → (pool : List Entry) (up : List ToHost) → t.link.up ≡ up → KeysStartWithAddress (came_up pool up t)
 up_leads t l pool [] e = l
 up_leads t l pool (message ∷ rest) e =
     let step : HostStep = host_took (answer_to pool) t.link.host message in
     host_left step.closes (record t.link { up = rest; host = step.conn; down = sent t.link.lost t.link.down step.sends }) t
     (record {
       asked = hears_asked (answer_to pool) t.link.host message l.asked;
-      queue = (subst (λ (up : List ToHost). AreLeads (fields t.told.screen.cells ≡ []) up) e l.queue).1;
+      queue = (subst (λ (up : List ToHost). AddressesComeFirst (fields t.told.screen.cells ≡ []) up) e l.queue).1;
     })
 
 -- a key's own data
-own_lead : (size : Shape) (screen : Screen) → HasNoLeadUp (ToHost.Data (modified_data Modified size screen)) ⊎ (fields screen.cells ≡ [])
-own_lead size screen = by_alone (stands_alone Modified screen.aid)
+own_leading_text : (size : ScreenSize) (screen : Screen) → HasNoLeadingTextUp (ToHost.Data (modified_data Modified size screen)) ⊎ (fields screen.cells ≡ [])
+own_leading_text size screen = by_alone (stands_alone Modified screen.aid)
   where
     data_of_parts : List Part → Bool → InboundParts
     data_of_parts parts b = if b then record { form = Modified; size = size; aid = screen.aid; cursor = None; parts = [] } else record { form = Modified; size = size; aid = screen.aid; cursor = Some screen.cursor; parts = parts }
 
-    no_first : (found : List Returned) → HasNoLead (parts_of_fields [] found)
+    no_first : (found : List Returned) → HasNoLeadingText (parts_of_fields [] found)
     no_first [] = tt
     no_first (one ∷ more) = tt
 
     by_fields : (all : Bool) → list_all is_char screen.cells ≡ all
-        → HasNoLead (parts_of_fields (if all then without_nulls (text_before_attribute screen.cells) else []) (returned_of screen.cells)) ⊎ (fields screen.cells ≡ [])
+        → HasNoLeadingText (parts_of_fields (if all then without_nulls (text_before_attribute screen.cells) else []) (returned_of screen.cells)) ⊎ (fields screen.cells ≡ [])
     by_fields true e = inr (none_listed screen.cells 0 screen.cells e)
     by_fields false e = inl (no_first (returned_of screen.cells))
 
-    so : HasNoLead (parts_of_fields (lead_of screen.cells) (returned_of screen.cells)) ⊎ (fields screen.cells ≡ []) → HasNoLeadUp (ToHost.Data (data_of_parts (parts_of_fields (lead_of screen.cells) (returned_of screen.cells)) false)) ⊎ (fields screen.cells ≡ [])
+    so : HasNoLeadingText (parts_of_fields (leading_text_of screen.cells) (returned_of screen.cells)) ⊎ (fields screen.cells ≡ []) → HasNoLeadingTextUp (ToHost.Data (data_of_parts (parts_of_fields (leading_text_of screen.cells) (returned_of screen.cells)) false)) ⊎ (fields screen.cells ≡ [])
     so (inl x) = inl (λ form. x)
     so (inr x) = inr x
 
-    by_alone : (b : Bool) → HasNoLeadUp (ToHost.Data (data_of_parts (parts_of_fields (lead_of screen.cells) (returned_of screen.cells)) b)) ⊎ (fields screen.cells ≡ [])
+    by_alone : (b : Bool) → HasNoLeadingTextUp (ToHost.Data (data_of_parts (parts_of_fields (leading_text_of screen.cells) (returned_of screen.cells)) b)) ⊎ (fields screen.cells ≡ [])
     by_alone true = inl (λ form. tt)
     by_alone false = so (by_fields (list_all is_char screen.cells) refl)
 
@@ -352,28 +354,28 @@ same_but_clear Enter screen unclear = refl
 same_but_clear (Pf key) screen unclear = refl
 same_but_clear (Pa key) screen unclear = refl
 
-operated_leads : (waits : Bool) (step : TermStep) (t : ReportedLink) → step.closes ≡ None → IsAsked t.link.host → AreLeads (fields (if waits then t.told else step.end.display).screen.cells ≡ []) (sent t.link.lost t.link.up step.sends)
-    → Leads (record { link = term_stepped step t.link.down t.link; told = if waits then t.told else step.end.display; waits = t.waits || is_queued step.sends })
+operated_leads : (waits : Bool) (step : TermStep) (t : LinkWithReport) → step.closes ≡ None → IsAsked t.link.host → AddressesComeFirst (fields (if waits then t.told else step.end.display).screen.cells ≡ []) (sent t.link.lost t.link.up step.sends)
+    → KeysStartWithAddress (record { link = term_stepped step t.link.down t.link; told = if waits then t.told else step.end.display; waits = t.waits || is_queued step.sends })
 operated_leads waits step t closes asked queue =
     let stays : Link = record t.link { term = step.end; up = sent t.link.lost t.link.up step.sends } in
     let told : Display = if waits then t.told else step.end.display in
-    subst (λ (c : Option Cause). Leads (record { link = term_left_if c stays; told = told; waits = t.waits || is_queued step.sends })) (sym closes) (record { asked = asked; queue = queue })
+    subst (λ (c : Option Cause). KeysStartWithAddress (record { link = term_left_if c stays; told = told; waits = t.waits || is_queued step.sends })) (sym closes) (record { asked = asked; queue = queue })
 
 module _ (given : LowerLaws) (app : Application) (is : IsApplication app) (sizes : HasTheSizes app) (lu : List ℕ) where
   -- what was told has no fields where what is displayed has none, and the other way round
-  told_bare : (t : ReportedLink) (s : Simulated app lu t) → fields t.link.term.display.screen.cells ≡ [] → fields t.told.screen.cells ≡ []
+  told_bare : (t : LinkWithReport) (s : Simulated app lu t) → fields t.link.term.display.screen.cells ≡ [] → fields t.told.screen.cells ≡ []
   told_bare t s none =
       subst (λ (d : Display). fields d.screen.cells ≡ []) s.display
       (once_unformatted given.keys.round s.simulates.since.erased s.told.term.display.screen.cells t.link.term.display.screen.cells s.simulates.since.held none)
 
-  now_bare : (t : ReportedLink) (s : Simulated app lu t) → fields t.told.screen.cells ≡ [] → fields t.link.term.display.screen.cells ≡ []
+  now_bare : (t : LinkWithReport) (s : Simulated app lu t) → fields t.told.screen.cells ≡ [] → fields t.link.term.display.screen.cells ≡ []
   now_bare t s none =
       still_unformatted given.keys.round s.simulates.since.erased s.told.term.display.screen.cells t.link.term.display.screen.cells s.simulates.since.held
       (subst (λ (d : Display). fields d.screen.cells ≡ []) (sym s.display) none)
 
   -- a message came down
-  taken_leads : (t : ReportedLink) → Simulated app lu t → Leads t → t.link.lost ≡ false → (message : ToTerminal) (rest : List ToTerminal) → (took t.link.term message).closes ≡ None
-      → Leads (told_if (is_bound t.link.term) message t (term_stepped (took t.link.term message) rest t.link))
+  taken_leads : (t : LinkWithReport) → Simulated app lu t → KeysStartWithAddress t → t.link.lost ≡ false → (message : ToTerminal) (rest : List ToTerminal) → (took t.link.term message).closes ≡ None
+      → KeysStartWithAddress (told_if (is_bound t.link.term) message t (term_stepped (took t.link.term message) rest t.link))
   taken_leads t s l alive message rest closes = by_message message closes
     where
       end : TermEnd
@@ -385,26 +387,26 @@ module _ (given : LowerLaws) (app : Application) (is : IsApplication app) (sizes
       with_up : (queue : List ToHost) (term : TermEnd) → Link
       with_up queue term = record t.link { down = rest; term = term; up = queue }
 
-      silent : (term : TermEnd) → Leads (record t { link = record t.link { down = rest; term = term; up = sent t.link.lost t.link.up [] } })
-      silent term = record { asked = l.asked; queue = if_sent Bare t.link.lost t.link.up [] l.queue (subst (AreLeads Bare) (sym (append-nil t.link.up)) l.queue) }
+      silent : (term : TermEnd) → KeysStartWithAddress (record t { link = record t.link { down = rest; term = term; up = sent t.link.lost t.link.up [] } })
+      silent term = record { asked = l.asked; queue = if_sent Bare t.link.lost t.link.up [] l.queue (subst (AddressesComeFirst Bare) (sym (append-nil t.link.up)) l.queue) }
 
       answered : (told : Display) (waits : Bool) (term : TermEnd) (number : ℕ)
-          → Leads (record { link = record t.link { down = rest; term = term; up = sent t.link.lost t.link.up (ToHost.Response number Verdict.Positive ∷ []) }; told = told; waits = waits })
+          → KeysStartWithAddress (record { link = record t.link { down = rest; term = term; up = sent t.link.lost t.link.up (ToHost.Response number Verdict.Positive ∷ []) }; told = told; waits = waits })
       answered told waits term number = record {
         asked = l.asked;
-        queue = subst (λ (b : Bool). AreLeads (fields told.screen.cells ≡ []) (sent b t.link.up (ToHost.Response number Verdict.Positive ∷ []))) (sym alive)
+        queue = subst (λ (b : Bool). AddressesComeFirst (fields told.screen.cells ≡ []) (sent b t.link.up (ToHost.Response number Verdict.Positive ∷ []))) (sym alive)
             (exempt (fields told.screen.cells ≡ []) t.link.up number Verdict.Positive);
       }
 
-      by_paint : (b : Bool) (number : ℕ) (wanted : WantedScreen) (over : Shadow) → Leads (told_if b (ToTerminal.Paint number wanted over) t (term_stepped (once_bound b (paint_came number wanted end) end) rest t.link))
+      by_paint : (b : Bool) (number : ℕ) (wanted : WantedScreen) (over : Shadow) → KeysStartWithAddress (told_if b (ToTerminal.Paint number wanted over) t (term_stepped (once_bound b (paint_came number wanted end) end) rest t.link))
       by_paint true number wanted over = answered (painted wanted end.display) false (record end { display = painted wanted end.display }) number
       by_paint false number wanted over = silent end
 
-      by_note : (b : Bool) (number : ℕ) (command : CommandParts) → Leads (told_if b (ToTerminal.Note number command) t (term_stepped (once_bound b (note_came number command end) end) rest t.link))
+      by_note : (b : Bool) (number : ℕ) (command : CommandParts) → KeysStartWithAddress (told_if b (ToTerminal.Note number command) t (term_stepped (once_bound b (note_came number command end) end) rest t.link))
       by_note true number command = answered (record t.told { screen = after_command command t.told.screen }) t.waits (record end { display = record end.display { screen = after_command command end.display.screen } }) number
       by_note false number command = silent end
 
-      by_read : (b : Bool) (number : ℕ) → Leads (told_if b (ToTerminal.ReadBuffer number) t (term_stepped (once_bound b (read_came end) end) rest t.link))
+      by_read : (b : Bool) (number : ℕ) → KeysStartWithAddress (told_if b (ToTerminal.ReadBuffer number) t (term_stepped (once_bound b (read_came end) end) rest t.link))
       by_read false number = silent end
       by_read true number =
           let Now : Type 0 = fields end.display.screen.cells ≡ [] in
@@ -415,41 +417,41 @@ module _ (given : LowerLaws) (app : Application) (is : IsApplication app) (sizes
                 (more_data Now t.link.up (buffer_data end.display.size end.display.screen) was (inl (λ form. absurd (modified_only (sym form)))));
           }
 
-      by_talk : (saying : Saying) → (talked end end.talk saying).closes ≡ None → (b : Bool) → Leads (told_if b (ToTerminal.TalksDown saying) t (term_stepped (talked end end.talk saying) rest t.link))
+      by_talk : (saying : NegotiationMessage) → (talked end end.talk saying).closes ≡ None → (b : Bool) → KeysStartWithAddress (told_if b (ToTerminal.TalksDown saying) t (term_stepped (talked end end.talk saying) rest t.link))
       by_talk saying closes b =
           let step : TermStep = talked end end.talk saying in
           let stays : Link = record t.link { down = rest; term = step.end; up = sent t.link.lost t.link.up step.sends } in
-          let goes : Leads (record t { link = term_left_if step.closes stays }) =
-          subst (λ (c : Option Cause). Leads (record t { link = term_left_if c stays })) (sym closes)
+          let goes : KeysStartWithAddress (record t { link = term_left_if step.closes stays }) =
+          subst (λ (c : Option Cause). KeysStartWithAddress (record t { link = term_left_if c stays })) (sym closes)
           (record { asked = l.asked; queue = if_sent Bare t.link.lost t.link.up step.sends l.queue (more_talk Bare t.link.up _ l.queue) }) in
           either b goes
         where
-          either : (b : Bool) {link : Link} → Leads (record t { link = link }) → Leads (told_if b (ToTerminal.TalksDown saying) t link)
+          either : (b : Bool) {link : Link} → KeysStartWithAddress (record t { link = link }) → KeysStartWithAddress (told_if b (ToTerminal.TalksDown saying) t link)
           either true goes = record { asked = goes.asked; queue = goes.queue }
           either false goes = goes
 
-      by_message : (m : ToTerminal) → (took end m).closes ≡ None → Leads (told_if (is_bound end) m t (term_stepped (took end m) rest t.link))
+      by_message : (m : ToTerminal) → (took end m).closes ≡ None → KeysStartWithAddress (told_if (is_bound end) m t (term_stepped (took end m) rest t.link))
       by_message (ToTerminal.Paint number wanted over) closes = by_paint (is_bound end) number wanted over
       by_message (ToTerminal.Note number command) closes = by_note (is_bound end) number command
       by_message (ToTerminal.ReadBuffer number) closes = by_read (is_bound end) number
       by_message (ToTerminal.TalksDown saying) closes = by_talk saying closes (is_bound end)
 
   -- the operator did something
-  edits_leads : (t : ReportedLink) (s : Simulated app lu t) → Leads t → (step : TermStep) (keyboard : Keyboard) (cells : List Cell) (cursor : ℕ) (erases : Bool) → KeptByKeys erases t.link.term.display.screen.cells cells
-      → step ≡ shows keyboard (edited cells cursor erases t.link.term.display) [] t.link.term → Leads (operated step t)
+  edits_leads : (t : LinkWithReport) (s : Simulated app lu t) → KeysStartWithAddress t → (step : TermStep) (keyboard : Keyboard) (cells : List Cell) (cursor : ℕ) (erases : Bool) → KeptByKeys erases t.link.term.display.screen.cells cells
+      → step ≡ shows keyboard (edited cells cursor erases t.link.term.display) [] t.link.term → KeysStartWithAddress (operated step t)
   edits_leads t s l step keyboard cells cursor erases held is =
-      subst (λ (did : TermStep). Leads (operated did t)) (sym is)
+      subst (λ (did : TermStep). KeysStartWithAddress (operated did t)) (sym is)
       (operated_leads t.waits (shows keyboard (edited cells cursor erases t.link.term.display) [] t.link.term) t refl l.asked
-      (if_sent _ t.link.lost t.link.up [] (by_wait t.waits) (subst (AreLeads _) (sym (append-nil t.link.up)) (by_wait t.waits))))
+      (if_sent _ t.link.lost t.link.up [] (by_wait t.waits) (subst (AddressesComeFirst _) (sym (append-nil t.link.up)) (by_wait t.waits))))
     where
-      by_wait : (b : Bool) → AreLeads (fields (if b then t.told else record (edited cells cursor erases t.link.term.display) { keyboard = keyboard }).screen.cells ≡ []) t.link.up
+      by_wait : (b : Bool) → AddressesComeFirst (fields (if b then t.told else record (edited cells cursor erases t.link.term.display) { keyboard = keyboard }).screen.cells ≡ []) t.link.up
       by_wait true = l.queue
       by_wait false = weaker (fields t.told.screen.cells ≡ []) (fields cells ≡ []) (λ none. still_unformatted given.keys.round erases t.link.term.display.screen.cells cells held (now_bare t s none)) t.link.up l.queue
 
-  sends_leads : (t : ReportedLink) (s : Simulated app lu t) → Leads t → (step : TermStep) (keyboard : Keyboard) (aid : Aid) → (t.waits ≡ true → aid ≡ Clear → ⊥)
-      → step ≡ shows keyboard (after_sending aid t.link.term.display) (data_by aid t.link.term) t.link.term → Leads (operated step t)
+  sends_leads : (t : LinkWithReport) (s : Simulated app lu t) → KeysStartWithAddress t → (step : TermStep) (keyboard : Keyboard) (aid : Aid) → (t.waits ≡ true → aid ≡ Clear → ⊥)
+      → step ≡ shows keyboard (after_sending aid t.link.term.display) (data_by aid t.link.term) t.link.term → KeysStartWithAddress (operated step t)
   sends_leads t s l step keyboard aid unclear is =
-      subst (λ (did : TermStep). Leads (operated did t)) (sym is)
+      subst (λ (did : TermStep). KeysStartWithAddress (operated did t)) (sym is)
       (operated_leads t.waits (shows keyboard (after_sending aid t.link.term.display) (data_by aid t.link.term) t.link.term) t refl l.asked (by_wait t.waits refl))
     where
       now : Screen
@@ -458,33 +460,33 @@ module _ (given : LowerLaws) (app : Application) (is : IsApplication app) (sizes
       sent_screen : Screen
       sent_screen = with_aid aid now
 
-      queued : (Bare : Type 0) (b : Bool) → AreLeads Bare t.link.up → (HasNoLeadUp (ToHost.Data (modified_data Modified t.link.term.display.size sent_screen)) ⊎ Bare)
-          → AreLeads Bare (sent t.link.lost t.link.up (data_of b (Send aid) t.link.term.display.size sent_screen))
+      queued : (Bare : Type 0) (b : Bool) → AddressesComeFirst Bare t.link.up → (HasNoLeadingTextUp (ToHost.Data (modified_data Modified t.link.term.display.size sent_screen)) ⊎ Bare)
+          → AddressesComeFirst Bare (sent t.link.lost t.link.up (data_of b (Send aid) t.link.term.display.size sent_screen))
       queued Bare true was last = if_sent Bare t.link.lost t.link.up _ was (more_data Bare t.link.up _ was last)
-      queued Bare false was last = if_sent Bare t.link.lost t.link.up [] was (subst (AreLeads Bare) (sym (append-nil t.link.up)) was)
+      queued Bare false was last = if_sent Bare t.link.lost t.link.up [] was (subst (AddressesComeFirst Bare) (sym (append-nil t.link.up)) was)
 
       one_way : {Lead One Other : Type 0} → (One → Other) → Lead ⊎ One → Lead ⊎ Other
       one_way goes (inl x) = inl x
       one_way goes (inr x) = inr (goes x)
 
       by_wait : (b : Bool) → t.waits ≡ b
-          → AreLeads (fields (if b then t.told else record (after_sending aid t.link.term.display) { keyboard = keyboard }).screen.cells ≡ []) (sent t.link.lost t.link.up (data_of (is_bound t.link.term) (Send aid) t.link.term.display.size sent_screen))
+          → AddressesComeFirst (fields (if b then t.told else record (after_sending aid t.link.term.display) { keyboard = keyboard }).screen.cells ≡ []) (sent t.link.lost t.link.up (data_of (is_bound t.link.term) (Send aid) t.link.term.display.size sent_screen))
       by_wait true e =
           queued (fields t.told.screen.cells ≡ []) (is_bound t.link.term) l.queue
-          (one_way (λ none. told_bare t s (sym (ap fields (same_but_clear aid now (unclear e))) ∙ none)) (own_lead t.link.term.display.size sent_screen))
+          (one_way (λ none. told_bare t s (sym (ap fields (same_but_clear aid now (unclear e))) ∙ none)) (own_leading_text t.link.term.display.size sent_screen))
       by_wait false e =
           queued (fields sent_screen.cells ≡ []) (is_bound t.link.term)
           (weaker (fields t.told.screen.cells ≡ []) (fields sent_screen.cells ≡ []) (λ none. aid_bare aid now (now_bare t s none)) t.link.up l.queue)
-          (own_lead t.link.term.display.size sent_screen)
+          (own_leading_text t.link.term.display.size sent_screen)
 
-  operates_leads : (t : ReportedLink) (s : Simulated app lu t) → Leads t → (step : TermStep) (does : Operates t.link.term step) → (t.waits ≡ true → key_pressed does ≡ Clear → ⊥) → Leads (operated step t)
+  operates_leads : (t : LinkWithReport) (s : Simulated app lu t) → KeysStartWithAddress t → (step : TermStep) (does : Operates t.link.term step) → (t.waits ≡ true → key_pressed does ≡ Clear → ⊥) → KeysStartWithAddress (operated step t)
   operates_leads t s l step (Operates.edits keyboard cells cursor erases held on is) unclear = edits_leads t s l step keyboard cells cursor erases held is
   operates_leads t s l step (Operates.sends keyboard aid some is) unclear = sends_leads t s l step keyboard aid unclear is
 
-  down_leads : (t : ReportedLink) → Simulated app lu t → Leads t → t.link.lost ≡ false → (down : List ToTerminal) → t.link.down ≡ down → Leads (came_down down t)
+  down_leads : (t : LinkWithReport) → Simulated app lu t → KeysStartWithAddress t → t.link.lost ≡ false → (down : List ToTerminal) → t.link.down ≡ down → KeysStartWithAddress (came_down down t)
   down_leads t s l alive [] e = l
   down_leads t s l alive (message ∷ rest) e =
-      subst (λ (did : TermStep). Leads (told_if (is_bound t.link.term) message t (term_stepped did rest t.link))) (sym (same_now given app is sizes lu t s message rest e))
+      subst (λ (did : TermStep). KeysStartWithAddress (told_if (is_bound t.link.term) message t (term_stepped did rest t.link))) (sym (same_now given app is sizes lu t s message rest e))
       (taken_leads t s l alive message rest (subst (λ (d : List ToTerminal). NoneCloses t.link.term d) e (all_may_now given app is sizes lu t.link.down t s refl).1).0)
 
   -- ---- it isn't lost
@@ -493,14 +495,14 @@ module _ (given : LowerLaws) (app : Application) (is : IsApplication app) (sizes
   sent_alive None link alive = alive
   sent_alive (Some sending) link alive = alive
 
-  up_alive : (t : ReportedLink) → Simulated app lu t → t.link.lost ≡ false → (pool : List Entry) → IsSound pool → (up : List ToHost) → t.link.up ≡ up → (came_up pool up t).link.lost ≡ false
+  up_alive : (t : LinkWithReport) → Simulated app lu t → t.link.lost ≡ false → (pool : List Entry) → IsSound pool → (up : List ToHost) → t.link.up ≡ up → (came_up pool up t).link.lost ≡ false
   up_alive t s alive pool sound [] e = alive
   up_alive t s alive pool sound (message ∷ rest) e =
       let step : HostStep = host_took (answer_to pool) t.link.host message in
       ap (λ (c : Option Cause). (host_left_if c (record t.link { up = rest; host = step.conn; down = sent t.link.lost t.link.down step.sends })).lost)
       (hears_now given app is sizes lu t s pool sound message rest e) ∙ alive
 
-  down_alive : (t : ReportedLink) → Simulated app lu t → t.link.lost ≡ false → (down : List ToTerminal) → t.link.down ≡ down → (moved app Move.Down t).link.lost ≡ false
+  down_alive : (t : LinkWithReport) → Simulated app lu t → t.link.lost ≡ false → (down : List ToTerminal) → t.link.down ≡ down → (moved app Move.Down t).link.lost ≡ false
   down_alive t s alive [] e = ap (λ (d : List ToTerminal). (came_down d t).link.lost) e ∙ alive
   down_alive t s alive (message ∷ rest) e =
       let step : TermStep = took t.link.term message in
@@ -513,7 +515,7 @@ module _ (given : LowerLaws) (app : Application) (is : IsApplication app) (sizes
   operated_closes end step (Operates.edits keyboard cells cursor erases held on is) = ap (λ (s : TermStep). s.closes) is
   operated_closes end step (Operates.sends keyboard aid some is) = ap (λ (s : TermStep). s.closes) is
 
-  alive_still : (move : Move) (t : ReportedLink) → Simulated app lu t → t.link.lost ≡ false → IsByTheRules move t → IsWellFormedMove move → (moved app move t).link.lost ≡ false
+  alive_still : (move : Move) (t : LinkWithReport) → Simulated app lu t → t.link.lost ≡ false → IsByTheRules move t → IsWellFormedMove move → (moved app move t).link.lost ≡ false
   alive_still (Move.Up pool) t s alive rules typed = up_alive t s alive pool rules t.link.up refl
   alive_still Move.Down t s alive rules typed = down_alive t s alive t.link.down refl
   alive_still Move.Act t s alive rules typed = sent_alive (acted app t.link.host) t.link alive
@@ -525,7 +527,7 @@ module _ (given : LowerLaws) (app : Application) (is : IsApplication app) (sizes
 
   -- ---- each move
 
-  move_leads : (move : Move) (t : ReportedLink) → Simulated app lu t → Leads t → t.link.lost ≡ false → IsByTheRules move t → IsWellFormedMove move → Leads (moved app move t)
+  move_leads : (move : Move) (t : LinkWithReport) → Simulated app lu t → KeysStartWithAddress t → t.link.lost ≡ false → IsByTheRules move t → IsWellFormedMove move → KeysStartWithAddress (moved app move t)
   move_leads (Move.Up pool) t s l alive rules typed = up_leads t l pool t.link.up refl
   move_leads Move.Down t s l alive rules typed = down_leads t s l alive t.link.down refl
   move_leads Move.Act t s l alive rules typed =
@@ -546,52 +548,53 @@ prefix_none (ToHost.TalksUp saying ∷ queue) vanished none = prefix_none queue 
 prefix_none (ToHost.Response number verdict ∷ queue) vanished none = none
 
 -- no response comes from the waiting terminal
-none_responds : (app : Application) (link : Link) → Kept app (view_of link) → form_awaited link.host.pending ≡ Buffer → has_response link.up ≡ false
+none_responds : (app : Application) (link : Link) → ConnectionInvariant app (view_of link) → form_awaited link.host.pending ≡ Buffer → has_response link.up ≡ false
 none_responds app link k reads = prefix_none link.up k.at.goes_up.vanished (ap has_response k.at.goes_up.whole ∙ by_moment k.moment (sym (ap form_awaited k.at.pending) ∙ reads))
   where
-    by_serving : (lu : List ℕ) (serving : Serving) → form_awaited (pending_at (LinkPhase.Serves lu serving)) ≡ Buffer → has_response (up_at link.term.display.model k.wanted (LinkPhase.Serves lu serving)) ≡ false
-    by_serving lu (Serving.Reading number) reads = refl
-    by_serving lu (Serving.Reported number parts) reads = refl
-    by_serving lu Serving.Deciding reads = refl
-    by_serving lu (Serving.NotedLate number command) reads = refl
-    by_serving lu (Serving.AnsweredLate number command) reads = absurd (modified_only reads)
-    by_serving lu (Serving.Painting number command wanted over) reads = refl
-    by_serving lu (Serving.Answering kind number command) reads = absurd (no_read kind number command reads)
-    by_serving lu Serving.Operating reads = refl
-    by_serving lu (Serving.Noting number command) reads = refl
-    by_serving lu (Serving.KeyAlone parts) reads = refl
-    by_serving lu (Serving.KeyBehind kind number command parts) reads = absurd (no_read kind number command reads)
-    by_serving lu (Serving.KeyNoted number command parts) reads = refl
-    by_serving lu (Serving.KeyBefore number command parts) reads = absurd (modified_only reads)
+    by_serving : (lu : List ℕ) (serving : SessionPhase) → form_awaited (pending_at (LinkPhase.InSession lu serving)) ≡ Buffer → has_response (up_at link.term.display.model k.wanted (LinkPhase.InSession lu serving)) ≡ false
+    by_serving lu (SessionPhase.Reading number) reads = refl
+    by_serving lu (SessionPhase.BufferReturning number parts) reads = refl
+    by_serving lu SessionPhase.Deciding reads = refl
+    by_serving lu (SessionPhase.DecidingNoteSent number command) reads = refl
+    by_serving lu (SessionPhase.DecidingNoteAnswered number command) reads = absurd (modified_only reads)
+    by_serving lu (SessionPhase.Painting number command wanted over) reads = refl
+    by_serving lu (SessionPhase.AwaitingWriteResponse kind number command) reads = absurd (no_read kind number command reads)
+    by_serving lu SessionPhase.OperatorTyping reads = refl
+    by_serving lu (SessionPhase.Noting number command) reads = refl
+    by_serving lu (SessionPhase.KeySent parts) reads = refl
+    by_serving lu (SessionPhase.KeySentAfterResponse kind number command parts) reads = absurd (no_read kind number command reads)
+    by_serving lu (SessionPhase.KeyCrossingNote number command parts) reads = refl
+    by_serving lu (SessionPhase.KeyBeforeNoteResponse number command parts) reads = absurd (modified_only reads)
 
     by_moment : (moment : LinkPhase) → form_awaited (pending_at moment) ≡ Buffer → has_response (up_at link.term.display.model k.wanted moment) ≡ false
-    by_moment (LinkPhase.Talks talking) reads = absurd (modified_only reads)
-    by_moment (LinkPhase.Begins lu number command wanted over) reads = refl
-    by_moment (LinkPhase.Serves lu serving) reads = by_serving lu serving reads
+    by_moment (LinkPhase.Negotiating talking) reads = absurd (modified_only reads)
+    by_moment (LinkPhase.FirstPaint lu number command wanted over) reads = refl
+    by_moment (LinkPhase.InSession lu serving) reads = by_serving lu serving reads
 
-pub record IsLed (t : ReportedLink) : Type 0 where
-  pub leads : Leads t
+-- so, and the connection isn't lost
+pub record IsOpenAddressFirst (t : LinkWithReport) : Type 0 where
+  pub leads : KeysStartWithAddress t
   pub alive : t.link.lost ≡ false
 
 module _ (given : LowerLaws) (app : Application) (is : IsApplication app) (sizes : HasTheSizes app) (lu : List ℕ) where
-  no_lead_now : (t : ReportedLink) (s : Simulated app lu t) → IsLed t → (parts : InboundParts) (others : List ToHost) → t.link.up ≡ ToHost.Data parts ∷ others → parts.form ≡ Modified
-      → form_awaited t.link.host.pending ≡ Buffer → HasNoLead parts.parts
+  no_lead_now : (t : LinkWithReport) (s : Simulated app lu t) → IsOpenAddressFirst t → (parts : InboundParts) (others : List ToHost) → t.link.up ≡ ToHost.Data parts ∷ others → parts.form ≡ Modified
+      → form_awaited t.link.host.pending ≡ Buffer → HasNoLeadingText parts.parts
   no_lead_now t s q parts others e form reads =
       let Bare : Type 0 = fields t.told.screen.cells ≡ [] in
       let reads_told : form_awaited s.told.host.pending ≡ Buffer = sym (ap (λ (c : Session). form_awaited c.pending) s.simulates.host) ∙ reads in
       let none : has_response others ≡ false =
       extras_respond s.told.host.turn s.told.host.pending s.told.up (ToHost.Data parts ∷ others)
-      (subst (λ (up : List ToHost). Extras s.told.host.turn s.told.host.pending s.told.up up) e s.simulates.up) (none_responds app s.told s.kept reads_told) in
-      first_lead Bare (ToHost.Data parts) others (subst (AreLeads Bare) e q.leads.queue) none
+      (subst (λ (up : List ToHost). AddsSecondKeys s.told.host.turn s.told.host.pending s.told.up up) e s.simulates.up) (none_responds app s.told s.kept reads_told) in
+      first_lead Bare (ToHost.Data parts) others (subst (AddressesComeFirst Bare) e q.leads.queue) none
       (λ bare. has_fields given app is s.told s.kept (λ agreement. q.leads.asked reads (ap (λ (c : Session). c.turn_reason) s.simulates.host ∙ agreement)) reads_told
       (subst (λ (d : Display). fields d.screen.cells ≡ []) (sym s.display) bare)) form
 
-  pub leads_are_kept : LeadsAreKept app lu IsLed
+  pub leads_are_kept : KeepsAddressFirst app lu IsOpenAddressFirst
   leads_are_kept = record {
     begins = λ t b alive. record {
       leads = record {
         asked = λ reads e. modified_only (sym (ap (λ (c : Session). form_awaited c.pending) b.host) ∙ reads);
-        queue = subst (AreLeads (fields t.told.screen.cells ≡ [])) (sym b.nothing_up) tt;
+        queue = subst (AddressesComeFirst (fields t.told.screen.cells ≡ [])) (sym b.nothing_up) tt;
       };
       alive = alive;
     };
@@ -604,4 +607,4 @@ module _ (given : LowerLaws) (app : Application) (is : IsApplication app) (sizes
 
 -- So the theorem holds.
 pub every_terminal_over_bytes : AnyLaws → EveryTerminalOverBytes
-every_terminal_over_bytes laws = leads_suffice laws (λ app lu. IsLed) (λ app lu is sizes. leads_are_kept laws.given app is sizes lu)
+every_terminal_over_bytes laws = address_first_suffices laws (λ app lu. IsOpenAddressFirst) (λ app lu is sizes. leads_are_kept laws.given app is sizes lu)

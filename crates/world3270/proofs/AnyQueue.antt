@@ -1,22 +1,22 @@
 -- What comes up next to the host of a terminal that keeps the rules may come: it is what the waiting terminal says, or a
 -- second key, of the size by which the host reads it. What is still asked for is that a second key's data can't be taken
--- for a read's answer (`LeadsAreKept`).
+-- for a read's answer (`KeepsAddressFirst`).
 use Rattle.std.proofs.Common.{◌≡◌, ◌⊎◌, inl, inr, ◌&&◌, ◌≤◌, ◌++◌, ℕ, Bool, true, false, Option, None, Some, List, [], ◌∷◌, arith, map, refl, ap, sym, subst, ◌∙◌, if◌then◌else◌}
 use Rattle.std.specs.Prelude.{⊤, All}
 use Rattle.std.specs.Option.{option_and_then}
 use Rattle.std.proofs.lemmas.List.Elements.{All-cons, All-head, All-map, All-nil, All-tail}
-use Rattle.codes3270.specs.Size.{Shape, alternate_of, cells_in, model_2}
+use Rattle.codes3270.specs.Size.{ScreenSize, alternate_of, cells_in, model_2}
 use Rattle.codes3270.specs.declared.attention.Aid.{Aid}
 use Rattle.codes3270.specs.declared.size.Model.{Model}
 use Rattle.codes3270.specs.declared.size.Model.TheVariants.{M2, M3, M4, M5}
-use Rattle.datastream.specs.InboundFields.{buffer_data, lead_of, parts_of_fields, returned_of}
+use Rattle.datastream.specs.InboundFields.{buffer_data, leading_text_of, parts_of_fields, returned_of}
 use Rattle.datastream.specs.InboundText.{InboundParts, stands_alone}
 use Rattle.datastream.specs.Screen.{Screen}
 use Rattle.datastream.specs.declared.inbound_part.Form.TheVariants.{Buffer, Modified}
 use Rattle.keyboard.specs.declared.key.Pressed.TheVariants.{Send}
 use Rattle.lu_pool.specs.Asking.{answer_to}
 use Rattle.lu_pool.specs.declared.entry.Entry.{Entry}
-use Rattle.tn3270e_msg.specs.Talk.{Saying}
+use Rattle.tn3270e_msg.specs.Talk.{NegotiationMessage}
 use Rattle.tn3270e_msg.specs.declared.cause.Cause.{Cause}
 use Rattle.host_core.specs.Acts.{Act, Decision, Sent, acted, decided, decision_on, done, may_act}
 use Rattle.host_core.specs.Application.{Application, IsApplication, IsSizeOf, application_of}
@@ -29,23 +29,23 @@ use Rattle.host_core.specs.Takes.{Answers, HostStep, dropping, form_awaited, may
 use Rattle.host_core.specs.declared.question.Answer.{Answer as ApplicationAnswer}
 use Rattle.host_core.specs.declared.turn.Turn.{Turn}
 use Rattle.host_core.specs.declared.turn.Turn.TheVariants as whose
-use Rattle.world3270.specs.statement.EveryTerminal.{Begins, IsByTheRules, Move, ReportedLink, came_down, came_up, moved}
+use Rattle.world3270.specs.statement.EveryTerminal.{FirstPaint, IsByTheRules, Move, LinkWithReport, came_down, came_up, moved}
 use Rattle.world3270.specs.statement.EveryTerminalBytes.{EveryTerminalOverBytes}
 use Rattle.world3270.specs.statement.Forms.{IsAwaitedBy}
 use Rattle.world3270.specs.refinement.LowerLaws.{LowerLaws}
 use Rattle.world3270.specs.model.Link.{Link, host_left_if, host_sent, sent, term_left_if}
-use Rattle.world3270.specs.refinement.Phases.{IsAt, IsHostIn, LinkPhase, Serving, Talking, UnderWay, pending_at, served_up, talk_up, up_at}
-use Rattle.world3270.specs.refinement.Readings.{HasNoLead, IsSecondKeyIn, MayComeUp}
+use Rattle.world3270.specs.refinement.Phases.{IsAt, IsHostIn, LinkPhase, SessionPhase, NegotiationPhase, IsInFlight, pending_at, served_up, talk_up, up_at}
+use Rattle.world3270.specs.refinement.Readings.{HasNoLeadingText, IsSecondKeyIn, MayBeSent}
 use Rattle.world3270.specs.statement.Rules.{Operates, with_aid}
 use Rattle.world3270.specs.refinement.Sizes.{is_painting}
-use Rattle.world3270.specs.refinement.Invariant.{Kept, may_differ_at}
+use Rattle.world3270.specs.refinement.Invariant.{ConnectionInvariant, may_differ_at}
 use Rattle.world3270.specs.refinement.RepresentsLinks.{HasTheSizes, NoneCloses}
 use Rattle.world3270.specs.model.Terminal.{Display, TermEnd, TermStep, data_of, is_bound, once_bound, took}
 use Rattle.world3270.specs.refinement.View.{view_of}
 use Rattle.world3270.proofs.Acting.{asking_parts, may_act_when, model_here}
 use Rattle.world3270.proofs.AnyEvery.{AnyLaws, QueueIsKept, over_bytes}
 use Rattle.world3270.proofs.AnyReady.{all_may_now, same_now}
-use Rattle.world3270.proofs.AnySpelt.{IsTexts}
+use Rattle.world3270.proofs.AnySpelt.{HasSendableContent}
 use Rattle.world3270.proofs.AnyTerminal.{IsWellFormedMove, came_one}
 use Rattle.world3270.proofs.Down.{shape_of_model}
 use Rattle.world3270.proofs.Forms.{awaited}
@@ -53,7 +53,7 @@ use Rattle.world3270.proofs.HeardTurns.{goes_on as heard_goes_on}
 use Rattle.world3270.proofs.HostSteps.{just_talks}
 use Rattle.world3270.proofs.Known.{the_sizes}
 use Rattle.world3270.proofs.Queues.{front, nothing}
-use Rattle.world3270.proofs.SecondKeys.{Extras, IsSecondKey, is_dropping, pending_after, second_key_dropped, unless_read}
+use Rattle.world3270.proofs.SecondKeys.{AddsSecondKeys, IsSecondKey, is_dropping, pending_after, second_key_dropped, unless_read}
 use Rattle.world3270.proofs.SimulatedHost.{may_note_when, nothing_up}
 use Rattle.world3270.proofs.Simulation.{Simulated, agrees_now}
 use Rattle.world3270.proofs.TalkStates.{agreed_there}
@@ -67,53 +67,53 @@ NoTalkFirst (ToHost.TalksUp saying ∷ messages) = ⊥
 NoTalkFirst (ToHost.Data parts ∷ messages) = ⊤
 NoTalkFirst (ToHost.Response number verdict ∷ messages) = ⊤
 
-served_first : (serving : Serving) → NoTalkFirst (served_up serving)
-served_first Serving.Deciding = tt
-served_first (Serving.Reading number) = tt
-served_first (Serving.Reported number parts) = tt
-served_first (Serving.NotedLate number command) = tt
-served_first (Serving.AnsweredLate number command) = tt
-served_first (Serving.Painting number command wanted over) = tt
-served_first (Serving.Answering kind number command) = tt
-served_first Serving.Operating = tt
-served_first (Serving.Noting number command) = tt
-served_first (Serving.KeyAlone parts) = tt
-served_first (Serving.KeyBehind kind number command parts) = tt
-served_first (Serving.KeyNoted number command parts) = tt
-served_first (Serving.KeyBefore number command parts) = tt
+served_first : (serving : SessionPhase) → NoTalkFirst (served_up serving)
+served_first SessionPhase.Deciding = tt
+served_first (SessionPhase.Reading number) = tt
+served_first (SessionPhase.BufferReturning number parts) = tt
+served_first (SessionPhase.DecidingNoteSent number command) = tt
+served_first (SessionPhase.DecidingNoteAnswered number command) = tt
+served_first (SessionPhase.Painting number command wanted over) = tt
+served_first (SessionPhase.AwaitingWriteResponse kind number command) = tt
+served_first SessionPhase.OperatorTyping = tt
+served_first (SessionPhase.Noting number command) = tt
+served_first (SessionPhase.KeySent parts) = tt
+served_first (SessionPhase.KeySentAfterResponse kind number command parts) = tt
+served_first (SessionPhase.KeyCrossingNote number command parts) = tt
+served_first (SessionPhase.KeyBeforeNoteResponse number command parts) = tt
 
-not_first : (lost : Bool) (queue messages : List ToHost) (saying : Saying) (rest : List ToHost) → queue ≡ ToHost.TalksUp saying ∷ rest → UnderWay lost queue messages → NoTalkFirst messages → ⊥
+not_first : (lost : Bool) (queue messages : List ToHost) (saying : NegotiationMessage) (rest : List ToHost) → queue ≡ ToHost.TalksUp saying ∷ rest → IsInFlight lost queue messages → NoTalkFirst messages → ⊥
 not_first lost queue [] saying rest e under none = nothing lost queue (ToHost.TalksUp saying) rest e under
 not_first lost queue (message ∷ messages) saying rest e under none =
     subst (λ (m : ToHost). NoTalkFirst (m ∷ messages)) (sym (front lost queue (ToHost.TalksUp saying) rest message messages e under).0) none
 
-no_talk : (app : Application) (lu : List ℕ) (t : ReportedLink) (s : Simulated app lu t) (saying : Saying) (rest : List ToHost) → s.told.up ≡ ToHost.TalksUp saying ∷ rest → ⊥
+no_talk : (app : Application) (lu : List ℕ) (t : LinkWithReport) (s : Simulated app lu t) (saying : NegotiationMessage) (rest : List ToHost) → s.told.up ≡ ToHost.TalksUp saying ∷ rest → ⊥
 no_talk app lu t s saying rest e = not_first s.told.lost s.told.up (up_at model s.kept.wanted s.kept.moment) saying rest e s.kept.at.goes_up (by_moment s.kept.moment s.kept.at)
   where
     model : Model
     model = s.told.term.display.model
 
     by_moment : (moment : LinkPhase) → IsAt (view_of s.told) s.kept.wanted moment → NoTalkFirst (up_at model s.kept.wanted moment)
-    by_moment (LinkPhase.Talks talking) at =
-        subst (λ (now : Talking). NoTalkFirst (talk_up model s.kept.wanted now)) (sym (agreed_there model talking s.told.host.talk at.host_talk (agrees_now s)).1) tt
-    by_moment (LinkPhase.Begins lu number command wanted over) at = tt
-    by_moment (LinkPhase.Serves lu serving) at = served_first serving
+    by_moment (LinkPhase.Negotiating talking) at =
+        subst (λ (now : NegotiationPhase). NoTalkFirst (talk_up model s.kept.wanted now)) (sym (agreed_there model talking s.told.host.talk at.host_talk (agrees_now s)).1) tt
+    by_moment (LinkPhase.FirstPaint lu number command wanted over) at = tt
+    by_moment (LinkPhase.InSession lu serving) at = served_first serving
 
 -- ---- the size of what is queued
 
 -- what the data of a message is about: a screen of this size
-abbrev pub HasThatSize : Shape → ToHost → Type 0
+abbrev pub HasThatSize : ScreenSize → ToHost → Type 0
 HasThatSize size (ToHost.Data parts) = parts.size ≡ size
 HasThatSize size (ToHost.TalksUp saying) = ⊤
 HasThatSize size (ToHost.Response number verdict) = ⊤
 
-abbrev pub IsSizedIf : Application → Model → Bool → Shape → Shape → Type 0
+abbrev pub IsSizedIf : Application → Model → Bool → ScreenSize → ScreenSize → Type 0
 IsSizedIf app model true now size = IsSizeOf app model size
 IsSizedIf app model false now size = size ≡ now
 
 -- Data has the size that the host set last. Only while a paint waits for its answer, data before that answer may have
 -- another size of the model.
-abbrev pub AreSized : Application → Model → Bool → Shape → List ToHost → Type 0
+abbrev pub AreSized : Application → Model → Bool → ScreenSize → List ToHost → Type 0
 AreSized app model painting now [] = ⊤
 AreSized app model painting now (ToHost.Data parts ∷ up) = IsSizedIf app model painting now parts.size × AreSized app model painting now up
 AreSized app model painting now (ToHost.Response number verdict ∷ up) = AreSized app model false now up
@@ -131,8 +131,8 @@ IsDataOnly (ToHost.Data parts ∷ up) = IsDataOnly up
 IsDataOnly (ToHost.Response number verdict ∷ up) = ⊥
 IsDataOnly (ToHost.TalksUp saying ∷ up) = ⊥
 
-module _ (app : Application) (model : Model) (now : Shape) where
-  sized_if : (painting : Bool) (size : Shape) → IsSizeOf app model now → size ≡ now → IsSizedIf app model painting now size
+module _ (app : Application) (model : Model) (now : ScreenSize) where
+  sized_if : (painting : Bool) (size : ScreenSize) → IsSizeOf app model now → size ≡ now → IsSizedIf app model painting now size
   sized_if true size is same = subst (IsSizeOf app model) (sym same) is
   sized_if false size is same = same
 
@@ -158,7 +158,7 @@ module _ (app : Application) (model : Model) (now : Shape) where
   more_before (ToHost.TalksUp saying ∷ up) more only sized after = absurd only
 
   -- the host paints, in whatever size
-  once_painting : (next : Shape) (up : List ToHost) → IsDataOnly up → IsSizeOf app model now → AreSized app model false now up → AreSized app model true next up
+  once_painting : (next : ScreenSize) (up : List ToHost) → IsDataOnly up → IsSizeOf app model now → AreSized app model false now up → AreSized app model true next up
   once_painting next [] only is sized = tt
   once_painting next (ToHost.Data parts ∷ up) only is sized = (subst (IsSizeOf app model) (sym sized.0) is, once_painting next up only is sized.1)
   once_painting next (ToHost.Response number verdict ∷ up) only is sized = absurd only
@@ -181,7 +181,7 @@ module _ (app : Application) (model : Model) (now : Shape) where
   dropped_sized painting message up second sized = (subst (λ (m : ToHost). AreSized app model painting now (m ∷ up)) second.is sized).1
 
 -- second keys are data
-data_only : (turn : Turn) (pending : Pending) (up : List ToHost) → Extras turn pending [] up → IsDataOnly up
+data_only : (turn : Turn) (pending : Pending) (up : List ToHost) → AddsSecondKeys turn pending [] up → IsDataOnly up
 data_only turn pending [] x = tt
 data_only turn pending (message ∷ up) (inl x) = subst (λ (m : ToHost). IsDataOnly (m ∷ up)) (sym x.1.is) (data_only turn pending up x.2)
 data_only turn pending (message ∷ up) (inr x) = absurd (let some = x.1 in cc)
@@ -193,19 +193,19 @@ none_queued (message ∷ queue) vanished is = absurd (cc)
 -- ---- what the terminal sends
 
 -- all of it has the size of its screen, whether or not a paint waits for its answer
-record SendsSized (app : Application) (model : Model) (now size : Shape) (sends : List ToHost) : Type 0 where
+record SendsSized (app : Application) (model : Model) (now size : ScreenSize) (sends : List ToHost) : Type 0 where
   all : All (HasThatSize size) sends
   before : AreSized app model true now sends
 
-module _ (app : Application) (model : Model) (now size : Shape) (is : IsSizeOf app model size) where
+module _ (app : Application) (model : Model) (now size : ScreenSize) (is : IsSizeOf app model size) where
   nothing_sized : SendsSized app model now size []
   nothing_sized = record { all = All-nil (HasThatSize size); before = tt }
 
-  talk_before : (sayings : List Saying) → AreSized app model true now (map ToHost.TalksUp sayings)
+  talk_before : (sayings : List NegotiationMessage) → AreSized app model true now (map ToHost.TalksUp sayings)
   talk_before [] = tt
   talk_before (saying ∷ sayings) = talk_before sayings
 
-  talk_sized : (sayings : List Saying) → SendsSized app model now size (map ToHost.TalksUp sayings)
+  talk_sized : (sayings : List NegotiationMessage) → SendsSized app model now size (map ToHost.TalksUp sayings)
   talk_sized sayings = record { all = All-map (HasThatSize size) ToHost.TalksUp sayings (λ k d below. tt); before = talk_before sayings }
 
   data_sized : (parts : InboundParts) → parts.size ≡ size → SendsSized app model now size (ToHost.Data parts ∷ [])
@@ -231,7 +231,7 @@ module _ (app : Application) (model : Model) (now size : Shape) (is : IsSizeOf a
   key_sized true aid screen = by_test (stands_alone Modified screen.aid)
     where
       long : InboundParts
-      long = record { form = Modified; size = size; aid = screen.aid; cursor = Some screen.cursor; parts = parts_of_fields (lead_of screen.cells) (returned_of screen.cells) }
+      long = record { form = Modified; size = size; aid = screen.aid; cursor = Some screen.cursor; parts = parts_of_fields (leading_text_of screen.cells) (returned_of screen.cells) }
 
       by_test : (b : Bool) → SendsSized app model now size (ToHost.Data (if b then record { form = Modified; size = size; aid = screen.aid; cursor = None; parts = [] } else long) ∷ [])
       by_test true = data_sized (record { form = Modified; size = size; aid = screen.aid; cursor = None; parts = [] }) refl
@@ -244,7 +244,7 @@ module _ (app : Application) (model : Model) (now size : Shape) (is : IsSizeOf a
       (subst (λ (s : TermStep). SendsSized app model now size s.sends) (sym is) nothing_sized, ap (λ (s : TermStep). s.end.display.model) is)
   operates_sized end step (Operates.sends keyboard aid some is) same = (
     subst (λ (s : TermStep). SendsSized app model now size s.sends) (sym is)
-        (subst (λ (shape : Shape). SendsSized app model now size (data_of (is_bound end) (Send aid) shape (with_aid aid end.display.screen))) (sym same) (key_sized (is_bound end) aid (with_aid aid end.display.screen))),
+        (subst (λ (shape : ScreenSize). SendsSized app model now size (data_of (is_bound end) (Send aid) shape (with_aid aid end.display.screen))) (sym same) (key_sized (is_bound end) aid (with_aid aid end.display.screen))),
     ap (λ (s : TermStep). s.end.display.model) is,
   )
 
@@ -275,25 +275,25 @@ record Differs (model : Model) (wanted : Option (List ℕ)) (moment : LinkPhase)
   none : up_at model wanted moment ≡ []
 
 differs_at : (model : Model) (wanted : Option (List ℕ)) (moment : LinkPhase) → may_differ_at moment ≡ true → Differs model wanted moment
-differs_at model wanted (LinkPhase.Talks talking) is = absurd (cc)
-differs_at model wanted (LinkPhase.Begins lu number command paints over) is = record { paints = refl; none = refl }
-differs_at model wanted (LinkPhase.Serves lu Serving.Deciding) is = absurd (cc)
-differs_at model wanted (LinkPhase.Serves lu (Serving.Reading number)) is = absurd (cc)
-differs_at model wanted (LinkPhase.Serves lu (Serving.Reported number parts)) is = absurd (cc)
-differs_at model wanted (LinkPhase.Serves lu (Serving.NotedLate number command)) is = absurd (cc)
-differs_at model wanted (LinkPhase.Serves lu (Serving.AnsweredLate number command)) is = absurd (cc)
-differs_at model wanted (LinkPhase.Serves lu (Serving.Painting number command paints over)) is = record { paints = refl; none = refl }
-differs_at model wanted (LinkPhase.Serves lu (Serving.Answering kind number command)) is = absurd (cc)
-differs_at model wanted (LinkPhase.Serves lu Serving.Operating) is = absurd (cc)
-differs_at model wanted (LinkPhase.Serves lu (Serving.Noting number command)) is = absurd (cc)
-differs_at model wanted (LinkPhase.Serves lu (Serving.KeyAlone parts)) is = absurd (cc)
-differs_at model wanted (LinkPhase.Serves lu (Serving.KeyBehind kind number command parts)) is = absurd (cc)
-differs_at model wanted (LinkPhase.Serves lu (Serving.KeyNoted number command parts)) is = absurd (cc)
-differs_at model wanted (LinkPhase.Serves lu (Serving.KeyBefore number command parts)) is = absurd (cc)
+differs_at model wanted (LinkPhase.Negotiating talking) is = absurd (cc)
+differs_at model wanted (LinkPhase.FirstPaint lu number command paints over) is = record { paints = refl; none = refl }
+differs_at model wanted (LinkPhase.InSession lu SessionPhase.Deciding) is = absurd (cc)
+differs_at model wanted (LinkPhase.InSession lu (SessionPhase.Reading number)) is = absurd (cc)
+differs_at model wanted (LinkPhase.InSession lu (SessionPhase.BufferReturning number parts)) is = absurd (cc)
+differs_at model wanted (LinkPhase.InSession lu (SessionPhase.DecidingNoteSent number command)) is = absurd (cc)
+differs_at model wanted (LinkPhase.InSession lu (SessionPhase.DecidingNoteAnswered number command)) is = absurd (cc)
+differs_at model wanted (LinkPhase.InSession lu (SessionPhase.Painting number command paints over)) is = record { paints = refl; none = refl }
+differs_at model wanted (LinkPhase.InSession lu (SessionPhase.AwaitingWriteResponse kind number command)) is = absurd (cc)
+differs_at model wanted (LinkPhase.InSession lu SessionPhase.OperatorTyping) is = absurd (cc)
+differs_at model wanted (LinkPhase.InSession lu (SessionPhase.Noting number command)) is = absurd (cc)
+differs_at model wanted (LinkPhase.InSession lu (SessionPhase.KeySent parts)) is = absurd (cc)
+differs_at model wanted (LinkPhase.InSession lu (SessionPhase.KeySentAfterResponse kind number command parts)) is = absurd (cc)
+differs_at model wanted (LinkPhase.InSession lu (SessionPhase.KeyCrossingNote number command parts)) is = absurd (cc)
+differs_at model wanted (LinkPhase.InSession lu (SessionPhase.KeyBeforeNoteResponse number command parts)) is = absurd (cc)
 
 -- ---- moves keep it
 
-module _ (given : LowerLaws) (app : Application) (is : IsApplication app) (sizes : HasTheSizes app) (lu : List ℕ) (t : ReportedLink) (s : Simulated app lu t) (z : IsSized app t.link) where
+module _ (given : LowerLaws) (app : Application) (is : IsApplication app) (sizes : HasTheSizes app) (lu : List ℕ) (t : LinkWithReport) (s : Simulated app lu t) (z : IsSized app t.link) where
   -- both screens are sizes of the model
   same_model : s.told.term.display.model ≡ z.model
   same_model = sym (ap (λ (d : Display). d.model) s.simulates.since.rest) ∙ z.model_is
@@ -310,7 +310,7 @@ module _ (given : LowerLaws) (app : Application) (is : IsApplication app) (sizes
 
   -- where a paint is under way, second keys alone are queued
   only_data : s.told.up ≡ [] → IsDataOnly t.link.up
-  only_data none = data_only s.told.host.turn s.told.host.pending t.link.up (subst (λ (told : List ToHost). Extras s.told.host.turn s.told.host.pending told t.link.up) none s.simulates.up)
+  only_data none = data_only s.told.host.turn s.told.host.pending t.link.up (subst (λ (told : List ToHost). AddsSecondKeys s.told.host.turn s.told.host.pending told t.link.up) none s.simulates.up)
 
   paints_now : Differs s.told.term.display.model s.kept.wanted s.kept.moment → is_painting t.link.host.pending ≡ true
   paints_now differs = ap (λ (c : Session). is_painting c.pending) s.simulates.host ∙ ap is_painting s.kept.at.pending ∙ differs.paints
@@ -325,7 +325,7 @@ module _ (given : LowerLaws) (app : Application) (is : IsApplication app) (sizes
       by_moment false same =
           let one : t.link.term.display.size ≡ t.link.host.size =
           ap (λ (d : Display). d.size) s.simulates.since.rest ∙ s.kept.sizes.same same ∙ sym (ap (λ (c : Session). c.size) s.simulates.host) in
-          more_sized app z.model t.link.host.size (is_painting t.link.host.pending) t.link.up sends host_size z.up (subst (λ (size : Shape). All (HasThatSize size) sends) one sized.all)
+          more_sized app z.model t.link.host.size (is_painting t.link.host.pending) t.link.up sends host_size z.up (subst (λ (size : ScreenSize). All (HasThatSize size) sends) one sized.all)
       by_moment true differ =
           let differs = differs_at s.told.term.display.model s.kept.wanted s.kept.moment differ in
           let way = s.kept.at.goes_up in
@@ -385,18 +385,18 @@ module _ (given : LowerLaws) (app : Application) (is : IsApplication app) (sizes
       (host_left_sized app step.closes (record t.link { up = rest; host = step.conn; down = sent t.link.lost t.link.down step.sends }) (record {
         model = z.model;
         model_is = z.model_is;
-        up = subst (λ (size : Shape). AreSized app z.model (is_painting step.conn.pending) size rest) (sym shape)
+        up = subst (λ (size : ScreenSize). AreSized app z.model (is_painting step.conn.pending) size rest) (sym shape)
             (subst (λ (p : Pending). AreSized app z.model (is_painting p) t.link.host.size rest) (sym pending) (heard_sized app z.model t.link.host.size message t.link.host.pending rest sized));
       }))
 
   up_sized : (pool : List Entry) (up : List ToHost) → t.link.up ≡ up → IsSized app (came_up pool up t).link
   up_sized pool [] e = z
-  up_sized pool (message ∷ rest) e = by_extra (subst (Extras s.told.host.turn s.told.host.pending s.told.up) e s.simulates.up)
+  up_sized pool (message ∷ rest) e = by_extra (subst (AddsSecondKeys s.told.host.turn s.told.host.pending s.told.up) e s.simulates.up)
     where
       sized : AreSized app z.model (is_painting t.link.host.pending) t.link.host.size (message ∷ rest)
       sized = subst (AreSized app z.model (is_painting t.link.host.pending) t.link.host.size) e z.up
 
-      by_extra : Extras s.told.host.turn s.told.host.pending s.told.up (message ∷ rest) → IsSized app (came_up pool (message ∷ rest) t).link
+      by_extra : AddsSecondKeys s.told.host.turn s.told.host.pending s.told.up (message ∷ rest) → IsSized app (came_up pool (message ∷ rest) t).link
       by_extra (inl x) = drops_sized (answer_to pool) message rest x.0 x.1 sized
       by_extra (inr x) = hears_sized (answer_to pool) message rest x.0 x.1 sized
 
@@ -472,39 +472,39 @@ base_fits M3 = omega arith
 base_fits M4 = omega arith
 base_fits M5 = omega arith
 
-at_most_alternate : (app : Application) (sizes : HasTheSizes app) (model : Model) (size : Shape) → IsSizeOf app model size → cells_in size ≤ cells_in (alternate_of model)
-at_most_alternate app sizes model size (inl begins) = subst (λ (s : Shape). cells_in s ≤ cells_in (alternate_of model)) (sym (begins ∙ sizes.begins)) (base_fits model)
+at_most_alternate : (app : Application) (sizes : HasTheSizes app) (model : Model) (size : ScreenSize) → IsSizeOf app model size → cells_in size ≤ cells_in (alternate_of model)
+at_most_alternate app sizes model size (inl begins) = subst (λ (s : ScreenSize). cells_in s ≤ cells_in (alternate_of model)) (sym (begins ∙ sizes.begins)) (base_fits model)
 at_most_alternate app sizes model size (inr alternate) =
-    subst (λ (s : Shape). cells_in s ≤ cells_in (alternate_of model)) (sym (alternate ∙ sizes.alternate model)) (no_more (cells_in (alternate_of model)))
+    subst (λ (s : ScreenSize). cells_in s ≤ cells_in (alternate_of model)) (sym (alternate ∙ sizes.alternate model)) (no_more (cells_in (alternate_of model)))
 
 -- once both agreed the host knows the model
-knows_the_model : (app : Application) (link : Link) → Kept app (view_of link) → is_agreed link.host.talk.state ≡ true → model_in link.host ≡ link.term.display.model
+knows_the_model : (app : Application) (link : Link) → ConnectionInvariant app (view_of link) → is_agreed link.host.talk.state ≡ true → model_in link.host ≡ link.term.display.model
 knows_the_model app link k agrees = by_moment k.moment k.at
   where
     by_moment : (moment : LinkPhase) → IsAt (view_of link) k.wanted moment → model_in link.host ≡ link.term.display.model
-    by_moment (LinkPhase.Talks talking) at =
+    by_moment (LinkPhase.Negotiating talking) at =
         let lu = agreed_there link.term.display.model talking link.host.talk at.host_talk agrees in
-        model_here link lu.0 (subst (λ (now : Talking). IsHostIn link.term.display.model now link.host.talk) lu.1 at.host_talk)
-    by_moment (LinkPhase.Begins lu number command wanted over) at = model_here link lu at.host_talk
-    by_moment (LinkPhase.Serves lu serving) at = model_here link lu at.host_talk
+        model_here link lu.0 (subst (λ (now : NegotiationPhase). IsHostIn link.term.display.model now link.host.talk) lu.1 at.host_talk)
+    by_moment (LinkPhase.FirstPaint lu number command wanted over) at = model_here link lu at.host_talk
+    by_moment (LinkPhase.InSession lu serving) at = model_here link lu at.host_talk
 
 -- ---- what is asked of second keys
 
 -- Some property of what comes up holds at agreement, and all typed moves that keep the rules keep it; and by it a key's data that comes while a read
 -- is pending has no characters before the first address.
-pub record LeadsAreKept (app : Application) (lu : List ℕ) (Queued : ReportedLink → Type 0) : Type 0 where
-  pub begins : (t : ReportedLink) → Begins app lu t → t.link.lost ≡ false → Queued t
-  pub goes_on : (move : Move) (t : ReportedLink) → Simulated app lu t → IsTexts t → Queued t → IsByTheRules move t → IsWellFormedMove move → Queued (moved app move t)
-  pub no_lead : (t : ReportedLink) → Simulated app lu t → Queued t → (parts : InboundParts) (others : List ToHost) → t.link.up ≡ ToHost.Data parts ∷ others → parts.form ≡ Modified
-      → form_awaited t.link.host.pending ≡ Buffer → HasNoLead parts.parts
+pub record KeepsAddressFirst (app : Application) (lu : List ℕ) (Queued : LinkWithReport → Type 0) : Type 0 where
+  pub begins : (t : LinkWithReport) → FirstPaint app lu t → t.link.lost ≡ false → Queued t
+  pub goes_on : (move : Move) (t : LinkWithReport) → Simulated app lu t → HasSendableContent t → Queued t → IsByTheRules move t → IsWellFormedMove move → Queued (moved app move t)
+  pub no_lead : (t : LinkWithReport) → Simulated app lu t → Queued t → (parts : InboundParts) (others : List ToHost) → t.link.up ≡ ToHost.Data parts ∷ others → parts.form ≡ Modified
+      → form_awaited t.link.host.pending ≡ Buffer → HasNoLeadingText parts.parts
 
-module _ (given : LowerLaws) (app : Application) (is : IsApplication app) (sizes : HasTheSizes app) (lu : List ℕ) (Queued : ReportedLink → Type 0) (leads : LeadsAreKept app lu Queued) where
-  pub record IsQueued (t : ReportedLink) : Type 0 where
+module _ (given : LowerLaws) (app : Application) (is : IsApplication app) (sizes : HasTheSizes app) (lu : List ℕ) (Queued : LinkWithReport → Type 0) (leads : KeepsAddressFirst app lu Queued) where
+  pub record IsQueued (t : LinkWithReport) : Type 0 where
     pub sized : IsSized app t.link
     pub queued : Queued t
 
   -- a second key's data
-  second_comes : (t : ReportedLink) (s : Simulated app lu t) (q : IsQueued t) (parts : InboundParts) (others : List ToHost) → t.link.up ≡ ToHost.Data parts ∷ others → parts.form ≡ Modified
+  second_comes : (t : LinkWithReport) (s : Simulated app lu t) (q : IsQueued t) (parts : InboundParts) (others : List ToHost) → t.link.up ≡ ToHost.Data parts ∷ others → parts.form ≡ Modified
       → (pending : Pending) → t.link.host.pending ≡ pending → IsAwaitedBy t.link.host parts ⊎ IsSecondKeyIn t.link.host parts
   second_comes t s q parts others e form pending pends = by_pending pending pends
     where
@@ -534,14 +534,14 @@ module _ (given : LowerLaws) (app : Application) (is : IsApplication app) (sizes
       by_pending (Pending.Noting number command) pends = inl (record { form = form ∙ sym (ap form_awaited pends); size = size false (ap is_painting pends) })
       by_pending (Pending.Reading number) pends =
           let same : second_key_size t.link.host t.link.host.pending ≡ parts.size = ap (second_key_size t.link.host) pends ∙ sym (size false (ap is_painting pends)) in
-          inr (second (ap is_paint_or_read pends) (subst (λ (large : Shape). cells_in parts.size ≤ cells_in large) (sym same) (no_more (cells_in parts.size))))
+          inr (second (ap is_paint_or_read pends) (subst (λ (large : ScreenSize). cells_in parts.size ≤ cells_in large) (sym same) (no_more (cells_in parts.size))))
       by_pending (Pending.Writing number command) pends =
           let large : second_key_size t.link.host t.link.host.pending ≡ alternate_of model = ap (second_key_size t.link.host) pends ∙ ap alternate_of knows in
           inr (second (ap is_paint_or_read pends)
-          (subst (λ (shape : Shape). cells_in parts.size ≤ cells_in shape) (sym large) (at_most_alternate app sizes model parts.size (size true (ap is_painting pends)))))
+          (subst (λ (shape : ScreenSize). cells_in parts.size ≤ cells_in shape) (sym large) (at_most_alternate app sizes model parts.size (size true (ap is_painting pends)))))
 
-  comes_next : (t : ReportedLink) (s : Simulated app lu t) (q : IsQueued t) (message : ToHost) (others : List ToHost) → t.link.up ≡ message ∷ others
-      → Extras s.told.host.turn s.told.host.pending s.told.up (message ∷ others) → MayComeUp t.link.host message
+  comes_next : (t : LinkWithReport) (s : Simulated app lu t) (q : IsQueued t) (message : ToHost) (others : List ToHost) → t.link.up ≡ message ∷ others
+      → AddsSecondKeys s.told.host.turn s.told.host.pending s.told.up (message ∷ others) → MayBeSent t.link.host message
   comes_next t s q (ToHost.TalksUp saying) others e (inl x) = absurd (let clash = x.1.is in cc)
   comes_next t s q (ToHost.TalksUp saying) others e (inr x) = absurd (no_talk app lu t s saying x.0 x.1)
   comes_next t s q (ToHost.Response number verdict) others e x = tt
@@ -569,12 +569,12 @@ module _ (given : LowerLaws) (app : Application) (is : IsApplication app) (sizes
       queued = leads.goes_on move t s x q.queued rules typed;
     };
     comes_up = λ t s x q message others e.
-        comes_next t s q message others e (subst (λ (up : List ToHost). Extras s.told.host.turn s.told.host.pending s.told.up up) e s.simulates.up);
+        comes_next t s q message others e (subst (λ (up : List ToHost). AddsSecondKeys s.told.host.turn s.told.host.pending s.told.up up) e s.simulates.up);
   }
 
 -- The theorem, if the leads are kept.
-pub leads_suffice : AnyLaws → (Leads : Application → List ℕ → ReportedLink → Type 0) → ((app : Application) (lu : List ℕ) → IsApplication app → HasTheSizes app → LeadsAreKept app lu (Leads app lu)) → EveryTerminalOverBytes
-leads_suffice laws Leads leads number lu old new states sound begins lead =
+pub address_first_suffices : AnyLaws → (Leads : Application → List ℕ → LinkWithReport → Type 0) → ((app : Application) (lu : List ℕ) → IsApplication app → HasTheSizes app → KeepsAddressFirst app lu (Leads app lu)) → EveryTerminalOverBytes
+address_first_suffices laws Leads leads number lu old new states sound begins lead =
     let app : Application = application_of old.host.panels in
     let is = laws.known.worlds.application old.host.panels sound.otherwise sound.laid_out sound.apart in
     let asks = laws.known.worlds.screens old.host.panels sound.laid_out sound.characters in

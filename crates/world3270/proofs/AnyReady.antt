@@ -1,7 +1,7 @@
 -- What comes down to a terminal that keeps the rules may come, and closes nothing; and what comes up closes nothing: read off the terminal
 -- that waits, from which the host can't tell it.
 use Rattle.std.proofs.Common.{◌≡◌, ℕ, length, Bool, true, false, Option, None, Some, List, [], ◌∷◌, refl, ap, sym, subst, ◌∙◌}
-use Rattle.codes3270.specs.Size.{Shape, cells_in}
+use Rattle.codes3270.specs.Size.{ScreenSize, cells_in}
 use Rattle.datastream.specs.Screen.{Screen}
 use Rattle.keyboard.specs.State.{freed}
 use Rattle.lu_pool.specs.Asking.{answer_to}
@@ -16,7 +16,7 @@ use Rattle.tn3270e_msg.specs.declared.cause.Cause.{Cause}
 use Rattle.host_core.specs.Application.{Application, IsApplication}
 use Rattle.host_core.specs.Messages.{ToHost, ToTerminal, Verdict}
 use Rattle.host_core.specs.Takes.{took as host_took}
-use Rattle.world3270.specs.statement.EveryTerminal.{Move, ReportedLink, came_up, executed, moved}
+use Rattle.world3270.specs.statement.EveryTerminal.{Move, LinkWithReport, came_up, executed, moved}
 use Rattle.world3270.specs.refinement.LowerLaws.{LowerLaws}
 use Rattle.world3270.specs.model.Link.{Link, host_left_if}
 use Rattle.world3270.specs.refinement.RepresentsEnds.{IsOpen, MayCome, NamesWanted}
@@ -49,13 +49,13 @@ stays_here (Some cause) link here = absurd (cc)
 
 module _ (given : LowerLaws) (app : Application) (is : IsApplication app) (sizes : HasTheSizes app) (lu : List ℕ) where
   -- what is painted over allows the screen as it is
-  meets_now : (t : ReportedLink) (s : Simulated app lu t) (number : ℕ) (wanted : WantedScreen) (over : Shadow) (rest : List ToTerminal) → t.link.down ≡ ToTerminal.Paint number wanted over ∷ rest
+  meets_now : (t : LinkWithReport) (s : Simulated app lu t) (number : ℕ) (wanted : WantedScreen) (over : Shadow) (rest : List ToTerminal) → t.link.down ≡ ToTerminal.Paint number wanted over ∷ rest
       → Meets over t.link.term.display.screen
   meets_now t s number wanted over rest e =
       let comes = paint_comes app s.told number wanted over rest (sym s.simulates.down ∙ e) s.kept (agrees_now s) in
       comes.fact.doubts s.any s.simulates.since.erased t.link.term.display.screen s.simulates.since.held
 
-  may_now : (t : ReportedLink) (s : Simulated app lu t) (message : ToTerminal) (rest : List ToTerminal) → t.link.down ≡ message ∷ rest → MayCome s.told.term message → MayCome t.link.term message
+  may_now : (t : LinkWithReport) (s : Simulated app lu t) (message : ToTerminal) (rest : List ToTerminal) → t.link.down ≡ message ∷ rest → MayCome s.told.term message → MayCome t.link.term message
   may_now t s (ToTerminal.TalksDown saying) rest e may = (may.0, subst (λ (talk : Term). NamesWanted talk.talk.state talk.wanted) (sym s.simulates.talk) may.1)
   may_now t s (ToTerminal.Paint number wanted over) rest e may =
       let same = sym s.simulates.since.rest in
@@ -73,12 +73,12 @@ module _ (given : LowerLaws) (app : Application) (is : IsApplication app) (sizes
   }
 
   -- A paint that is executed leaves what is wanted.
-  pub same_now : (t : ReportedLink) (s : Simulated app lu t) (message : ToTerminal) (rest : List ToTerminal) → t.link.down ≡ message ∷ rest → executed t.link.term message ≡ took t.link.term message
+  pub same_now : (t : LinkWithReport) (s : Simulated app lu t) (message : ToTerminal) (rest : List ToTerminal) → t.link.down ≡ message ∷ rest → executed t.link.term message ≡ took t.link.term message
   same_now t s (ToTerminal.TalksDown saying) rest e = refl
   same_now t s (ToTerminal.Paint number wanted over) rest e =
       let end : TermEnd = t.link.term in
       let comes = paint_comes app s.told number wanted over rest (sym s.simulates.down ∙ e) s.kept (agrees_now s) in
-      let cells : length wanted.cells ≡ cells_in wanted.size = comes.fact.paintable.showable.cells ∙ ap (λ (shape : Shape). cells_in shape) (sym comes.fact.paintable.showable.size) in
+      let cells : length wanted.cells ≡ cells_in wanted.size = comes.fact.paintable.showable.cells ∙ ap (λ (shape : ScreenSize). cells_in shape) (sym comes.fact.paintable.showable.size) in
       ap (λ (drawn : Screen). once_bound (is_bound end) (record {
         end = record end {
           display = record end.display { size = wanted.size; screen = drawn; keyboard = freed end.display.keyboard; last_restored = drawn; before_restored = end.display.screen; erased = false };
@@ -91,7 +91,7 @@ module _ (given : LowerLaws) (app : Application) (is : IsApplication app) (sizes
   same_now t s (ToTerminal.Note number command) rest e = refl
 
   -- Each message may come, and closes nothing.
-  pub all_may_now : (messages : List ToTerminal) (t : ReportedLink) → Simulated app lu t → t.link.down ≡ messages → MayComeAll t.link.term messages × NoneCloses t.link.term messages
+  pub all_may_now : (messages : List ToTerminal) (t : LinkWithReport) → Simulated app lu t → t.link.down ≡ messages → MayComeAll t.link.term messages × NoneCloses t.link.term messages
   all_may_now [] t s e = (subst (λ (talk : Term). IsOpen talk.talk.state) (sym s.simulates.talk) (is_open app s.told s.kept), tt)
   all_may_now (message ∷ rest) t s e =
       let down : s.told.down ≡ message ∷ rest = sym s.simulates.down ∙ e in
@@ -107,7 +107,7 @@ module _ (given : LowerLaws) (app : Application) (is : IsApplication app) (sizes
       )
 
   -- The host closes nothing.
-  pub hears_now : (t : ReportedLink) → Simulated app lu t → (pool : List Entry) → IsSoundPool pool → (message : ToHost) (others : List ToHost) → t.link.up ≡ message ∷ others
+  pub hears_now : (t : LinkWithReport) → Simulated app lu t → (pool : List Entry) → IsSoundPool pool → (message : ToHost) (others : List ToHost) → t.link.up ≡ message ∷ others
       → (host_took (answer_to pool) t.link.host message).closes ≡ None
   hears_now t s pool sound message others e =
       let step = host_took (answer_to pool) t.link.host message in

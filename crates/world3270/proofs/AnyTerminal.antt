@@ -26,11 +26,11 @@ use Rattle.host_core.specs.State.{connection_at}
 use Rattle.host_core.specs.Takes.{took as host_took}
 use Rattle.host_core.specs.declared.question.Answer.{Answer as ApplicationAnswer}
 use Rattle.keyboard.specs.State.{Keyboard}
-use Rattle.world3270.specs.statement.EveryTerminal.{AreByTheRules, IsByTheRules, Move, ReportedLink, after_moves, came_down, executed, key_pressed, moved, operated, told_if}
+use Rattle.world3270.specs.statement.EveryTerminal.{AreByTheRules, IsByTheRules, Move, LinkWithReport, after_moves, came_down, executed, key_pressed, moved, operated, told_if}
 use Rattle.world3270.specs.statement.EveryTerminalBytes.{IsDown, IsOperated, OverBytes, Represents, Takes, display_of, displaying, end_of, link_over}
 use Rattle.world3270.specs.model.Link.{Link, sent, term_left_if, term_stepped}
 use Rattle.world3270.specs.model.Enabled.{is_queued}
-use Rattle.world3270.specs.refinement.Readings.{AreReadAs, IsReadAs, MayComeUp}
+use Rattle.world3270.specs.refinement.Readings.{AreReadAs, IsReadAs, MayBeSent}
 use Rattle.world3270.specs.statement.Rules.{Operates}
 use Rattle.world3270.specs.refinement.Sendable.{CanBeSent}
 use Rattle.world3270.specs.refinement.Representation.{with_out}
@@ -40,25 +40,25 @@ use Rattle.world3270.specs.refinement.RepresentsLinks.{MayComeAll, NoneCloses, R
 use Rattle.world3270.specs.model.Terminal.{Display, TermEnd, TermStep, is_bound, once_bound, took}
 use Rattle.world3270.specs.model.TrackedTerminals.{TrackedTerminal}
 use Rattle.world3270.proofs.HostItems.{stands_read}
-use Rattle.world3270.proofs.ItemsSpelt.{Spells}
+use Rattle.world3270.proofs.ItemsSpelt.{IsEncodable}
 use Rattle.world3270.proofs.Represents.{all_heard, written_stand}
 use Rattle.world3270.proofs.RepresentsLinks.{Ran, byte_came, ran_stands}
 
 -- ---- what is known of a connection over messages after moves that keep the rules
 
 -- What comes down may come and closes nothing, and a terminal that executes it makes of it what one in a world does; what comes up may come, and
--- closes nothing; and what the host sends is spelt.
-pub record Ready (app : Application) (t : ReportedLink) : Type 0 where
+-- closes nothing; and what the host sends is encoded.
+pub record Ready (app : Application) (t : LinkWithReport) : Type 0 where
   pub may : MayComeAll t.link.term t.link.down
   pub none : NoneCloses t.link.term t.link.down
   pub same : (message : ToTerminal) (others : List ToTerminal) → t.link.down ≡ message ∷ others → executed t.link.term message ≡ took t.link.term message
-  pub comes_up : (message : ToHost) (others : List ToHost) → t.link.up ≡ message ∷ others → MayComeUp t.link.host message
+  pub comes_up : (message : ToHost) (others : List ToHost) → t.link.up ≡ message ∷ others → MayBeSent t.link.host message
   pub agreed : is_agreed t.link.host.talk.state ≡ true
   pub hears : (pool : List Entry) → IsSoundPool pool → (message : ToHost) (others : List ToHost) → t.link.up ≡ message ∷ others
       → (host_took (answer_to pool) t.link.host message).closes ≡ None
-  pub acts : IfSome (acted app t.link.host) (λ sending. Spells sending.message)
-  pub answers : (said : ApplicationAnswer) → AreTexts said.values → IfSome (answered_on app t.link.host said) (λ sending. Spells sending.message)
-  pub notes : (text : List ℕ) → IsNoteText text → IfSome (noted text t.link.host) (λ sending. Spells sending.message)
+  pub acts : IfSome (acted app t.link.host) (λ sending. IsEncodable sending.message)
+  pub answers : (said : ApplicationAnswer) → AreTexts said.values → IfSome (answered_on app t.link.host said) (λ sending. IsEncodable sending.message)
+  pub notes : (text : List ℕ) → IsNoteText text → IfSome (noted text t.link.host) (λ sending. IsEncodable sending.message)
 
 -- Over bytes there are characters alone: the operator leaves no others, and values are texts. On a lost connection nothing more comes.
 abbrev pub IsWellFormedMove : Move → Type 0
@@ -71,35 +71,35 @@ IsWellFormedMove (Move.Note text) = ⊤
 IsWellFormedMove Move.Lose = ⊥
 
 -- some property has this in it, and all such moves that keep the rules keep it
-pub record IsKept (app : Application) (Good : ReportedLink → Type 0) : Type 0 where
-  pub ready : (t : ReportedLink) → Good t → Ready app t
-  pub goes_on : (move : Move) (t : ReportedLink) → Good t → IsByTheRules move t → IsWellFormedMove move → Good (moved app move t)
+pub record IsKept (app : Application) (Good : LinkWithReport → Type 0) : Type 0 where
+  pub ready : (t : LinkWithReport) → Good t → Ready app t
+  pub goes_on : (move : Move) (t : LinkWithReport) → Good t → IsByTheRules move t → IsWellFormedMove move → Good (moved app move t)
 
 -- ---- what a move over bytes is over messages
 
-pub record Goes (app : Application) (Good : ReportedLink → Type 0) (number : ℕ) (bytes : OverBytes) (t : ReportedLink) : Type 0 where
+pub record Goes (app : Application) (Good : LinkWithReport → Type 0) (number : ℕ) (bytes : OverBytes) (t : LinkWithReport) : Type 0 where
   pub moves : List Move
   pub by_the_rules : AreByTheRules app moves t
   pub represents : Represents number bytes (after_moves app moves t)
   pub good : Good (after_moves app moves t)
 
-abbrev pub stays : (app : Application) (Good : ReportedLink → Type 0) (number : ℕ) (bytes : OverBytes) (t : ReportedLink) → Good t → Represents number bytes t → Goes app Good number bytes t
+abbrev pub stays : (app : Application) (Good : LinkWithReport → Type 0) (number : ℕ) (bytes : OverBytes) (t : LinkWithReport) → Good t → Represents number bytes t → Goes app Good number bytes t
 stays app Good number bytes t good represents = record { moves = []; by_the_rules = tt; represents = represents; good = good }
 
-abbrev pub moves_once : (app : Application) (Good : ReportedLink → Type 0) → IsKept app Good → (number : ℕ) (bytes : OverBytes) (t : ReportedLink) (move : Move) → Good t → IsByTheRules move t → IsWellFormedMove move
+abbrev pub moves_once : (app : Application) (Good : LinkWithReport → Type 0) → IsKept app Good → (number : ℕ) (bytes : OverBytes) (t : LinkWithReport) (move : Move) → Good t → IsByTheRules move t → IsWellFormedMove move
     → Represents number bytes (moved app move t) → Goes app Good number bytes t
 moves_once app Good kept number bytes t move good is typed represents = record { moves = move ∷ []; by_the_rules = (is, tt); represents = represents; good = kept.goes_on move t good is typed }
 
-pub more_moves : (app : Application) (one others : List Move) (t : ReportedLink) → after_moves app (one ++ others) t ≡ after_moves app others (after_moves app one t)
+pub more_moves : (app : Application) (one others : List Move) (t : LinkWithReport) → after_moves app (one ++ others) t ≡ after_moves app others (after_moves app one t)
 more_moves app [] others t = refl
 more_moves app (move ∷ one) others t = more_moves app one others (moved app move t)
 
-pub more_rules : (app : Application) (one others : List Move) (t : ReportedLink) → AreByTheRules app one t → AreByTheRules app others (after_moves app one t) → AreByTheRules app (one ++ others) t
+pub more_rules : (app : Application) (one others : List Move) (t : LinkWithReport) → AreByTheRules app one t → AreByTheRules app others (after_moves app one t) → AreByTheRules app (one ++ others) t
 more_rules app [] others t are behind = behind
 more_rules app (move ∷ one) others t are behind = (are.0, more_rules app one others (moved app move t) are.1 behind)
 
 -- the same moves lead to bytes that are the same
-abbrev pub goes_as : (app : Application) (Good : ReportedLink → Type 0) (number : ℕ) (bytes same : OverBytes) (t : ReportedLink) → same ≡ bytes → Goes app Good number bytes t → Goes app Good number same t
+abbrev pub goes_as : (app : Application) (Good : LinkWithReport → Type 0) (number : ℕ) (bytes same : OverBytes) (t : LinkWithReport) → same ≡ bytes → Goes app Good number bytes t → Goes app Good number same t
 goes_as app Good number bytes same t is goes = record {
   moves = goes.moves;
   by_the_rules = goes.by_the_rules;
@@ -108,19 +108,19 @@ goes_as app Good number bytes same t is goes = record {
 }
 
 -- one after the other
-abbrev pub goes_after : (app : Application) (Good : ReportedLink → Type 0) (number : ℕ) (mid bytes : OverBytes) (t : ReportedLink) → (first : Goes app Good number mid t) → Goes app Good number bytes (after_moves app first.moves t)
+abbrev pub goes_after : (app : Application) (Good : LinkWithReport → Type 0) (number : ℕ) (mid bytes : OverBytes) (t : LinkWithReport) → (first : Goes app Good number mid t) → Goes app Good number bytes (after_moves app first.moves t)
     → Goes app Good number bytes t
 goes_after app Good number mid bytes t first second =
     let whole = sym (more_moves app first.moves second.moves t) in
     record {
       moves = first.moves ++ second.moves;
       by_the_rules = more_rules app first.moves second.moves t first.by_the_rules second.by_the_rules;
-      represents = subst (λ (u : ReportedLink). Represents number bytes u) whole second.represents;
-      good = subst (λ (u : ReportedLink). Good u) whole second.good;
+      represents = subst (λ (u : LinkWithReport). Represents number bytes u) whole second.represents;
+      good = subst (λ (u : LinkWithReport). Good u) whole second.good;
     }
 
 -- by these moves
-pub record GoesBy (app : Application) (Good : ReportedLink → Type 0) (number : ℕ) (bytes : OverBytes) (t : ReportedLink) (those : List Move) : Type 0 where
+pub record GoesBy (app : Application) (Good : LinkWithReport → Type 0) (number : ℕ) (bytes : OverBytes) (t : LinkWithReport) (those : List Move) : Type 0 where
   pub goes : Goes app Good number bytes t
   pub are : goes.moves ≡ those
 
@@ -147,12 +147,12 @@ left_term : (cause : Option Cause) (link : Link) → (term_left_if cause link).t
 left_term None link = refl
 left_term (Some cause) link = refl
 
-told_link_is : (bound : Bool) (message : ToTerminal) (t : ReportedLink) (link : Link) → (told_if bound message t link).link ≡ link
+told_link_is : (bound : Bool) (message : ToTerminal) (t : LinkWithReport) (link : Link) → (told_if bound message t link).link ≡ link
 told_link_is true message t link = refl
 told_link_is false message t link = refl
 
 -- whether a 3278 would wait then
-waits_then : (message : ToTerminal) (t : ReportedLink) (link : Link) → (told_if (is_bound t.link.term) message t link).waits ≡ (if is_painted t.link.term message then false else t.waits)
+waits_then : (message : ToTerminal) (t : LinkWithReport) (link : Link) → (told_if (is_bound t.link.term) message t link).waits ≡ (if is_painted t.link.term message then false else t.waits)
 waits_then message t link = by_message (is_bound t.link.term) message refl
   where
     by_message : (bound : Bool) (message : ToTerminal) → is_bound t.link.term ≡ bound → (told_if bound message t link).waits ≡ (if is_painted t.link.term message then false else t.waits)
@@ -173,13 +173,13 @@ either_paints false true waits = refl
 either_paints false false waits = refl
 
 -- one message came down, which a terminal that executes it takes as one in a world does, and closes nothing
-pub record CameOne (app : Application) (message : ToTerminal) (others : List ToTerminal) (t : ReportedLink) : Type 0 where
+pub record CameOne (app : Application) (message : ToTerminal) (others : List ToTerminal) (t : LinkWithReport) : Type 0 where
   pub link : (moved app Move.Down t).link ≡ term_stepped (took t.link.term message) others t.link
   pub term : (moved app Move.Down t).link.term ≡ (took t.link.term message).end
   pub down : (moved app Move.Down t).link.down ≡ others
   pub waits : (moved app Move.Down t).waits ≡ (if is_painted t.link.term message then false else t.waits)
 
-pub came_one : (app : Application) (message : ToTerminal) (others : List ToTerminal) (t : ReportedLink) → t.link.down ≡ message ∷ others → executed t.link.term message ≡ took t.link.term message
+pub came_one : (app : Application) (message : ToTerminal) (others : List ToTerminal) (t : LinkWithReport) → t.link.down ≡ message ∷ others → executed t.link.term message ≡ took t.link.term message
     → (took t.link.term message).closes ≡ None → CameOne app message others t
 came_one app message others t down same closes =
     let step : TermStep = took t.link.term message in
@@ -187,15 +187,15 @@ came_one app message others t down same closes =
     let next : Link = term_stepped step others t.link in
     let went : moved app Move.Down t ≡ told_if (is_bound t.link.term) message t next =
     ap (λ (d : List ToTerminal). came_down d t) down ∙ ap (λ (s : TermStep). told_if (is_bound t.link.term) message t (term_stepped s others t.link)) same in
-    let link : (moved app Move.Down t).link ≡ next = ap (λ (u : ReportedLink). u.link) went ∙ told_link_is (is_bound t.link.term) message t next in
+    let link : (moved app Move.Down t).link ≡ next = ap (λ (u : LinkWithReport). u.link) went ∙ told_link_is (is_bound t.link.term) message t next in
     record {
       link = link;
       term = ap (λ (l : Link). l.term) link ∙ left_term step.closes stays;
       down = ap (λ (l : Link). l.down) link ∙ ap (λ (c : Option Cause). (term_left_if c stays).down) closes;
-      waits = ap (λ (u : ReportedLink). u.waits) went ∙ waits_then message t next;
+      waits = ap (λ (u : LinkWithReport). u.waits) went ∙ waits_then message t next;
     }
 
-record CameDown (app : Application) (Good : ReportedLink → Type 0) (taken others : List ToTerminal) (t : ReportedLink) : Type 0 where
+record CameDown (app : Application) (Good : LinkWithReport → Type 0) (taken others : List ToTerminal) (t : LinkWithReport) : Type 0 where
   moves : List Move
   downs : All IsDown moves
   by_the_rules : AreByTheRules app moves t
@@ -203,14 +203,14 @@ record CameDown (app : Application) (Good : ReportedLink → Type 0) (taken othe
   waits_is : (after_moves app moves t).waits ≡ (if any_painted t.link.term taken then false else t.waits)
   good : Good (after_moves app moves t)
 
-module _ (app : Application) (Good : ReportedLink → Type 0) (kept : IsKept app Good) where
+module _ (app : Application) (Good : LinkWithReport → Type 0) (kept : IsKept app Good) where
   -- messages come down, one by one
-  all_came : (taken others : List ToTerminal) (t : ReportedLink) → Good t → t.link.down ≡ taken ++ others → CameDown app Good taken others t
+  all_came : (taken others : List ToTerminal) (t : LinkWithReport) → Good t → t.link.down ≡ taken ++ others → CameDown app Good taken others t
   all_came [] others t good down = record { moves = []; downs = All-nil IsDown; by_the_rules = tt; link_is = refl; waits_is = refl; good = good }
   all_came (message ∷ taken) others t good down =
       let ready = kept.ready t good in
       let step : TermStep = took t.link.term message in
-      let mid : ReportedLink = moved app Move.Down t in
+      let mid : LinkWithReport = moved app Move.Down t in
       let one = came_one app message (taken ++ others) t down (ready.same message (taken ++ others) down) (subst (λ (d : List ToTerminal). NoneCloses t.link.term d) down ready.none).0 in
       let more = all_came taken others mid (kept.goes_on Move.Down t good tt tt) one.down in
       record {
@@ -247,7 +247,7 @@ all_waits (message ∷ taken) others link =
     ∙ took_waits link.term message
 
 -- messages came down
-pub record WentDown (app : Application) (Good : ReportedLink → Type 0) (number : ℕ) (bytes : OverBytes) (t : ReportedLink) : Type 0 where
+pub record WentDown (app : Application) (Good : LinkWithReport → Type 0) (number : ℕ) (bytes : OverBytes) (t : LinkWithReport) : Type 0 where
   pub goes : Goes app Good number bytes t
   pub downs : All IsDown goes.moves
 
@@ -261,8 +261,8 @@ pub record TakesLaws : Type 0 where
   pub written : ItemsAreRead
   pub join : RepresentsJoin without_commands IsReadAs
 
-module _ (laws : TakesLaws) (app : Application) (Good : ReportedLink → Type 0) (kept : IsKept app Good) where
-  pub takes_goes : (number : ℕ) (old new : OverBytes) (t : ReportedLink) → Good t → Represents number old t → Takes old new → WentDown app Good number new t
+module _ (laws : TakesLaws) (app : Application) (Good : LinkWithReport → Type 0) (kept : IsKept app Good) where
+  pub takes_goes : (number : ℕ) (old new : OverBytes) (t : LinkWithReport) → Good t → Represents number old t → Takes old new → WentDown app Good number new t
   takes_goes number old new t good is comes =
       let out : List ℕ = (connection_at number old.host).out in
       let link : Link = t.link in
@@ -339,7 +339,7 @@ module _ (laws : TakesLaws) (app : Application) (Good : ReportedLink → Type 0)
   leaves end step (Operates.sends keyboard aid some is) =
       record { closes = ap (λ (s : TermStep). s.closes) is; talk = ap (λ (s : TermStep). s.end.talk) is; waits = ap (λ (s : TermStep). s.end.waits) is }
 
-  pub operates_goes : (number : ℕ) (step : TermStep) (old new : OverBytes) (t : ReportedLink) → Good t → Represents number old t → IsOperated step old new → GoesBy app Good number new t (Move.Operate step ∷ [])
+  pub operates_goes : (number : ℕ) (step : TermStep) (old new : OverBytes) (t : LinkWithReport) → Good t → Represents number old t → IsOperated step old new → GoesBy app Good number new t (Move.Operate step ∷ [])
   operates_goes number step old new t good is does =
       let link : Link = t.link in
       let here : link.term_here ≡ Some 0 = sym is.stands.term_here in
@@ -362,7 +362,7 @@ module _ (laws : TakesLaws) (app : Application) (Good : ReportedLink → Type 0)
         term_here = is.stands.term_here;
         read = is.stands.read;
         up = subst (λ (l : Bool). BytesRepresent without_commands IsReadAs is.stands.read (sent false old.up does.bytes) (sent l link.up step.sends)) lost
-            (laws.join is.stands.read old.up does.bytes link.up step.sends is.stands.up does.spelt);
+            (laws.join is.stands.read old.up does.bytes link.up step.sends is.stands.up does.encoded);
         host = λ there. let host = is.stands.host there in record { host = host.host; rest_is = host.rest_is };
         term = λ which its. record {
           rest = term.rest;
@@ -398,7 +398,7 @@ module _ (laws : TakesLaws) (app : Application) (Good : ReportedLink → Type 0)
 
   -- ---- it sends commands that the host takes as nothing
 
-  pub commands_goes : (number : ℕ) (bytes : List ℕ) (old : OverBytes) (t : ReportedLink) → Good t → Represents number old t → AreReadAs bytes [] → GoesBy app Good number (record old { up = old.up ++ bytes }) t []
+  pub commands_goes : (number : ℕ) (bytes : List ℕ) (old : OverBytes) (t : LinkWithReport) → Good t → Represents number old t → AreReadAs bytes [] → GoesBy app Good number (record old { up = old.up ++ bytes }) t []
   commands_goes number bytes old t good is commands = record {
     goes = stays app Good number (record old { up = old.up ++ bytes }) t good (record {
       is_open = is.is_open;

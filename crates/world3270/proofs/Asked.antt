@@ -38,7 +38,7 @@ use Rattle.world3270.specs.model.Steps.{run}
 use Rattle.world3270.specs.model.Link.{Link}
 use Rattle.world3270.specs.statement.Observation.{TerminalSeen, end_seen}
 use Rattle.world3270.specs.statement.Showing.{ShowsItsPanel}
-use Rattle.world3270.specs.refinement.Invariant.{Kept, IsTextKnown, IsKnownIfRead}
+use Rattle.world3270.specs.refinement.Invariant.{ConnectionInvariant, IsTextKnown, IsKnownIfRead}
 use Rattle.world3270.specs.model.Terminal.{bound_to}
 use Rattle.world3270.specs.statement.TurnReasons.{IsCursorFor, IsOccasion}
 use Rattle.world3270.specs.refinement.Unreturned.{SamePlaces}
@@ -310,7 +310,7 @@ asked_uncleared app conn (turn_reasons.Key pressed buffered) aid occasion asks c
     absurd (let is_clear : is_ask (decision_on app conn (turn_reasons.Key Clear buffered)) ≡ true =
     subst (λ (a : Aid). is_ask (decision_on app conn (turn_reasons.Key a buffered)) ≡ true) (occasion.0 ∙ clear) asks in cc)
 
-pub asked_seen : LowerLaws → (app : Application) → IsApplication app → (link : Link) → Kept app (view_of link) → (number session : ℕ) (question : Question)
+pub asked_seen : LowerLaws → (app : Application) → IsApplication app → (link : Link) → ConnectionInvariant app (view_of link) → (number session : ℕ) (question : Question)
     → question_in app session link.host ≡ Some question → IsSeen (app.fields question.panel) question (end_seen number link.term)
 asked_seen given app is link k number session question asked =
     let there = question_is (is_asking app link.host) (agreed_lu link.host.talk.state) (question_on app session link.host) question asked in
@@ -332,7 +332,7 @@ asked_seen given app is link k number session question asked =
 asked_later : (app : Application) (conn : Session) → is_ask (decision_on app conn conn.turn_reason) ≡ true → conn.turn_reason ≡ turn_reasons.Agreement → ⊥
 asked_later app conn asks agreement = agreed_unasked app conn agreement asks
 
-pub each_asked : LowerLaws → (app : Application) → IsApplication app → ShowsItsFields app → (link : Link) → Kept app (view_of link) → (session : ℕ) (question : Question)
+pub each_asked : LowerLaws → (app : Application) → IsApplication app → ShowsItsFields app → (link : Link) → ConnectionInvariant app (view_of link) → (session : ℕ) (question : Question)
     → question_in app session link.host ≡ Some question → AreFieldsAsked (app.fields question.panel) question link.term.display.screen
 each_asked given app is shows link k session question asked =
     let there = question_is (is_asking app link.host) (agreed_lu link.host.talk.state) (question_on app session link.host) question asked in

@@ -1,7 +1,7 @@
 -- What is asked over bytes is what is asked over the messages that they represent.
 use Rattle.std.proofs.Common.{◌≡◌, ℕ, Bool, true, false, Option, None, Some, refl, ap, sym, subst, ◌∙◌, if◌then◌else◌}
 use Rattle.std.specs.Prelude.{slice_get, unwrap_or}
-use Rattle.codes3270.specs.Size.{Shape}
+use Rattle.codes3270.specs.Size.{ScreenSize}
 use Rattle.panels.specs.KeptFields.{FieldsAreOnTheScreen}
 use Rattle.panels.specs.Panel.{PanelParts, Panels, AreSound, HasItemsApart, HaveNumbersApart, IsLaidOut}
 use Rattle.panels.specs.declared.panel.Field.{Field as PanelField}
@@ -9,13 +9,13 @@ use Rattle.host_core.specs.Application.{Application, IsApplication, application_
 use Rattle.host_core.specs.Laws.{PanelsAreShown}
 use Rattle.host_core.specs.Questions.{question_in, question_of}
 use Rattle.host_core.specs.Session.{Session}
-use Rattle.host_core.specs.State.{Service, service_at, session_at}
+use Rattle.host_core.specs.State.{Service, state_at, session_at}
 use Rattle.host_core.specs.declared.question.Question.{Question}
 use Rattle.world3270.specs.statement.Always.{Always, AlwaysOf}
 use Rattle.world3270.specs.statement.Asked.{AskedIsSeen, AskedIsSeenOverBytes, FieldsAreSeen, IsPanelSeen, IsScreenAsLeft, IsSeen, ScreensAreAsLeft, ShowsItsFields, asked_at, asked_by, row_at}
 use Rattle.world3270.specs.model.ByteWorld.{is_there}
 use Rattle.world3270.specs.model.Link.{Link}
-use Rattle.world3270.specs.refinement.Refines.{Begin, after}
+use Rattle.world3270.specs.refinement.Refines.{WorldSetup, after}
 use Rattle.world3270.specs.statement.Observation.{SeenLink, TerminalSeen, seen_link}
 use Rattle.world3270.specs.statement.ByteObservation.{seen_connection}
 use Rattle.world3270.specs.refinement.Representation.{conn_of, link_of}
@@ -52,7 +52,7 @@ shows_its_fields on_screen set sound = record {
 pub asked_over_bytes : PanelsAreShown → FieldsAreOnTheScreen → AlwaysOf AskedIsSeen → AlwaysOf FieldsAreSeen → Always ScreensAreAsLeft → AskedIsSeenOverBytes
 asked_over_bytes shown on_screen asked each as_left bytes is = record { questions = questions; screens = screens }
   where
-    begin : Begin
+    begin : WorldSetup
     begin = is.begin
 
     app : Application
@@ -70,7 +70,7 @@ asked_over_bytes shown on_screen asked each as_left bytes is = record { question
 
     screens : (number : ℕ) (terminal : TerminalSeen) → (seen_connection number bytes).terminal ≡ Some terminal → IsScreenAsLeft (row_at terminal.number bytes) terminal
     screens number terminal terminal_is =
-        subst (λ (s : Shape). IsScreenAsLeft (message_place s) terminal) (sym (size_seen bytes world is.reached.stands number terminal terminal_is))
+        subst (λ (s : ScreenSize). IsScreenAsLeft (message_place s) terminal) (sym (size_seen bytes world is.reached.stands number terminal terminal_is))
         (as_left app begin.serves begin.pool begin.models is.events is_app is.is_begin.pool is.is_begin.few is.reached.are_events number terminal (seen_there number terminal terminal_is))
 
     questions : (number : ℕ) (question : Question) (terminal : TerminalSeen) → asked_at number bytes ≡ Some question → (seen_connection number bytes).terminal ≡ Some terminal
@@ -79,10 +79,10 @@ asked_over_bytes shown on_screen asked each as_left bytes is = record { question
         let link : Link = world.link number in
         let stands : LinkRepresents (link_of number bytes) link = is.reached.stands.links number in
         let session = session_at number bytes.host in
-        let question_is : question_of app session (service_at number bytes.host) ≡ Some question =
-        ap (λ (p : Panels). question_of (application_of p) session (service_at number bytes.host)) (sym is.reached.panels) ∙ asked_now in
+        let question_is : question_of app session (state_at number bytes.host) ≡ Some question =
+        ap (λ (p : Panels). question_of (application_of p) session (state_at number bytes.host)) (sym is.reached.panels) ∙ asked_now in
         let over_messages : asked_by app session link ≡ Some question =
-        same_question app session (service_at number bytes.host) link.host_here link.host question stands.host_here (λ here. (stands.host here).host) question_is in
+        same_question app session (state_at number bytes.host) link.host_here link.host question stands.host_here (λ here. (stands.host here).host) question_is in
         let seen : IsSeen (app.fields question.panel) question terminal =
         asked app begin.serves begin.pool begin.models is.events is_app is.is_begin.pool is.is_begin.few is.reached.are_events number session question terminal over_messages
         (seen_there number terminal terminal_is) in

@@ -12,7 +12,7 @@ use Rattle.std.specs.Option.{option_and_then}
 use Rattle.std.proofs.lemmas.Bool.{and_parts, ltb-true}
 use Rattle.std.proofs.lemmas.List.{length-set, set-get_or}
 use Rattle.std.proofs.lemmas.List.Elements.{All-head, All-nil, All-tail}
-use Rattle.codes3270.specs.Size.{Shape}
+use Rattle.codes3270.specs.Size.{ScreenSize}
 use Rattle.shadow.specs.Belief.{Shadow}
 use Rattle.shadow.specs.Fits.{is_paintable}
 use Rattle.shadow.specs.Laws.{PaintIsBounded}
@@ -29,7 +29,7 @@ use Rattle.host_core.specs.Notes.{note_command, may_note, noted, noted_as}
 use Rattle.host_core.specs.Says.{item_sent}
 use Rattle.host_core.specs.Session.{Session, is_agreed}
 use Rattle.host_core.specs.Reports.{no_reports}
-use Rattle.host_core.specs.State.{Host, Connection, Service, unused, most_connections, connection_at, service_at, with_connection, session_at}
+use Rattle.host_core.specs.State.{Host, Connection, Service, unused, most_connections, connection_at, state_at, with_connection, session_at}
 use Rattle.host_core.specs.declared.acted.Acted.{Acted}
 use Rattle.host_core.specs.declared.acted.Acted.TheVariants as acted_as
 use Rattle.panels.specs.Panel.{Panels}
@@ -42,7 +42,7 @@ use Rattle.world3270.specs.model.Link.{Link, sent, host_sent}
 use Rattle.world3270.specs.statement.Numbers.{IsNumber}
 use Rattle.world3270.specs.model.Enabled.{is_enabled as is_enabled_over_messages, host_is_answered}
 use Rattle.world3270.specs.model.Places.{EndsAgree}
-use Rattle.world3270.specs.refinement.Refines.{Begin, IsBegin, Reached, GoesOn, SkipsAreThose, once, after, once_taken}
+use Rattle.world3270.specs.refinement.Refines.{WorldSetup, IsWorldSetup, Reached, GoesOn, SameSkips, once, after, once_taken}
 use Rattle.world3270.specs.model.TrackedTerminals.{TrackedTerminal}
 use Rattle.world3270.specs.refinement.Sendable.{IsWellFormed, PaintsAScreen, IsSpelt}
 use Rattle.world3270.specs.refinement.Representation.{WorldRepresents, IsFlow, AreTransits, IsNotClosed, IsSettled, conn_of, tracked_of, link_with}
@@ -53,7 +53,7 @@ use Rattle.world3270.specs.model.World.{World, Event, IsEvent, with_link, new_wo
 use Rattle.world3270.specs.declared.event.Event.TheVariants as event
 use Rattle.world3270.specs.declared.event.Stepped.{Stepped}
 use Rattle.world3270.proofs.Frames.{beyond_is_alone, changed_stands, flow_there, connection_other, connection_same, connection_within, link_there, sits_same, there_settled, with_parts}
-use Rattle.world3270.proofs.ItemsSpelt.{Spells, MayBeGranted, spells}
+use Rattle.world3270.proofs.ItemsSpelt.{IsEncodable, CommandFitsScreen, spells}
 use Rattle.world3270.proofs.Known.{Facts, Goes, facts_now, facts_once, is_application, reached_more, reached_one, reached_still}
 use Rattle.world3270.proofs.OneOfMany.{with_other, with_same}
 use Rattle.world3270.proofs.UnderWay.{lost_says, more_flows, more_under_way}
@@ -91,19 +91,19 @@ said_out number old sending = host_out number old ++ sent_bytes (item_sent sendi
 
 -- and the connection has that more under way
 told_link : (here : Option ℕ) (number : ℕ) (old : ByteWorld) (sending : Sent) → number < length old.host.connections → host_there number old ≡ true
-    → IsNotClosed (service_at number old.host) → IsFlow true (host_out number old) (transits_at number old).down
+    → IsNotClosed (state_at number old.host) → IsFlow true (host_out number old) (transits_at number old).down
     → link_with here number (told sending number old) ≡ said_down sending.conn (item_sent sending.message ∷ []) (link_with here number old)
 told_link here number old sending below there going flow =
     let transits : Transits = transits_at number old in
     let tracked : TrackedTerminal = tracked_of here (told sending number old) in
-    let service : Service = with_conn sending.conn (service_at number old.host) in
+    let service : Service = with_conn sending.conn (state_at number old.host) in
     ap (λ (l : Connection). with_this here transits (out_of here (told sending number old)) tracked l.service l.out) (with_connection_there number old sending below)
     ∙ ap (λ (up : List ℕ). with_this here transits up tracked service (said_out number old sending)) (sits_same here old (told sending number old) refl).0
     ∙ ap (λ (s : TrackedTerminal). with_this here transits (out_of here old) s service (said_out number old sending)) (sits_same here old (told sending number old) refl).1
-    ∙ connection_says here transits (out_of here old) (tracked_of here old) sending (service_at number old.host) (host_out number old) there going flow
+    ∙ connection_says here transits (out_of here old) (tracked_of here old) sending (state_at number old.host) (host_out number old) there going flow
 
 -- on a lost connection what is said vanishes; else it stands for what is sent
-said_stands : HostSends → (bytes : ByteLink) (link : Link) (sending : Sent) → LinkRepresents bytes link → (link.lost ≡ false → Spells sending.message)
+said_stands : HostSends → (bytes : ByteLink) (link : Link) (sending : Sent) → LinkRepresents bytes link → (link.lost ≡ false → IsEncodable sending.message)
     → LinkRepresents (said_down sending.conn (item_sent sending.message ∷ []) bytes) (sent_down sending.conn (sending.message ∷ []) link)
 said_stands sends bytes link sending stands good = by_loss link.lost refl
   where
@@ -111,8 +111,8 @@ said_stands sends bytes link sending stands good = by_loss link.lost refl
         → LinkRepresents (said_down sending.conn (item_sent sending.message ∷ []) bytes) (sent_down sending.conn (sending.message ∷ []) link)
     by_loss true is = lost_says sends bytes link sending.conn (item_sent sending.message ∷ []) (sending.message ∷ []) stands is
     by_loss false is =
-        let spelt : Spells sending.message = good is in
-        sends bytes link sending.conn (item_sent sending.message ∷ []) (sending.message ∷ []) stands (spelt.comes, tt) (spelt.stands, tt)
+        let encoded : IsEncodable sending.message = good is in
+        sends bytes link sending.conn (item_sent sending.message ∷ []) (sending.message ∷ []) stands (encoded.comes, tt) (encoded.stands, tt)
 
 -- ---- the world, once something is said
 
@@ -131,7 +131,7 @@ still_there conn (Service.Open rest old) there = refl
 still_there conn (Service.Closed cause) there = refl
 
 module _ (sends : HostSends) (number : ℕ) (old : ByteWorld) (world : World) (sending : Sent) (stands : WorldRepresents old world)
-    (below : number < most_connections) (there : host_there number old ≡ true) (good : (world.link number).lost ≡ false → Spells sending.message) where
+    (below : number < most_connections) (there : host_there number old ≡ true) (good : (world.link number).lost ≡ false → IsEncodable sending.message) where
   in_connections : number < length old.host.connections
   in_connections = connection_within number old world stands below
 
@@ -143,7 +143,7 @@ module _ (sends : HostSends) (number : ℕ) (old : ByteWorld) (world : World) (s
     together = are.together;
     down = subst (λ (l : Connection). IsFlow (is_there l.service) l.out (transits_at number old).down) (sym (with_connection_there number old sending in_connections))
         (subst (λ (b : Bool). IsFlow b (host_out number old ++ sent_bytes (item_sent sending.message ∷ [])) (transits_at number old).down)
-        (sym (still_there sending.conn (service_at number old.host) there))
+        (sym (still_there sending.conn (state_at number old.host) there))
         (more_flows (host_out number old) (sent_bytes (item_sent sending.message ∷ [])) (transits_at number old).down goes_down));
     up = subst (λ (out : List ℕ). IsFlow (is_some here) out (transits_at number old).up) (sym (sits_same here old (told sending number old) refl).0) are.up;
   }
@@ -175,9 +175,9 @@ module _ (sends : HostSends) (number : ℕ) (old : ByteWorld) (world : World) (s
         before = beyond_is_alone number old world stands;
         behind = beyond_is_alone number old world stands;
         none_closed = subst (λ (l : Connection). IsNotClosed l.service) (sym (with_connection_there number old sending in_connections))
-            (still_open sending.conn (service_at number old.host) (stands.none_closed number));
+            (still_open sending.conn (state_at number old.host) (stands.none_closed number));
         settled = subst (λ (l : Connection). IsSettled l) (sym (with_connection_there number old sending in_connections))
-            (there_settled (sent_on sending (connection_at number old.host)) (still_there sending.conn (service_at number old.host) there));
+            (there_settled (sent_on sending (connection_at number old.host)) (still_there sending.conn (state_at number old.host) there));
         flow = subst (λ (l : Link). AreTransits l.term_here number (told sending number old)) (sym now)
             (told_flow (world.link number).term_here (flow_there number old world agree stands));
         link = subst (λ (l : Link). LinkRepresents (link_with l.term_here number (told sending number old)) l) (sym now)
@@ -208,10 +208,10 @@ module _ (nop : NopRepresents) (number : ℕ) (old : ByteWorld) (world : World) 
   nop_goes_down : IsFlow true (host_out number old) (transits_at number old).down
   nop_goes_down = subst (λ (b : Bool). IsFlow b (host_out number old) (transits_at number old).down) there (stands.flows number).down
 
-  nop_link : (here : Option ℕ) → link_with here number (nop_told number old) ≡ said_down (conn_of (service_at number old.host)) (no_operation ∷ []) (link_with here number old)
+  nop_link : (here : Option ℕ) → link_with here number (nop_told number old) ≡ said_down (conn_of (state_at number old.host)) (no_operation ∷ []) (link_with here number old)
   nop_link here =
       let transits : Transits = transits_at number old in
-      let service : Service = service_at number old.host in
+      let service : Service = state_at number old.host in
       let new : ByteWorld = nop_told number old in
       let out : List ℕ = host_out number old ++ sent_bytes (no_operation ∷ []) in
       ap (λ (l : Connection). with_this here transits (out_of here new) (tracked_of here new) l.service l.out) connection_is
@@ -263,7 +263,7 @@ module _ (nop : NopRepresents) (number : ℕ) (old : ByteWorld) (world : World) 
 pub keep_alive_goes : MessageLaws → (number : ℕ) → Goes (event.KeepAlive number)
 keep_alive_goes known number begin events old answer new is reached real place stepped_by =
     let parts = and_parts (is_link number) (may_keep_alive (connection_at number old.host)) place in
-    let bound = and_parts (is_bound (service_at number old.host)) (length (host_out number old) == 0) parts.1 in
+    let bound = and_parts (is_bound (state_at number old.host)) (length (host_out number old) == 0) parts.1 in
     let made : new ≡ nop_told number old =
     stepped_by.1
     ∙ ap (λ (c : Connection). with_host (with_connection number c old.host) old)
@@ -274,7 +274,7 @@ keep_alive_goes known number begin events old answer new is reached real place s
       reached = reached_more begin events [] old new reached tt (All-nil IsWellFormed) (ap (λ (w : ByteWorld). w.host.panels) made)
           (subst (λ (w : ByteWorld). WorldRepresents w (after begin events)) (sym made)
           (nop_told_stands known.links.nop number old (after begin events) reached.stands (ltb-true number most_connections parts.0)
-          (bound_there (service_at number old.host) bound.0) (facts_now known.worlds begin events old is reached).agree));
+          (bound_there (state_at number old.host) bound.0) (facts_now known.worlds begin events old is reached).agree));
     }
 
 -- ---- what the host does
@@ -320,7 +320,7 @@ pub note_sent : (text : List ℕ) (conn : Session) (sending : Sent) → noted te
 note_sent text conn sending is = only_if (may_note conn.turn conn.pending (is_agreed conn.talk.state)) (noted_as text conn) sending is
 
 -- an act's command fits where it is sent
-pub act_suits : (size : Shape) (shadow : Shadow) (message : ToTerminal) → PaintsWhatFits size shadow message → MayBeGranted message
+pub act_suits : (size : ScreenSize) (shadow : Shadow) (message : ToTerminal) → PaintsWhatFits size shadow message → CommandFitsScreen message
 act_suits size shadow (ToTerminal.TalksDown saying) paints = absurd paints
 act_suits size shadow (ToTerminal.Paint number wanted over) paints = subst (λ (s : Shadow). is_paintable s wanted ≡ true) (sym paints.1) paints.0.fits
 act_suits size shadow (ToTerminal.ReadBuffer number) paints = tt
@@ -344,12 +344,12 @@ nothing_said number old host others connection =
     ∙ ap (λ connections. record old.host { connections = connections }) (set-get_or old.host.connections number unused))
 
 -- it happens once, or not at all
-record Went (begin : Begin) (events : List Event) (message : Event) (answer : Stepped) (new : ByteWorld) : Type 0 where
+record Went (begin : WorldSetup) (events : List Event) (message : Event) (answer : Stepped) (new : ByteWorld) : Type 0 where
   more : List Event
   is_once : more ≡ once message answer
   reached : Reached begin (events ++ more) new
 
-went_on : (begin : Begin) (events : List Event) (message : Event) (number : ℕ) (sending : Sent) (old new : ByteWorld) (answer : Stepped) (host : Host) (act : Acted)
+went_on : (begin : WorldSetup) (events : List Event) (message : Event) (number : ℕ) (sending : Sent) (old new : ByteWorld) (answer : Stepped) (host : Host) (act : Acted)
     → IsDone (Some sending) (connection_at number old.host) act (connection_at number host) → host ≡ with_connection number (connection_at number host) old.host
     → answer ≡ answer_acted act → new ≡ with_host host old → Reached begin events old → Reached begin (events ++ message ∷ []) (told sending number old)
     → Went begin events message answer new
@@ -366,12 +366,12 @@ went_on begin events message number sending old new answer host acted_as.Memory 
 }
 went_on begin events message number sending old new answer host acted_as.Nothing does others answers leaves before reached = absurd does
 
-module _ (known : MessageLaws) (skips : SkipsAreThose) (given : LowerLaws) (stands_for : PaintRepresents) (bounded : PaintIsBounded) where
+module _ (known : MessageLaws) (skips : SameSkips) (given : LowerLaws) (stands_for : PaintRepresents) (bounded : PaintIsBounded) where
   -- The world stands for the one in which the message was sent.
-  told_reached : (begin : Begin) (events : List Event) (message : Event) (number : ℕ) (sending : Sent) (old : ByteWorld) → IsBegin begin → Reached begin events old
+  told_reached : (begin : WorldSetup) (events : List Event) (message : Event) (number : ℕ) (sending : Sent) (old : ByteWorld) → IsWorldSetup begin → Reached begin events old
       → IsEvent message → IsWellFormed message → is_enabled_over_messages (application_of begin.panels) message (after begin events) ≡ true
       → done (application_of begin.panels) message (after begin events) ≡ says sending number (after begin events)
-      → number < most_connections → host_there number old ≡ true → MayBeGranted sending.message → Reached begin (events ++ message ∷ []) (told sending number old)
+      → number < most_connections → host_there number old ≡ true → CommandFitsScreen sending.message → Reached begin (events ++ message ∷ []) (told sending number old)
   told_reached begin events message number sending old is reached such typed place is_done below there suits =
       let world : World = after begin events in
       let link : Link = world.link number in
@@ -384,37 +384,37 @@ module _ (known : MessageLaws) (skips : SkipsAreThose) (given : LowerLaws) (stan
       (told_stands known.links.sends number old world sending reached.stands below there
       (λ up. spells stands_for bounded sending.message suits (record {
         screen = last_sent PaintsAScreen link.lost link.down sending.message up (subst (λ (l : Link). All PaintsAScreen l.down) now (behind.paints number));
-        spelt = last_sent IsSpelt link.lost link.down sending.message up (subst (λ (l : Link). All IsSpelt l.down) now (behind.spelt number));
+        encoded = last_sent IsSpelt link.lost link.down sending.message up (subst (λ (l : Link). All IsSpelt l.down) now (behind.encoded number));
         number = last_sent (λ (m : ToTerminal). IfSome (number_in m) IsNumber) link.lost link.down sending.message up
             (subst (λ (l : Link). All (λ (m : ToTerminal). IfSome (number_in m) IsNumber) l.down) now (behind.numbers number).down);
       }))
       before.agree behind.agree))
 
   -- what the host holds of a connection is the same over messages
-  same_conn : (begin : Begin) (events : List Event) (old : ByteWorld) (number : ℕ) → Reached begin events old → host_there number old ≡ true
-      → conn_of (service_at number old.host) ≡ ((after begin events).link number).host
+  same_conn : (begin : WorldSetup) (events : List Event) (old : ByteWorld) (number : ℕ) → Reached begin events old → host_there number old ≡ true
+      → conn_of (state_at number old.host) ≡ ((after begin events).link number).host
   same_conn begin events old number reached there =
       let link = reached.stands.links number in
       (link.host (sym link.host_here ∙ there)).host
 
   pub act_goes : (number : ℕ) → Goes (event.Act number)
   act_goes number begin events old answer new is reached real place stepped_by =
-      let parts = and_parts (is_link number) (is_some (acted_by (application_of old.host.panels) (service_at number old.host))) place in
-      by_does (acted_by (application_of old.host.panels) (service_at number old.host)) refl parts.1 stepped_by
+      let parts = and_parts (is_link number) (is_some (acted_by (application_of old.host.panels) (state_at number old.host))) place in
+      by_does (acted_by (application_of old.host.panels) (state_at number old.host)) refl parts.1 stepped_by
     where
-      by_does : (does : Option Sent) → acted_by (application_of old.host.panels) (service_at number old.host) ≡ does → is_some does ≡ true → OnConnection (HostDoes does) number old answer new
+      by_does : (does : Option Sent) → acted_by (application_of old.host.panels) (state_at number old.host) ≡ does → is_some does ≡ true → OnConnection (HostDoes does) number old answer new
           → GoesOn begin events (event.Act number) old answer new
       by_does None e some acts = absurd (cc)
       by_does (Some sending) e some acts =
           let app : Application = application_of begin.panels in
           let link : Link = (after begin events).link number in
           let below : number < most_connections = ltb-true number most_connections (and_parts (is_link number) _ place).0 in
-          let found = acting app (service_at number old.host) sending
-          (ap (λ (panels : Panels). acted_by (application_of panels) (service_at number old.host)) (sym reached.panels) ∙ e) in
+          let found = acting app (state_at number old.host) sending
+          (ap (λ (panels : Panels). acted_by (application_of panels) (state_at number old.host)) (sym reached.panels) ∙ e) in
           let does : acted app link.host ≡ Some sending = ap (λ (c : Session). acted app c) (sym (same_conn begin events old number reached found.0)) ∙ found.1 in
-          let suits : MayBeGranted sending.message =
+          let suits : CommandFitsScreen sending.message =
           let sent_by = act_sent app link.host sending does in
-          subst (λ (s : Sent). MayBeGranted s.message) (sym sent_by.1)
+          subst (λ (s : Sent). CommandFitsScreen s.message) (sym sent_by.1)
           (act_suits _ _ _ (known.worlds.given.belief.fit app link.host sent_by.0 (is_application known.worlds begin is))) in
           let went = went_on begin events (Event.Act number) number sending old new answer acts.host acts.act (by_act (Some sending) (connection_at number old.host) acts.act (connection_at number acts.host) acts.acts) acts.others acts.answers acts.leaves reached
           (told_reached begin events (Event.Act number) number sending old is reached tt tt (sym (skips begin events (event.Act number) old is reached tt) ∙ place)
@@ -440,22 +440,22 @@ module _ (known : MessageLaws) (skips : SkipsAreThose) (given : LowerLaws) (stan
   pub answer_goes : (number : ℕ) (ticket : Ticket) (said : ApplicationAnswer) → Goes (event.Answer number ticket said)
   answer_goes number ticket said begin events old answer new is reached real place stepped_by =
       let session : ℕ = session_at number old.host in
-      let parts = and_parts (is_link number) (is_some (answered_by (application_of old.host.panels) session ticket said (service_at number old.host))) place in
-      by_does (answered_by (application_of old.host.panels) session ticket said (service_at number old.host)) refl parts.0 parts.1 stepped_by
+      let parts = and_parts (is_link number) (is_some (answered_by (application_of old.host.panels) session ticket said (state_at number old.host))) place in
+      by_does (answered_by (application_of old.host.panels) session ticket said (state_at number old.host)) refl parts.0 parts.1 stepped_by
     where
-      by_does : (does : Option Sent) → answered_by (application_of old.host.panels) (session_at number old.host) ticket said (service_at number old.host) ≡ does → is_link number ≡ true → is_some does ≡ true
+      by_does : (does : Option Sent) → answered_by (application_of old.host.panels) (session_at number old.host) ticket said (state_at number old.host) ≡ does → is_link number ≡ true → is_some does ≡ true
           → OnConnection (DoesAnswer (application_of old.host.panels) said does) number old answer new → GoesOn begin events (event.Answer number ticket said) old answer new
       by_does None e linked some acts = absurd (cc)
       by_does (Some sending) e linked some acts =
           let app : Application = application_of begin.panels in
           let link : Link = (after begin events).link number in
           let below : number < most_connections = ltb-true number most_connections linked in
-          let found = answering app (session_at number old.host) ticket said (service_at number old.host) sending
-          (ap (λ (panels : Panels). answered_by (application_of panels) (session_at number old.host) ticket said (service_at number old.host)) (sym reached.panels) ∙ e) in
+          let found = answering app (session_at number old.host) ticket said (state_at number old.host) sending
+          (ap (λ (panels : Panels). answered_by (application_of panels) (session_at number old.host) ticket said (state_at number old.host)) (sym reached.panels) ∙ e) in
           let does : answered_on app link.host said ≡ Some sending = ap (λ (c : Session). answered_on app c said) (sym (same_conn begin events old number reached found.0)) ∙ found.1 in
           let here : link.host_here ≡ true = sym (reached.stands.links number).host_here ∙ found.0 in
-          let suits : MayBeGranted sending.message =
-          subst (λ (s : Sent). MayBeGranted s.message) (sym (answer_sent app link.host said sending does))
+          let suits : CommandFitsScreen sending.message =
+          subst (λ (s : Sent). CommandFitsScreen s.message) (sym (answer_sent app link.host said sending does))
           (act_suits _ _ _ (known.worlds.given.belief.fit app link.host (act_by app link.host said said.panel) (is_application known.worlds begin is))) in
           let done : IsDone (Some sending) (connection_at number old.host) acts.act (connection_at number acts.host) =
           by_answer (application_of old.host.panels) said (Some sending) (connection_at number old.host) acts.act (connection_at number acts.host) acts.acts in
@@ -470,10 +470,10 @@ module _ (known : MessageLaws) (skips : SkipsAreThose) (given : LowerLaws) (stan
 
   pub note_goes : (number : ℕ) (text : List ℕ) → Goes (event.Note number text)
   note_goes number text begin events old answer new is reached real place stepped_by =
-      let parts = and_parts (is_link number) (is_some (noted_by text (service_at number old.host))) place in
-      by_does (noted_by text (service_at number old.host)) refl parts.1 stepped_by
+      let parts = and_parts (is_link number) (is_some (noted_by text (state_at number old.host))) place in
+      by_does (noted_by text (state_at number old.host)) refl parts.1 stepped_by
     where
-      by_does : (does : Option Sent) → noted_by text (service_at number old.host) ≡ does → is_some does ≡ true → OnConnection (HostDoes does) number old answer new
+      by_does : (does : Option Sent) → noted_by text (state_at number old.host) ≡ does → is_some does ≡ true → OnConnection (HostDoes does) number old answer new
           → GoesOn begin events (event.Note number text) old answer new
       by_does None e some acts = absurd (cc)
       by_does (Some sending) e some acts =
@@ -481,14 +481,14 @@ module _ (known : MessageLaws) (skips : SkipsAreThose) (given : LowerLaws) (stan
           let app_is = is_application known.worlds begin is in
           let link : Link = (after begin events).link number in
           let below : number < most_connections = ltb-true number most_connections (and_parts (is_link number) _ place).0 in
-          let found = noting text (service_at number old.host) sending e in
+          let found = noting text (state_at number old.host) sending e in
           let does : noted text link.host ≡ Some sending = ap (λ (c : Session). noted text c) (sym (same_conn begin events old number reached found.0)) ∙ found.1 in
           let kept = (run_good given app app_is events (new_world app begin.serves begin.pool begin.models) reached.are_events
           (new_good given app app_is begin.serves begin.pool begin.models is.pool)).links number in
           let model : Model = link.term.display.model in
           let note : IsNoteOf link.host.size (note_command link.host.size text) = record { text = text; is_text = real.0; is = refl } in
-          let suits : MayBeGranted sending.message =
-          subst (λ (s : Sent). MayBeGranted s.message) (sym (note_sent text link.host sending does))
+          let suits : CommandFitsScreen sending.message =
+          subst (λ (s : Sent). CommandFitsScreen s.message) (sym (note_sent text link.host sending does))
           (link.host.size, shape_of_model app model link.host.size app_is kept.sizes.host, is_narrow model link.host.size kept.sizes.host, note) in
           let went = went_on begin events (Event.Note number text) number sending old new answer acts.host acts.act (by_act (Some sending) (connection_at number old.host) acts.act (connection_at number acts.host) acts.acts) acts.others acts.answers acts.leaves reached
           (told_reached begin events (Event.Note number text) number sending old is reached real.0 tt (sym (skips begin events (event.Note number text) old is reached tt) ∙ place)

@@ -28,7 +28,7 @@ use Rattle.world3270.specs.refinement.Deliveries.{rest_at, rest_of_terminal, tak
 use Rattle.world3270.specs.model.Steps.{closed_if, came_down, done, stepped_by, place_after, run, said, term_took_it, went_down}
 use Rattle.world3270.specs.model.Link.{Link, term_left_if, term_stepped}
 use Rattle.world3270.specs.model.Enabled.{comes_down, is_link, is_queued}
-use Rattle.world3270.specs.refinement.Refines.{Begin, IsBegin, Reached, GoesOn, after}
+use Rattle.world3270.specs.refinement.Refines.{WorldSetup, IsWorldSetup, Reached, GoesOn, after}
 use Rattle.world3270.specs.model.TrackedTerminals.{TrackedTerminal, TrackedTakes}
 use Rattle.world3270.specs.refinement.Sendable.{CanBeSent, IsWellFormed}
 use Rattle.world3270.specs.refinement.Representation.{WorldRepresents, with_out}
@@ -289,8 +289,8 @@ not_gone (stop.Closed cause) old new bytes taken terminal number world rest talk
 
 -- ---- the delivery
 
-module _ (known : MessageLaws) (begin : Begin) (events : List MessageEvent) (number count terminal : ℕ) (old : ByteWorld) (answer : Stepped) (new : ByteWorld)
-    (is : IsBegin begin) (reached : Reached begin events old) (linked : is_link number ≡ true) (found : terminal_at number old.slots ≡ Some terminal)
+module _ (known : MessageLaws) (begin : WorldSetup) (events : List MessageEvent) (number count terminal : ℕ) (old : ByteWorld) (answer : Stepped) (new : ByteWorld)
+    (is : IsWorldSetup begin) (reached : Reached begin events old) (linked : is_link number ≡ true) (found : terminal_at number old.slots ≡ Some terminal)
     (comes : ComesDown terminal number (take count (down_of number old)) old answer new) where
   abbrev world : World
   world = after begin events

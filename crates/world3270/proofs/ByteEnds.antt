@@ -14,7 +14,7 @@ use Rattle.world3270.specs.model.ByteWorld.{ByteWorld, TerminalSlot, alone, mode
 use Rattle.world3270.specs.model.Steps.{done, left_alone, joined, term_saw, term_anew}
 use Rattle.world3270.specs.model.Enabled.{free_number as free_over_messages, is_enabled as is_enabled_over_messages}
 use Rattle.world3270.specs.model.Places.{EndsAgree, UpIsHeld}
-use Rattle.world3270.specs.refinement.Refines.{Begin, IsBegin, Reached, GoesOn, ComesTo, SkipsAreThose, BeginIsReached, once, after}
+use Rattle.world3270.specs.refinement.Refines.{WorldSetup, IsWorldSetup, Reached, GoesOn, CorrespondsTo, SameSkips, BeginIsReached, once, after}
 use Rattle.world3270.specs.refinement.Sendable.{IsWellFormed}
 use Rattle.world3270.specs.refinement.Representation.{WorldRepresents, IsAt}
 use Rattle.world3270.specs.refinement.Represents.{RepresentsUp, all_items}
@@ -73,7 +73,7 @@ module _ (leaves : TermLeaves) (terminal : ℕ) (old : ByteWorld) (was : World) 
   saw_stands (Some number) (Place.Alone display) at is agrees = let none = (at_place (Place.Alone display) is).0 in absurd (cc)
 
   anew_stands : (at : Option ℕ) (place : Place) → (slot_at terminal old).at ≡ at → was.place terminal ≡ place
-      → (begin : Begin) → EndsAgree (term_anew (application_of begin.panels) terminal place was)
+      → (begin : WorldSetup) → EndsAgree (term_anew (application_of begin.panels) terminal place was)
       → WorldRepresents (terminal_anew terminal at old) (term_anew (application_of begin.panels) terminal place was)
   anew_stands None (Place.At number) at is begin agrees = let here = at_place (Place.At number) is in absurd (cc)
   anew_stands None (Place.Alone display) at is begin agrees = alone_stands terminal (new_slot (model_at terminal old)) (new_display display.model model_2) old was agree stands there at
@@ -109,12 +109,12 @@ begin_is_reached known begin is = record {
 
 -- ---- one event
 
-module _ (known : MessageLaws) (skips : SkipsAreThose) where
+module _ (known : MessageLaws) (skips : SameSkips) where
   -- it happens once, over bytes as over messages
-  goes_once : (it : Event) (message : MessageEvent) (begin : Begin) (events : List MessageEvent) (old : ByteWorld) (answer : Stepped) (new : ByteWorld)
-      → IsBegin begin → Reached begin events old → IsEvent message × IsWellFormed message
+  goes_once : (it : Event) (message : MessageEvent) (begin : WorldSetup) (events : List MessageEvent) (old : ByteWorld) (answer : Stepped) (new : ByteWorld)
+      → IsWorldSetup begin → Reached begin events old → IsEvent message × IsWellFormed message
       → is_enabled it old ≡ is_enabled_over_messages (application_of begin.panels) message (after begin events) → is_enabled it old ≡ true
-      → ComesTo it old answer (message ∷ []) → new.host.panels ≡ old.host.panels
+      → CorrespondsTo it old answer (message ∷ []) → new.host.panels ≡ old.host.panels
       → (EndsAgree (done (application_of begin.panels) message (after begin events)) → WorldRepresents new (done (application_of begin.panels) message (after begin events)))
       → GoesOn begin events it old answer new
   goes_once it message begin events old answer new is reached real alike place comes panels stands =

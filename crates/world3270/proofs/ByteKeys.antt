@@ -21,7 +21,7 @@ use Rattle.world3270.specs.model.ByteWorld.{ByteWorld, Transits, TerminalSlot, t
 use Rattle.world3270.specs.model.Steps.{key_went, done}
 use Rattle.world3270.specs.model.Link.{Link, term_stepped}
 use Rattle.world3270.specs.model.Places.{EndsAgree}
-use Rattle.world3270.specs.refinement.Refines.{Begin, IsBegin, Reached, IsReal, GoesOn, SkipsAreThose, after, once}
+use Rattle.world3270.specs.refinement.Refines.{WorldSetup, IsWorldSetup, Reached, IsValidEvent, GoesOn, SameSkips, after, once}
 use Rattle.world3270.specs.model.TrackedTerminals.{TrackedTerminal, tracked_after_key}
 use Rattle.world3270.specs.refinement.Sendable.{CanBeSent, ScreensAreSendable}
 use Rattle.world3270.specs.refinement.Representation.{WorldRepresents, IsAlone, IsAt, with_out}
@@ -149,9 +149,9 @@ module _ (known : MessageLaws) (key : Key) (terminal : ℕ) (old : ByteWorld) (w
       })
       stands now_facts.agree agrees is
 
-module _ (known : MessageLaws) (skips : SkipsAreThose) where
-  pressed_on : (terminal : ℕ) (key : Key) (begin : Begin) (events : List MessageEvent) (old : ByteWorld) (answer : Stepped) (new : ByteWorld)
-      → IsBegin begin → Reached begin events old → IsReal (event.Key terminal key) → nat_lt terminal (length old.slots) ≡ true
+module _ (known : MessageLaws) (skips : SameSkips) where
+  pressed_on : (terminal : ℕ) (key : Key) (begin : WorldSetup) (events : List MessageEvent) (old : ByteWorld) (answer : Stepped) (new : ByteWorld)
+      → IsWorldSetup begin → Reached begin events old → IsValidEvent (event.Key terminal key) → nat_lt terminal (length old.slots) ≡ true
       → Presses terminal key old answer new → GoesOn begin events (event.Key terminal key) old answer new
   pressed_on terminal key begin events old answer new is reached real place (Presses.refused lacks memory same) = record {
     more = [];

@@ -8,7 +8,7 @@ use Rattle.host_core.specs.Application.{Application, application_of}
 use Rattle.host_core.specs.Does.{acted_by, noted_by}
 use Rattle.host_core.specs.Notes.{noted}
 use Rattle.host_core.specs.Session.{Session}
-use Rattle.host_core.specs.State.{Service, service_at, most_connections, session_at}
+use Rattle.host_core.specs.State.{Service, state_at, most_connections, session_at}
 use Rattle.panels.specs.Panel.{Panels}
 use Rattle.shadow.specs.Pairs.{Pairwise}
 use Rattle.telnet_wire.specs.Items.{WireItem, items_after, unfinished_after}
@@ -24,7 +24,7 @@ use Rattle.world3270.specs.model.ByteWorld.{ByteWorld, is_there, is_live, transi
 use Rattle.world3270.specs.refinement.Deliveries.{BringAMessage, rest_at, rest_of_terminal, terminal_rest}
 use Rattle.world3270.specs.model.Link.{Link, is_free, is_up as is_link_up}
 use Rattle.world3270.specs.model.Enabled.{is_queued, comes_up, comes_down, host_acts, host_notes, host_sees, terminal_sees, free_number as free_link, may_connect as may_join, host_is_answered}
-use Rattle.world3270.specs.refinement.Refines.{SkipsAreThose, after, IsTicketAt}
+use Rattle.world3270.specs.refinement.Refines.{SameSkips, after, IsTicketAt}
 use Rattle.world3270.specs.refinement.Representation.{WorldRepresents, IsAt, IsNotClosed, conn_of, link_with}
 use Rattle.world3270.specs.refinement.Represents.{RepresentsDown, RepresentsUp, BytesRepresent, LinkRepresents, all_items, without_nops}
 use Rattle.world3270.specs.model.World.{Place, World}
@@ -59,10 +59,10 @@ acts_by app (Service.Open rest conn) link here going same =
 acts_by app (Service.Closed cause) link here going same = absurd going
 
 acts_alike : (app : Application) (number : ℕ) (bytes : ByteWorld) (world : World) → WorldRepresents bytes world
-    → is_some (acted_by app (service_at number bytes.host)) ≡ host_acts app (world.link number)
+    → is_some (acted_by app (state_at number bytes.host)) ≡ host_acts app (world.link number)
 acts_alike app number bytes world stands =
     let link = stands.links number in
-    acts_by app (service_at number bytes.host) (world.link number) link.host_here (stands.none_closed number) (λ here. (link.host here).host)
+    acts_by app (state_at number bytes.host) (world.link number) link.host_here (stands.none_closed number) (λ here. (link.host here).host)
 
 answers_in : (app : Application) (session : ℕ) (ticket : Ticket) (said : ApplicationAnswer) (conn : Session) → is_ticket ticket (ticket_of session conn) ≡ true
     → is_some (answered_in app session ticket said conn) ≡ is_some (answered_on app conn said)
@@ -77,10 +77,10 @@ answers_by app session ticket said (Service.Open rest conn) link is here going s
 answers_by app session ticket said (Service.Closed cause) link is here going same = absurd going
 
 answers_alike : (app : Application) (session : ℕ) (ticket : Ticket) (said : ApplicationAnswer) (number : ℕ) (bytes : ByteWorld) (world : World) → WorldRepresents bytes world
-    → IsTicketAt ticket session (service_at number bytes.host) → is_some (answered_by app session ticket said (service_at number bytes.host)) ≡ host_is_answered app said (world.link number)
+    → IsTicketAt ticket session (state_at number bytes.host) → is_some (answered_by app session ticket said (state_at number bytes.host)) ≡ host_is_answered app said (world.link number)
 answers_alike app session ticket said number bytes world stands is =
     let link = stands.links number in
-    answers_by app session ticket said (service_at number bytes.host) (world.link number) is link.host_here (stands.none_closed number) (λ here. (link.host here).host)
+    answers_by app session ticket said (state_at number bytes.host) (world.link number) is link.host_here (stands.none_closed number) (λ here. (link.host here).host)
 
 notes_by : (text : List ℕ) (service : Service) (link : Link) → is_there service ≡ link.host_here → IsNotClosed service → (link.host_here ≡ true → conn_of service ≡ link.host)
     → is_some (noted_by text service) ≡ host_notes text link
@@ -90,10 +90,10 @@ notes_by text (Service.Open rest conn) link here going same =
 notes_by text (Service.Closed cause) link here going same = absurd going
 
 notes_alike : (text : List ℕ) (number : ℕ) (bytes : ByteWorld) (world : World) → WorldRepresents bytes world
-    → is_some (noted_by text (service_at number bytes.host)) ≡ host_notes text (world.link number)
+    → is_some (noted_by text (state_at number bytes.host)) ≡ host_notes text (world.link number)
 notes_alike text number bytes world stands =
     let link = stands.links number in
-    notes_by text (service_at number bytes.host) (world.link number) link.host_here (stands.none_closed number) (λ here. (link.host here).host)
+    notes_by text (state_at number bytes.host) (world.link number) link.host_here (stands.none_closed number) (λ here. (link.host here).host)
 
 -- ---- losses
 
@@ -167,8 +167,8 @@ none_unfinished before (OtherToken code ∷ tokens) items rest = absurd (cc)
 some_items : (rest : Rest) (byte : ℕ) (bytes : List ℕ) → Delivers record_limit rest (byte ∷ bytes) [] nothing → ⊥
 some_items rest byte bytes delivers =
     let none : delivers.tokens ≡ [] = (none_unfinished rest.unfinished delivers.tokens (sym delivers.said) (sym delivers.reads.unfinished)).1 in
-    let spelt : rest.partial ++ byte ∷ bytes ≡ [] = delivers.reads.spelt ∙ append-nil (text delivers.tokens) ∙ ap text none in
-    not_empty rest.partial byte bytes spelt
+    let encoded : rest.partial ++ byte ∷ bytes ≡ [] = delivers.reads.encoded ∙ append-nil (text delivers.tokens) ∙ ap text none in
+    not_empty rest.partial byte bytes encoded
 
 -- some bytes are taken, where there are some and more than none are taken
 some_taken : (count : ℕ) (bytes : List ℕ) → 0 < count → is_queued (take count bytes) ≡ is_queued bytes
@@ -233,7 +233,7 @@ module _ (one : OneDelivery) (no_bytes : ReadingNothing) where
           (λ items delivers. bring items (subst (λ (r : Rest). Delivers record_limit r (down_of number bytes) items nothing) (sym at) delivers)) term.down
 
   -- An event has a place over bytes exactly where it has over messages.
-  pub skips_are_those : SkipsAreThose
+  pub skips_are_those : SameSkips
   skips_are_those begin events (event.Key terminal key) bytes is reached counted = terminals_alike terminal bytes (after begin events) reached.stands
   skips_are_those begin events (event.Up number count) bytes is reached counted =
       ap (λ (b : Bool). is_link number && b) (up_alike number count bytes (after begin events) reached.stands counted)
@@ -241,11 +241,11 @@ module _ (one : OneDelivery) (no_bytes : ReadingNothing) where
       ap (λ (b : Bool). is_link number && b) (down_alike number count bytes (after begin events) reached.stands counted.0 counted.1)
   skips_are_those begin events (event.Act number) bytes is reached counted =
       ap (λ (b : Bool). is_link number && b)
-      (ap (λ (panels : Panels). is_some (acted_by (application_of panels) (service_at number bytes.host))) reached.panels
+      (ap (λ (panels : Panels). is_some (acted_by (application_of panels) (state_at number bytes.host))) reached.panels
       ∙ acts_alike (application_of begin.panels) number bytes (after begin events) reached.stands)
   skips_are_those begin events (event.Answer number ticket said) bytes is reached counted =
       ap (λ (b : Bool). is_link number && b)
-      (ap (λ (panels : Panels). is_some (answered_by (application_of panels) (session_at number bytes.host) ticket said (service_at number bytes.host))) reached.panels
+      (ap (λ (panels : Panels). is_some (answered_by (application_of panels) (session_at number bytes.host) ticket said (state_at number bytes.host))) reached.panels
       ∙ answers_alike (application_of begin.panels) (session_at number bytes.host) ticket said number bytes (after begin events) reached.stands counted)
   skips_are_those begin events (event.Note number text) bytes is reached counted =
       ap (λ (b : Bool). is_link number && b) (notes_alike text number bytes (after begin events) reached.stands)

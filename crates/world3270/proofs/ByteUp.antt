@@ -20,7 +20,7 @@ use Rattle.host_core.specs.Items.{TakesItem}
 use Rattle.host_core.specs.Messages.{ToHost}
 use Rattle.host_core.specs.Says.{item_sent}
 use Rattle.host_core.specs.Session.{Session}
-use Rattle.host_core.specs.State.{Host, Service, most_connections, service_at}
+use Rattle.host_core.specs.State.{Host, Service, most_connections, state_at}
 use Rattle.host_core.specs.Takes.{HostStep, freed_if, took as host_took}
 use Rattle.world3270.specs.refinement.MessageLaws.{MessageLaws}
 use Rattle.world3270.specs.model.ByteSteps.{is_link, host_gone_if}
@@ -31,8 +31,8 @@ use Rattle.world3270.specs.model.Steps.{closed_if, host_took_it, came_up}
 use Rattle.world3270.specs.model.Link.{Link, sent, host_left_if}
 use Rattle.world3270.specs.model.Enabled.{is_queued, is_enabled as is_enabled_over_messages}
 use Rattle.world3270.specs.model.Places.{EndsAgree}
-use Rattle.world3270.specs.refinement.Readings.{MayComeUp}
-use Rattle.world3270.specs.refinement.Refines.{Begin, IsBegin, Reached, after}
+use Rattle.world3270.specs.refinement.Readings.{MayBeSent}
+use Rattle.world3270.specs.refinement.Refines.{WorldSetup, IsWorldSetup, Reached, after}
 use Rattle.world3270.specs.refinement.Sendable.{IsWellFormed}
 use Rattle.world3270.specs.refinement.Representation.{WorldRepresents, IsNotClosed, conn_of, rest_of, link_of}
 use Rattle.world3270.specs.refinement.Represents.{RepresentsUp, LinkRepresents, all_items}
@@ -78,7 +78,7 @@ all_three one two three a b c = ap (λ (x : Bool). x && (two && three)) a ∙ ap
 -- ---- one byte
 
 -- the world over bytes stands for the one behind a delivery, or none; the host goes on, and the bytes behind are under way
-record OneByte (begin : Begin) (events : List MessageEvent) (number byte : ℕ) (counter : ConnectionAndPool) (old : ByteWorld) : Type 0 where
+record OneByte (begin : WorldSetup) (events : List MessageEvent) (number byte : ℕ) (counter : ConnectionAndPool) (old : ByteWorld) : Type 0 where
   some : List MessageEvent
   completed : AreDeliveries all_items (host_rest number old) (byte ∷ []) (MessageEvent.Up number) some
   behind : rest_of counter.connection.service ≡ completed.behind
@@ -88,12 +88,12 @@ record OneByte (begin : Begin) (events : List MessageEvent) (number byte : ℕ) 
   queue : up_of number (took_up 1 number counter old) ≡ drop 1 (up_of number old)
 
 may_come_up : (world : World) (number : ℕ) (message : ToHost) (others : List ToHost) → FormsAreAwaited world → IsSaidUp message → (world.link number).up ≡ message ∷ others
-    → MayComeUp (world.link number).host message
+    → MayBeSent (world.link number).host message
 may_come_up world number (ToHost.TalksUp saying) others forms said e = said
 may_come_up world number (ToHost.Data parts) others forms said e = inl (forms number parts others e)
 may_come_up world number (ToHost.Response answers verdict) others forms said e = tt
 
-module _ (known : MessageLaws) (begin : Begin) (is : IsBegin begin) (events : List MessageEvent) (old : ByteWorld) (reached : Reached begin events old)
+module _ (known : MessageLaws) (begin : WorldSetup) (is : IsWorldSetup begin) (events : List MessageEvent) (old : ByteWorld) (reached : Reached begin events old)
     (number : ℕ) (below : number < most_connections) (there : host_there number old ≡ true) where
   abbrev world : World
   world = after begin events
@@ -116,7 +116,7 @@ module _ (known : MessageLaws) (begin : Begin) (is : IsBegin begin) (events : Li
   host_here : link.host_here ≡ true
   host_here = sym (stands.links number).host_here ∙ there
 
-  conn_is : conn_of (service_at number old.host) ≡ link.host
+  conn_is : conn_of (state_at number old.host) ≡ link.host
   conn_is = ((stands.links number).host host_here).host
 
   panels_are : (counter : ConnectionAndPool) → (took_up 1 number counter old).host.panels ≡ old.host.panels
@@ -125,7 +125,7 @@ module _ (known : MessageLaws) (begin : Begin) (is : IsBegin begin) (events : Li
   -- ---- no item is complete with it
 
   nothing_completes : (byte : ℕ) (behind : List ℕ) (counter : ConnectionAndPool) (rest to : Rest) (conn : Session) → up_of number old ≡ byte ∷ behind
-      → service_at number old.host ≡ Service.Open rest conn → Delivers record_limit rest (byte ∷ []) [] to
+      → state_at number old.host ≡ Service.Open rest conn → Delivers record_limit rest (byte ∷ []) [] to
       → counter ≡ record { pool = old.host.pool; connection = record (connection_and_pool_at number old.host).connection { service = Service.Open to conn } }
       → OneByte begin events number byte counter old
   nothing_completes byte behind counter rest to conn queue held delivers is_counter =
@@ -133,7 +133,7 @@ module _ (known : MessageLaws) (begin : Begin) (is : IsBegin begin) (events : Li
       let bytes_behind : behind ≡ drop 1 (up_of number old) = sym (ap (drop 1) queue) in
       let taken : Taken number counter old world world = record {
         rest = to;
-        conn = conn_of (service_at number old.host);
+        conn = conn_of (state_at number old.host);
         more = [];
         link = link;
         below = below;
@@ -207,19 +207,19 @@ module _ (known : MessageLaws) (begin : Begin) (is : IsBegin begin) (events : Li
     may_come =
         subst (λ (l : Link). MayComeAll l.term l.down) link_now ((subst (λ (w : World). (at : ℕ) → MayComeAll (w.link at).term (w.link at).down × NoneCloses (w.link at).term (w.link at).down) world_now known_then.may) number).0
 
-    step_is : (item : WireItem) (done : HostStep) → RepresentsUp item message → TakesItem (answer_to old.host.pool) (conn_of (service_at number old.host)) item done → done ≡ step
+    step_is : (item : WireItem) (done : HostStep) → RepresentsUp item message → TakesItem (answer_to old.host.pool) (conn_of (state_at number old.host)) item done → done ≡ step
     step_is item done stand taken =
         let said = subst (λ (m : List ToHost). AllByRecursion IsSaidUp m) e
         (all_said_up (application_of begin.panels) begin.serves begin.pool begin.models events reached.are_events number) in
-        let may = subst (λ (c : Session). MayComeUp c message) (sym conn_is) (may_come_up world number message others known_here.forms said.0 e) in
-        host_reads known.links.one_header known.links.fault_or_header known.links.one_inbound (answer_to old.host.pool) (conn_of (service_at number old.host))
+        let may = subst (λ (c : Session). MayBeSent c message) (sym conn_is) (may_come_up world number message others known_here.forms said.0 e) in
+        host_reads known.links.one_header known.links.fault_or_header known.links.one_inbound (answer_to old.host.pool) (conn_of (state_at number old.host))
         item message done (stands_read item message stand) may taken
         ∙ ap (λ (c : Session). host_took (answer_to old.host.pool) c message) conn_is
         ∙ ap (λ (p : List Entry). host_took (answer_to p) link.host message) stands.pool
 
     item_completes : (item : WireItem) (done : HostStep) (byte : ℕ) (behind : List ℕ) (to : Rest) (counter : ConnectionAndPool) → up_of number old ≡ byte ∷ behind
         → Delivers record_limit (host_rest number old) (byte ∷ []) (item ∷ []) to
-        → RepresentsUp item message → TakesItem (answer_to old.host.pool) (conn_of (service_at number old.host)) item done
+        → RepresentsUp item message → TakesItem (answer_to old.host.pool) (conn_of (state_at number old.host)) item done
         → LinkRepresents (record (link_of number old) { host_rest = to; up = behind }) (record link { up = others })
         → counter ≡ stepped number to done (connection_and_pool_at number old.host)
         → OneByte begin events number byte counter old
@@ -266,7 +266,7 @@ module _ (known : MessageLaws) (begin : Begin) (is : IsBegin begin) (events : Li
 
   -- the item stands for the first message, and the bytes behind for the others
   something_completes : (byte : ℕ) (behind : List ℕ) (counter : ConnectionAndPool) (rest to : Rest) (conn : Session) (item : WireItem) (done : HostStep) → up_of number old ≡ byte ∷ behind
-      → service_at number old.host ≡ Service.Open rest conn → Delivers record_limit rest (byte ∷ []) (item ∷ []) to
+      → state_at number old.host ≡ Service.Open rest conn → Delivers record_limit rest (byte ∷ []) (item ∷ []) to
       → TakesItem (answer_to old.host.pool) conn item done → counter ≡ stepped number to done (connection_and_pool_at number old.host)
       → OneByte begin events number byte counter old
   something_completes byte behind counter rest to conn item done queue held delivers item_taken is_counter =
@@ -289,7 +289,7 @@ module _ (known : MessageLaws) (begin : Begin) (is : IsBegin begin) (events : Li
 
 -- ---- bytes, one after another
 
-record ManyBytes (begin : Begin) (events : List MessageEvent) (number : ℕ) (front : List ℕ) (counter : ConnectionAndPool) (old : ByteWorld) : Type 0 where
+record ManyBytes (begin : WorldSetup) (events : List MessageEvent) (number : ℕ) (front : List ℕ) (counter : ConnectionAndPool) (old : ByteWorld) : Type 0 where
   more : List MessageEvent
   completed : AreDeliveries all_items (host_rest number old) front (MessageEvent.Up number) more
   reached : Reached begin (events ++ more) (took_up (length front) number counter old)
@@ -305,7 +305,7 @@ there_open Service.Free is e = absurd (cc)
 there_open (Service.Open rest conn) is e = tt
 there_open (Service.Closed cause) is e = absurd is
 
-many_bytes : MessageLaws → (begin : Begin) → IsBegin begin → (number : ℕ) → number < most_connections → (front behind : List ℕ) (events : List MessageEvent) (old : ByteWorld)
+many_bytes : MessageLaws → (begin : WorldSetup) → IsWorldSetup begin → (number : ℕ) → number < most_connections → (front behind : List ℕ) (events : List MessageEvent) (old : ByteWorld)
     (counter : ConnectionAndPool) → Reached begin events old → host_there number old ≡ true → up_of number old ≡ front ++ behind
     → TakesBytes number (connection_and_pool_at number old.host) front counter → ManyBytes begin events number front counter old
 many_bytes known begin is number below [] behind events old counter reached there queue same = record {
@@ -313,7 +313,7 @@ many_bytes known begin is number below [] behind events old counter reached ther
   completed = none_delivered known all_items (host_rest number old) (MessageEvent.Up number) refl (host_rest_is known number old (after begin events) reached.stands);
   reached = reached_still begin events old (took_up 0 number counter old) reached
       (ap (λ (c : ConnectionAndPool). took_up 0 number c old) same ∙ took_none number old);
-  is_open = subst (λ (c : ConnectionAndPool). IsOpen c.connection.service) (sym same) (there_open (service_at number old.host) (reached.stands.none_closed number) there);
+  is_open = subst (λ (c : ConnectionAndPool). IsOpen c.connection.service) (sym same) (there_open (state_at number old.host) (reached.stands.none_closed number) there);
 }
 many_bytes known begin is number below (byte ∷ front) behind events old counter reached there queue taken =
     let first : ConnectionAndPool = taken.0 in

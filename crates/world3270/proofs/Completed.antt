@@ -13,7 +13,7 @@ use Rattle.tn3270e_msg.specs.declared.cause.Cause.TheVariants.{Wire}
 use Rattle.tn3270e_msg.specs.declared.cause.Stop.{Stop}
 use Rattle.tn3270e_msg.specs.declared.cause.Stop.TheVariants as stop
 use Rattle.host_core.specs.Messages.{ToTerminal}
-use Rattle.host_core.specs.State.{Service, service_at}
+use Rattle.host_core.specs.State.{Service, state_at}
 use Rattle.term_core.specs.Bytes.{TakesByte, link_after}
 use Rattle.term_core.specs.Feeds.{StopsFor}
 use Rattle.term_core.specs.Room.{out_room}
@@ -83,9 +83,9 @@ module _ (known : MessageLaws) where
   -- ---- what a decoder holds is the beginning of an item
 
   pub host_rest_is : (number : ℕ) (old : ByteWorld) (world : World) → WorldRepresents old world → IsRest record_limit (host_rest number old)
-  host_rest_is number old world stands = by_service (service_at number old.host) refl (stands.none_closed number)
+  host_rest_is number old world stands = by_service (state_at number old.host) refl (stands.none_closed number)
     where
-      by_service : (service : Service) → service_at number old.host ≡ service → IsNotClosed service → IsRest record_limit (host_rest number old)
+      by_service : (service : Service) → state_at number old.host ≡ service → IsNotClosed service → IsRest record_limit (host_rest number old)
       by_service Service.Free e held = subst (λ (s : Service). IsRest record_limit (rest_of s)) (sym e) (known.links.start record_limit)
       by_service (Service.Open rest conn) e held =
           let link = stands.links number in

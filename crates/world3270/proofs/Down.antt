@@ -8,7 +8,7 @@ use Rattle.std.specs.Str.{bytes_eq}
 use Rattle.std.proofs.lemmas.Bool.{eqb-true}
 use Rattle.std.proofs.lemmas.List.{length-replicate}
 use Rattle.std.proofs.lemmas.List.Elements.{All-nil, All-cons}
-use Rattle.codes3270.specs.Size.{Shape, cells_in}
+use Rattle.codes3270.specs.Size.{ScreenSize, cells_in}
 use Rattle.codes3270.specs.declared.attention.Aid.{Aid}
 use Rattle.codes3270.specs.declared.attention.Aid.TheVariants.{NoAid, Enter, Clear, Pf, Pa}
 use Rattle.codes3270.specs.declared.attribute.Cell.{Cell}
@@ -35,7 +35,7 @@ use Rattle.shadow.specs.Paint.{paint}
 use Rattle.shadow.specs.Painted.{cells_under, painted_from, plainly_painted}
 use Rattle.shadow.specs.Taken.{taken}
 use Rattle.tn3270e_msg.specs.Lu.{lu_of}
-use Rattle.tn3270e_msg.specs.Talk.{Comes, Talk, start_at, follow, Saying, says, sayings, closing}
+use Rattle.tn3270e_msg.specs.Talk.{Comes, Talk, start_at, follow, NegotiationMessage, says, sayings, closing}
 use Rattle.tn3270e_msg.specs.TermTable.{Term, term_transition, grant_transition}
 use Rattle.tn3270e_msg.specs.declared.reply.Reply.{Reply}
 use Rattle.tn3270e_msg.specs.declared.reply.Reply.TheVariants as reply
@@ -45,7 +45,7 @@ use Rattle.tn3270e_msg.specs.declared.term_talk.TermState.{TermState}
 use Rattle.tn3270e_msg.specs.declared.host_talk.HostState.{HostState}
 use Rattle.tn3270e_msg.specs.declared.term_talk.TermState.TheVariants.{TypeAsked, FunctionsAsked, Agreed, Closed}
 use Rattle.tn3270e_msg.proofs.Agreement.{responses_alone, same_bytes}
-use Rattle.host_core.specs.Application.{Application, IsShape, IsApplication, IsSizeOf, message_place}
+use Rattle.host_core.specs.Application.{Application, IsValidSize, IsApplication, IsSizeOf, message_place}
 use Rattle.host_core.specs.Messages.{ToTerminal, ToHost}
 use Rattle.host_core.specs.NoteLaws.{TakesNotes, IsNoteOf}
 use Rattle.host_core.proofs.Notes.{each_noted}
@@ -60,9 +60,9 @@ use Rattle.world3270.specs.statement.Showing.{WantsItsPanelOn}
 use Rattle.world3270.specs.statement.AsLeft.{ProtectedIsAsLeft}
 use Rattle.world3270.specs.refinement.Unreturned.{UnmodifiedIsKept}
 use Rattle.world3270.specs.model.Link.{Link, sent}
-use Rattle.world3270.specs.refinement.Phases.{Kind, Serving, LinkPhase, UnderWay, IsAt, IsHostTalk, IsTermTalk, talk_in, turn_at, pending_at, down_at, up_at}
+use Rattle.world3270.specs.refinement.Phases.{Kind, SessionPhase, LinkPhase, IsInFlight, IsAt, IsHostTalk, IsTermTalk, talk_in, turn_at, pending_at, down_at, up_at}
 use Rattle.world3270.specs.statement.TurnReasons.{IsOpenBy, IsOpenFor, IsCleared}
-use Rattle.world3270.specs.refinement.Invariant.{local_state_of, once_taken, FactsAreExact, MayBeGranted, IsPainted, Operates, Sees, IsRead, Fact, Kept, may_differ_at, ShownAt}
+use Rattle.world3270.specs.refinement.Invariant.{local_state_of, once_taken, FactsAreExact, MayBeGranted, IsPainted, Operates, Sees, IsRead, Fact, ConnectionInvariant, may_differ_at, ShownAt}
 use Rattle.world3270.specs.model.Terminal.{TermEnd, TermStep, with_talk, is_bound, bound_to, once_bound, paint_came, note_came, read_came, talked, took}
 use Rattle.world3270.specs.refinement.View.{view_of}
 use Rattle.world3270.proofs.Queues.{more}
@@ -73,7 +73,7 @@ abbrev pub term_view : TermStep → List ToTerminal → Link → Link
 term_view step rest link = record link { down = rest; term = step.end; up = sent link.lost link.up step.sends }
 
 pub record Obeyed (app : Application) (link : Link) (rest : List ToTerminal) (step : TermStep) : Type 0 where
-  pub kept : Kept app (view_of (term_view step rest link))
+  pub kept : ConnectionInvariant app (view_of (term_view step rest link))
   pub open_end : step.closes ≡ None
   pub positive : list_any is_negative (filter_map verdict_in step.sends) ≡ false
 
@@ -88,7 +88,7 @@ pub record Leads (model : Model) (wanted : Option (List ℕ)) (from to : LinkPha
 
 leads : (link : Link) (step : TermStep) (rest : List ToTerminal) (wanted : Option (List ℕ)) (from to : LinkPhase) → step.end.display.model ≡ link.term.display.model
     → IsAt (view_of link) wanted from → Leads link.term.display.model wanted from to step.sends
-    → IsTermTalk link.term.display.model wanted to step.end.talk → UnderWay link.lost rest (down_at link.term.display.model to)
+    → IsTermTalk link.term.display.model wanted to step.end.talk → IsInFlight link.lost rest (down_at link.term.display.model to)
     → IsAt (view_of (term_view step rest link)) wanted to
 leads link step rest wanted from to same at l talk left =
     let model : Model = link.term.display.model in
@@ -98,7 +98,7 @@ leads link step rest wanted from to same at l talk left =
       turn = at.turn ∙ sym l.turn;
       pending = at.pending ∙ sym l.pending;
       goes_down = left;
-      goes_up = subst (UnderWay link.lost (sent link.lost link.up step.sends)) l.up (more link.lost link.up (up_at model wanted from) step.sends at.goes_up);
+      goes_up = subst (IsInFlight link.lost (sent link.lost link.up step.sends)) l.up (more link.lost link.up (up_at model wanted from) step.sends at.goes_up);
     })
 
 -- ---- the talk
@@ -107,13 +107,13 @@ abbrev pub talk_step : Link → Talk TermState → List ToHost → TermStep
 talk_step link next sends = record { end = with_talk link.term next; sends = sends; closes = None }
 
 -- a line of the terminal's table, that leads to a state with a reply
-pub record TalkTransition (term : Term) (saying : Saying) (next : Talk TermState) (sends : List ToHost) : Type 0 where
+pub record TalkTransition (term : Term) (saying : NegotiationMessage) (next : Talk TermState) (sends : List ToHost) : Type 0 where
   pub reply : Reply
   pub leads : follow Closed term.talk (term_transition term.model term.wanted term.talk.state (says saying)) ≡ (next, reply)
   pub quiet : closing reply ≡ None
   pub sends_is : map ToHost.TalksUp (sayings reply) ≡ sends
 
-talk_took : (link : Link) (term : Term) (next : Talk TermState) (saying : Saying) (sends : List ToHost) → link.term.talk ≡ term
+talk_took : (link : Link) (term : Term) (next : Talk TermState) (saying : NegotiationMessage) (sends : List ToHost) → link.term.talk ≡ term
     → TalkTransition term saying next sends → took link.term (ToTerminal.TalksDown saying) ≡ talk_step link next sends
 talk_took link term next saying sends e transition =
     ap (λ (t : Term). talked link.term t saying) e
@@ -122,11 +122,11 @@ talk_took link term next saying sends e transition =
     ∙ ap (λ s. record { end = with_talk link.term next; sends = s; closes = None }) transition.sends_is
 
 -- the talk moves on
-pub talks : (app : Application) (link : Link) (rest : List ToTerminal) (k : Kept app (view_of link)) (from to : LinkPhase) (term : Term) (next : Talk TermState) (saying : Saying) (sends : List ToHost) (message : ToTerminal)
+pub talks : (app : Application) (link : Link) (rest : List ToTerminal) (k : ConnectionInvariant app (view_of link)) (from to : LinkPhase) (term : Term) (next : Talk TermState) (saying : NegotiationMessage) (sends : List ToHost) (message : ToTerminal)
     → (may_differ_at to ≡ false → link.term.display.size ≡ link.host.size)
     → IsAt (view_of link) k.wanted from → link.term.talk ≡ term → message ≡ ToTerminal.TalksDown saying → TalkTransition term saying next sends
     → IsTermTalk link.term.display.model k.wanted to (record link.term.talk { talk = next })
-    → Leads link.term.display.model k.wanted from to sends → list_any is_negative (filter_map verdict_in sends) ≡ false → UnderWay link.lost rest (down_at link.term.display.model to)
+    → Leads link.term.display.model k.wanted from to sends → list_any is_negative (filter_map verdict_in sends) ≡ false → IsInFlight link.lost rest (down_at link.term.display.model to)
     → Fact k.wanted (local_state_of (view_of (term_view (talk_step link next sends) rest link))) to → ShownAt app link.term.waits link.host link.term.display.before_restored link.term.display.last_restored link.term.display.screen to
     → Obeyed app link rest (took link.term message)
 talks app link rest k from to term next saying sends message same at talk is transition then_talk l positive left fact shown =
@@ -158,7 +158,7 @@ own_type M4 = refl
 own_type M5 = refl
 
 pub granted_transition : LowerLaws → (model : Model) (wanted : Option (List ℕ)) (lu : List ℕ) → MayBeGranted wanted lu
-    → TalkTransition (talk_in model wanted TypeAsked) (Saying.Sub (TypeIs (device_for model) lu)) (start_at (FunctionsAsked lu)) (ToHost.TalksUp (Saying.Sub FunRequest) ∷ [])
+    → TalkTransition (talk_in model wanted TypeAsked) (NegotiationMessage.Sub (TypeIs (device_for model) lu)) (start_at (FunctionsAsked lu)) (ToHost.TalksUp (NegotiationMessage.Sub FunRequest) ∷ [])
 granted_transition given model None lu suits = record {
   reply = reply.Sub FunRequest Going;
   leads = ap (λ (own : Bool). follow Closed (start_at TypeAsked) (grant_transition None own (lu_of lu))) (own_type model)
@@ -178,10 +178,10 @@ granted_transition given model (Some name) lu suits =
     }
 
 -- in any talk that asked for functions
-pub agreed_transition : (term : Term) (lu : List ℕ) → term.talk.state ≡ FunctionsAsked lu → TalkTransition term (Saying.Sub FunIs) (record term.talk { state = Agreed lu }) []
+pub agreed_transition : (term : Term) (lu : List ℕ) → term.talk.state ≡ FunctionsAsked lu → TalkTransition term (NegotiationMessage.Sub FunIs) (record term.talk { state = Agreed lu }) []
 agreed_transition term lu asked = record {
   reply = _;
-  leads = ap (λ state. follow Closed term.talk (term_transition term.model term.wanted state (says (Saying.Sub FunIs)))) asked
+  leads = ap (λ state. follow Closed term.talk (term_transition term.model term.wanted state (says (NegotiationMessage.Sub FunIs)))) asked
       ∙ ap (λ w. follow Closed term.talk (term_transition term.model term.wanted (FunctionsAsked lu) (Comes.IsFunctions w))) responses_alone;
   quiet = refl;
   sends_is = refl;
@@ -209,15 +209,15 @@ pub painted-length : (wanted : WantedScreen) (screen : Screen) → length (plain
 painted-length wanted screen =
     length_over wanted.reset wanted.cells wanted.cells (cells_under (length wanted.cells) screen.cells) (length_under (length wanted.cells) screen.cells)
 
-pub bound : (link : Link) (wanted : Option (List ℕ)) (lu : List ℕ) (serving : Serving) → IsAt (view_of link) wanted (LinkPhase.Serves lu serving) → is_bound link.term ≡ true
+pub bound : (link : Link) (wanted : Option (List ℕ)) (lu : List ℕ) (serving : SessionPhase) → IsAt (view_of link) wanted (LinkPhase.InSession lu serving) → is_bound link.term ≡ true
 bound link wanted lu serving at = ap (λ state. is_some (bound_to state)) at.term_talk
 
 -- a step of a session that leaves the talk
-serves : (link : Link) (step : TermStep) (rest : List ToTerminal) (wanted : Option (List ℕ)) (lu : List ℕ) (from to : Serving) → step.end.display.model ≡ link.term.display.model
-    → IsAt (view_of link) wanted (LinkPhase.Serves lu from) → Leads link.term.display.model wanted (LinkPhase.Serves lu from) (LinkPhase.Serves lu to) step.sends
-    → step.end.talk ≡ link.term.talk → UnderWay link.lost rest (down_at link.term.display.model (LinkPhase.Serves lu to))
-    → IsAt (view_of (term_view step rest link)) wanted (LinkPhase.Serves lu to)
-serves link step rest wanted lu from to model at l same left = leads link step rest wanted (LinkPhase.Serves lu from) (LinkPhase.Serves lu to) model at l (ap (λ (t : Term). t.talk.state) same ∙ at.term_talk) left
+serves : (link : Link) (step : TermStep) (rest : List ToTerminal) (wanted : Option (List ℕ)) (lu : List ℕ) (from to : SessionPhase) → step.end.display.model ≡ link.term.display.model
+    → IsAt (view_of link) wanted (LinkPhase.InSession lu from) → Leads link.term.display.model wanted (LinkPhase.InSession lu from) (LinkPhase.InSession lu to) step.sends
+    → step.end.talk ≡ link.term.talk → IsInFlight link.lost rest (down_at link.term.display.model (LinkPhase.InSession lu to))
+    → IsAt (view_of (term_view step rest link)) wanted (LinkPhase.InSession lu to)
+serves link step rest wanted lu from to model at l same left = leads link step rest wanted (LinkPhase.InSession lu from) (LinkPhase.InSession lu to) model at l (ap (λ (t : Term). t.talk.state) same ∙ at.term_talk) left
 
 -- ---- a paint
 
@@ -225,14 +225,14 @@ serves link step rest wanted lu from to model at l same left = leads link step r
 abbrev pub showing : Screen → TermEnd → TermEnd
 showing screen end = record end { display = record end.display { screen = screen } }
 
-pub paints_on : LowerLaws → (app : Application) → IsApplication app → (link : Link) (rest : List ToTerminal) (k : Kept app (view_of link)) (lu : List ℕ) (number : ℕ) (command : CommandParts) (wants : WantedScreen) (over : Shadow)
-    → IsAt (view_of link) k.wanted (LinkPhase.Serves lu (Serving.Painting number command wants over)) → IsPainted (local_state_of (view_of link)) command wants over → (asked : WantsItsPanelOn app link.term.waits link.host over wants link.term.display.screen)
-    → UnderWay link.lost rest [] → (screen : Screen) → Meets over screen → (link.term.waits ≡ true → Meets asked.wants.conn.shadow screen) → Kept app (view_of (term_view (paint_came number wants (showing screen link.term)) rest link))
+pub paints_on : LowerLaws → (app : Application) → IsApplication app → (link : Link) (rest : List ToTerminal) (k : ConnectionInvariant app (view_of link)) (lu : List ℕ) (number : ℕ) (command : CommandParts) (wants : WantedScreen) (over : Shadow)
+    → IsAt (view_of link) k.wanted (LinkPhase.InSession lu (SessionPhase.Painting number command wants over)) → IsPainted (local_state_of (view_of link)) command wants over → (asked : WantsItsPanelOn app link.term.waits link.host over wants link.term.display.screen)
+    → IsInFlight link.lost rest [] → (screen : Screen) → Meets over screen → (link.term.waits ≡ true → Meets asked.wants.conn.shadow screen) → ConnectionInvariant app (view_of (term_view (paint_came number wants (showing screen link.term)) rest link))
 paints_on given app is link rest k lu number command wants over at f asked left screen meets told =
     let size : ℕ = cells_in link.host.size in
     let new : Screen = plainly_painted wants screen in
     let wanted_size : ℕ = cells_in wants.size in
-    let base : wanted_size ≡ size = ap (λ (shape : Shape). cells_in shape) f.paintable.showable.size in
+    let base : wanted_size ≡ size = ap (λ (shape : ScreenSize). cells_in shape) f.paintable.showable.size in
     let same : length wants.cells ≡ wanted_size = f.paintable.showable.cells ∙ sym base in
     let fits = f.paintable.fits in
     let is_taken : taken wanted_size (paint wanted_size over wants) over ≡ once_taken link.host.size command link.host.shadow =
@@ -248,13 +248,13 @@ paints_on given app is link rest k lu number command wants over at f asked left 
       as_left = λ _. all_as_left (message_place wants.size) new.cells;
       exact = k.exact;
       wanted = k.wanted;
-      moment = LinkPhase.Serves lu (Serving.Answering Kind.APaint number command);
+      moment = LinkPhase.InSession lu (SessionPhase.AwaitingWriteResponse Kind.APaint number command);
       sizes = record {
         host = k.sizes.host;
-        screen = subst (λ (s : Shape). IsSizeOf app link.term.display.model s) (sym f.paintable.showable.size) k.sizes.host;
+        screen = subst (λ (s : ScreenSize). IsSizeOf app link.term.display.model s) (sym f.paintable.showable.size) k.sizes.host;
         same = λ steady. f.paintable.showable.size;
       };
-      at = serves link (paint_came number wants (showing screen link.term)) rest k.wanted lu _ (Serving.Answering Kind.APaint number command) refl at (record { host_talk = λ talk is. is; turn = refl; pending = refl; up = refl }) refl left;
+      at = serves link (paint_came number wants (showing screen link.term)) rest k.wanted lu _ (SessionPhase.AwaitingWriteResponse Kind.APaint number command) refl at (record { host_talk = λ talk is. is; turn = refl; pending = refl; up = refl }) refl left;
       fact = record {
         shown = new;
         lock = λ wrong. absurd (cc);
@@ -269,9 +269,9 @@ paints_on given app is link rest k lu number command wants over at f asked left 
       shown = record { wanted = wants; over = over; wanted_for = asked.wants; told = told; meets = meets; fits = fits; is = refl };
     }
 
-pub takes_paint : LowerLaws → (app : Application) → IsApplication app → (link : Link) (rest : List ToTerminal) (k : Kept app (view_of link)) (lu : List ℕ) (number : ℕ) (command : CommandParts) (wants : WantedScreen) (over : Shadow)
-    → IsAt (view_of link) k.wanted (LinkPhase.Serves lu (Serving.Painting number command wants over)) → IsPainted (local_state_of (view_of link)) command wants over → WantsItsPanelOn app link.term.waits link.host over wants link.term.display.screen
-    → UnderWay link.lost rest [] → Obeyed app link rest (took link.term (ToTerminal.Paint number wants over))
+pub takes_paint : LowerLaws → (app : Application) → IsApplication app → (link : Link) (rest : List ToTerminal) (k : ConnectionInvariant app (view_of link)) (lu : List ℕ) (number : ℕ) (command : CommandParts) (wants : WantedScreen) (over : Shadow)
+    → IsAt (view_of link) k.wanted (LinkPhase.InSession lu (SessionPhase.Painting number command wants over)) → IsPainted (local_state_of (view_of link)) command wants over → WantsItsPanelOn app link.term.waits link.host over wants link.term.display.screen
+    → IsInFlight link.lost rest [] → Obeyed app link rest (took link.term (ToTerminal.Paint number wants over))
 takes_paint given app is link rest k lu number command wants over at f asked left =
     subst (Obeyed app link rest) (ap (λ b. once_bound b (paint_came number wants link.term) link.term) (sym (bound link k.wanted lu _ at)))
     (record {
@@ -290,13 +290,13 @@ read_of screen erased end = record {
   closes = None;
 }
 
-pub reads_on : (app : Application) (link : Link) (rest : List ToTerminal) (k : Kept app (view_of link)) → link.term.display.size ≡ link.host.size → (lu : List ℕ) (number : ℕ) → IsAt (view_of link) k.wanted (LinkPhase.Serves lu (Serving.Reading number))
-    → IsRead (local_state_of (view_of link)) → ShownAt app link.term.waits link.host link.term.display.before_restored link.term.display.last_restored link.term.display.screen (LinkPhase.Serves lu (Serving.Reading number)) → UnderWay link.lost rest []
+pub reads_on : (app : Application) (link : Link) (rest : List ToTerminal) (k : ConnectionInvariant app (view_of link)) → link.term.display.size ≡ link.host.size → (lu : List ℕ) (number : ℕ) → IsAt (view_of link) k.wanted (LinkPhase.InSession lu (SessionPhase.Reading number))
+    → IsRead (local_state_of (view_of link)) → ShownAt app link.term.waits link.host link.term.display.before_restored link.term.display.last_restored link.term.display.screen (LinkPhase.InSession lu (SessionPhase.Reading number)) → IsInFlight link.lost rest []
     → (screen : Screen) (erased : Bool) → length screen.cells ≡ cells_in link.term.display.size → screen.cursor < cells_in link.term.display.size
     → UnmodifiedIsKept erased link.term.display.last_restored.cells screen.cells → ProtectedIsAsLeft (message_place link.term.display.size) link.term.display.last_restored.cells screen.cells
     → IsOkAnd (heard (length screen.cells) link.host.shadow (buffer_data link.host.size screen)) (Believed false (record screen { aid = link.term.display.screen.aid }))
     → rule_break link.host.shadow screen.cells ≡ None
-    → Kept app (view_of (term_view (read_of screen erased link.term) rest link))
+    → ConnectionInvariant app (view_of (term_view (read_of screen erased link.term) rest link))
 reads_on app link rest k same lu number at f shown left screen erased whole on unreturned as_left will unbroken =
     let parts : InboundParts = buffer_data link.term.display.size screen in
     record {
@@ -306,23 +306,23 @@ reads_on app link rest k same lu number at f shown left screen erased whole on u
       as_left = λ uncleared. as_left;
       exact = k.exact;
       wanted = k.wanted;
-      moment = LinkPhase.Serves lu (Serving.Reported number parts);
+      moment = LinkPhase.InSession lu (SessionPhase.BufferReturning number parts);
       sizes = record { host = k.sizes.host; screen = k.sizes.screen; same = λ steady. same };
-      at = serves link (read_of screen erased link.term) rest k.wanted lu _ (Serving.Reported number parts) refl at (record { host_talk = λ talk is. is; turn = refl; pending = refl; up = refl }) refl left;
+      at = serves link (read_of screen erased link.term) rest k.wanted lu _ (SessionPhase.BufferReturning number parts) refl at (record { host_talk = λ talk is. is; turn = refl; pending = refl; up = refl }) refl left;
       fact = record {
         lock = f.decides.lock;
         turn_reason = f.decides.turn_reason;
         closed = f.decides.closed;
         not_cleared = f.not_cleared;
-        says = ap (λ (size : Shape). buffer_data size screen) same;
-        will = subst (λ (n : ℕ). IsOkAnd (heard n link.host.shadow (buffer_data link.host.size screen)) (Believed false (record screen { aid = link.term.display.screen.aid }))) (whole ∙ ap (λ (s : Shape). cells_in s) same) will;
+        says = ap (λ (size : ScreenSize). buffer_data size screen) same;
+        will = subst (λ (n : ℕ). IsOkAnd (heard n link.host.shadow (buffer_data link.host.size screen)) (Believed false (record screen { aid = link.term.display.screen.aid }))) (whole ∙ ap (λ (s : ScreenSize). cells_in s) same) will;
         unbroken = unbroken;
       };
       shown = shown;
     }
 
-pub takes_read : LowerLaws → (app : Application) (link : Link) (rest : List ToTerminal) (k : Kept app (view_of link)) → link.term.display.size ≡ link.host.size → (lu : List ℕ) (number : ℕ) → IsAt (view_of link) k.wanted (LinkPhase.Serves lu (Serving.Reading number))
-    → IsRead (local_state_of (view_of link)) → ShownAt app link.term.waits link.host link.term.display.before_restored link.term.display.last_restored link.term.display.screen (LinkPhase.Serves lu (Serving.Reading number)) → UnderWay link.lost rest []
+pub takes_read : LowerLaws → (app : Application) (link : Link) (rest : List ToTerminal) (k : ConnectionInvariant app (view_of link)) → link.term.display.size ≡ link.host.size → (lu : List ℕ) (number : ℕ) → IsAt (view_of link) k.wanted (LinkPhase.InSession lu (SessionPhase.Reading number))
+    → IsRead (local_state_of (view_of link)) → ShownAt app link.term.waits link.host link.term.display.before_restored link.term.display.last_restored link.term.display.screen (LinkPhase.InSession lu (SessionPhase.Reading number)) → IsInFlight link.lost rest []
     → Obeyed app link rest (took link.term (ToTerminal.ReadBuffer number))
 takes_read given app link rest k same lu number at f shown left =
     subst (Obeyed app link rest) (ap (λ b. once_bound b (read_came link.term) link.term) (sym (bound link k.wanted lu _ at)))
@@ -344,7 +344,7 @@ pub record Noted (command : CommandParts) (screen : Screen) : Type 0 where
   pub cursor : (after_command command screen).cursor ≡ screen.cursor
   pub aid : (after_command command screen).aid ≡ screen.aid
 
-pub noted_on_it : LowerLaws → (shape : Shape) (command : CommandParts) (screen : Screen) → IsShape shape → IsNoteOf shape command → length screen.cells ≡ cells_in shape → TakesNotes shape screen.cells → Noted command screen
+pub noted_on_it : LowerLaws → (shape : ScreenSize) (command : CommandParts) (screen : Screen) → IsValidSize shape → IsNoteOf shape command → length screen.cells ≡ cells_in shape → TakesNotes shape screen.cells → Noted command screen
 noted_on_it given shape command screen is note whole takes =
     let bounds = given.notes.bounds command screen (given.notes.are_notes shape command is note).note in
     record {
@@ -356,13 +356,13 @@ noted_on_it given shape command screen is note whole takes =
     }
 
 -- it writes behind the place where the row of messages begins
-behind_row : (shape : Shape) (command : CommandParts) (screen : Screen) → IsShape shape → IsNoteOf shape command → length screen.cells ≡ cells_in shape
+behind_row : (shape : ScreenSize) (command : CommandParts) (screen : Screen) → IsValidSize shape → IsNoteOf shape command → length screen.cells ≡ cells_in shape
     → All (λ (at : ℕ). message_place shape < at) (places_noted (length screen.cells) command)
 behind_row shape command screen is note whole =
     each_noted (λ (at : ℕ). message_place shape < at) shape command (length screen.cells) is note whole (λ place after within. after)
 
 -- what wasn't returned stays, on a screen with a row for messages and on one without fields
-kept_by : LowerLaws → (shape : Shape) (command : CommandParts) (screen : Screen) (erased : Bool) (left : List Cell) → IsShape shape → IsNoteOf shape command → length screen.cells ≡ cells_in shape → TakesNotes shape screen.cells
+kept_by : LowerLaws → (shape : ScreenSize) (command : CommandParts) (screen : Screen) (erased : Bool) (left : List Cell) → IsValidSize shape → IsNoteOf shape command → length screen.cells ≡ cells_in shape → TakesNotes shape screen.cells
     → UnmodifiedIsKept erased left screen.cells → UnmodifiedIsKept erased left (after_command command screen).cells
 kept_by given shape command screen erased left is note whole takes kept = by_form takes
   where
@@ -397,7 +397,7 @@ open_for (turn_reasons.Key aid buffered) old new f o = open_by aid buffered old 
 open_for turn_reasons.Refusal old new f o = absurd o
 
 -- the host will see the screen with the note on it
-pub sees_noted : LowerLaws → (unheard : Unheard) (shape : Shape) (command : CommandParts) (screen : Screen) (shadow : Shadow) → IsNoteOf shape command → length screen.cells ≡ cells_in shape → Noted command screen → Sees unheard shape screen shadow
+pub sees_noted : LowerLaws → (unheard : Unheard) (shape : ScreenSize) (command : CommandParts) (screen : Screen) (shadow : Shadow) → IsNoteOf shape command → length screen.cells ≡ cells_in shape → Noted command screen → Sees unheard shape screen shadow
     → Sees unheard shape (after_command command screen) (taken (cells_in shape) command shadow)
 sees_noted given unheard shape command screen shadow note whole noted s =
     subst (λ n. Sees unheard shape (after_command command screen) (taken n command shadow)) whole
@@ -405,7 +405,7 @@ sees_noted given unheard shape command screen shadow note whole noted s =
       exact = let both = given.notes.exact command shadow screen noted.over s.meets s.exact.known s.exact.protected in record { known = both.0; protected = both.1 };
       cleared = λ e. subst (λ n. IsCleared shape (taken n command shadow)) (sym whole) (by_notes (s.cleared (sym noted.aid ∙ e)));
       closed = λ relies. open_noted screen.aid (after_command command screen).aid false shadow (taken (length screen.cells) command shadow) noted.aid (given.notes.opens command shadow screen noted.over s.meets) (s.closed relies);
-      meets = subst (λ n. Meets (taken n command shadow) (after_command command screen)) (written_on ∙ sym whole) (given.belief.written command shadow screen noted.over.spelt noted.over.plain (λ code. whole ∙ sym written_on) s.meets);
+      meets = subst (λ n. Meets (taken n command shadow) (after_command command screen)) (written_on ∙ sym whole) (given.belief.written command shadow screen noted.over.encoded noted.over.plain (λ code. whole ∙ sym written_on) s.meets);
       lists = given.notes.listed command shadow screen noted.over s.meets s.lists;
       told = λ sent. given.notes.stays_told command shadow screen noted.over s.meets (s.told (subst SentFields noted.aid sent));
     })
@@ -425,29 +425,29 @@ ok_map P Q (Ok x) f h = f x h
 ok_map P Q (Err fault) f h = absurd h
 
 -- a size that a terminal may have is a screen's
-pub shape_of_model : (app : Application) (model : Model) (size : Shape) → IsApplication app → IsSizeOf app model size → IsShape size
-shape_of_model app model size is (inl base) = subst IsShape (sym base) is.begins
-shape_of_model app model size is (inr alternate) = subst IsShape (sym alternate) (is.alternates model)
+pub shape_of_model : (app : Application) (model : Model) (size : ScreenSize) → IsApplication app → IsSizeOf app model size → IsValidSize size
+shape_of_model app model size is (inl base) = subst IsValidSize (sym base) is.begins
+shape_of_model app model size is (inr alternate) = subst IsValidSize (sym alternate) (is.alternates model)
 
-module _ (given : LowerLaws) (app : Application) (is : IsApplication app) (link : Link) (rest : List ToTerminal) (k : Kept app (view_of link)) (same : link.term.display.size ≡ link.host.size) where
+module _ (given : LowerLaws) (app : Application) (is : IsApplication app) (link : Link) (rest : List ToTerminal) (k : ConnectionInvariant app (view_of link)) (same : link.term.display.size ≡ link.host.size) where
   abbrev screen : Screen
   screen = link.term.display.screen
 
-  abbrev shape : Shape
+  abbrev shape : ScreenSize
   shape = link.host.size
 
-  pub is_shape : IsShape link.host.size
+  pub is_shape : IsValidSize link.host.size
   is_shape = shape_of_model app link.term.display.model link.host.size is k.sizes.host
 
   pub whole_here : length screen.cells ≡ cells_in shape
-  whole_here = k.whole ∙ ap (λ (s : Shape). cells_in s) same
+  whole_here = k.whole ∙ ap (λ (s : ScreenSize). cells_in s) same
 
   -- at any moment of the session at which a note goes down
-  pub takes_note : (lu : List ℕ) (number : ℕ) (command : CommandParts) (from to : Serving) → IsAt (view_of link) k.wanted (LinkPhase.Serves lu from) → IsNoteOf shape command → TakesNotes shape screen.cells
-      → Leads link.term.display.model k.wanted (LinkPhase.Serves lu from) (LinkPhase.Serves lu to) (note_came number command link.term).sends
-      → UnderWay link.lost rest (down_at link.term.display.model (LinkPhase.Serves lu to))
-      → Fact k.wanted (local_state_of (view_of (term_view (note_came number command link.term) rest link))) (LinkPhase.Serves lu to)
-      → ShownAt app link.term.waits link.host link.term.display.before_restored link.term.display.last_restored (after_command command screen) (LinkPhase.Serves lu to) → Obeyed app link rest (took link.term (ToTerminal.Note number command))
+  pub takes_note : (lu : List ℕ) (number : ℕ) (command : CommandParts) (from to : SessionPhase) → IsAt (view_of link) k.wanted (LinkPhase.InSession lu from) → IsNoteOf shape command → TakesNotes shape screen.cells
+      → Leads link.term.display.model k.wanted (LinkPhase.InSession lu from) (LinkPhase.InSession lu to) (note_came number command link.term).sends
+      → IsInFlight link.lost rest (down_at link.term.display.model (LinkPhase.InSession lu to))
+      → Fact k.wanted (local_state_of (view_of (term_view (note_came number command link.term) rest link))) (LinkPhase.InSession lu to)
+      → ShownAt app link.term.waits link.host link.term.display.before_restored link.term.display.last_restored (after_command command screen) (LinkPhase.InSession lu to) → Obeyed app link rest (took link.term (ToTerminal.Note number command))
   takes_note lu number command from to at note takes l left fact shown =
       let noted = noted_on_it given shape command screen is_shape note whole_here takes in
       subst (Obeyed app link rest) (ap (λ b. once_bound b (note_came number command link.term) link.term) (sym (bound link k.wanted lu from at)))
@@ -457,11 +457,11 @@ module _ (given : LowerLaws) (app : Application) (is : IsApplication app) (link 
           cursor = subst (λ n. n < cells_in link.term.display.size) (sym noted.cursor) k.cursor;
           unreturned = λ uncleared. kept_by given shape command screen link.term.display.erased link.term.display.last_restored.cells is_shape note whole_here takes (k.unreturned (λ clear. uncleared (noted.aid ∙ clear)));
           as_left = λ uncleared. as_left_noted given.notes.form command (message_place link.term.display.size) link.term.display.last_restored.cells screen noted.characters
-              (subst (λ (s : Shape). All (λ (at : ℕ). message_place s < at) (places_noted (length screen.cells) command)) (sym same) (behind_row shape command screen is_shape note whole_here))
+              (subst (λ (s : ScreenSize). All (λ (at : ℕ). message_place s < at) (places_noted (length screen.cells) command)) (sym same) (behind_row shape command screen is_shape note whole_here))
               (k.as_left (λ clear. uncleared (noted.aid ∙ clear)));
           exact = k.exact;
           wanted = k.wanted;
-          moment = LinkPhase.Serves lu to;
+          moment = LinkPhase.InSession lu to;
           sizes = record { host = k.sizes.host; screen = k.sizes.screen; same = λ steady. same };
           at = serves link (note_came number command link.term) rest k.wanted lu from to refl at l refl left;
           fact = fact;
@@ -488,7 +488,7 @@ module _ (given : LowerLaws) (app : Application) (is : IsApplication app) (link 
           known = subst (λ n. KnownIsExact (taken n command link.host.shadow)) whole both.0;
           protected = subst (λ n. ProtectedIsExact (taken n command link.host.shadow)) whole both.1;
         };
-        meets = subst (λ n. Meets (taken n command link.host.shadow) (after_command command shown)) written_on (given.belief.written command link.host.shadow shown noted.over.spelt noted.over.plain (λ code. whole ∙ sym written_on) f.meets);
+        meets = subst (λ n. Meets (taken n command link.host.shadow) (after_command command shown)) written_on (given.belief.written command link.host.shadow shown noted.over.encoded noted.over.plain (λ code. whole ∙ sym written_on) f.meets);
         closed = λ relies. subst (λ n. NothingIsOpen (taken n command link.host.shadow)) whole (given.notes.opens command link.host.shadow shown noted.over f.meets (f.closed relies));
         knows = given.notes.placed (cells_in link.host.size) command link.host.shadow noted.over.writes noted.over.placed f.knows;
         held = given.notes.held link.term.display.erased command shown screen writes f.held;

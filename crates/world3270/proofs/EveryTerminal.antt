@@ -16,7 +16,7 @@ use Rattle.shadow.specs.PaintedFields.{KeptStaysThere, WrittenIsThere}
 use Rattle.lu_pool.specs.HolderLaws.{IsSound}
 use Rattle.lu_pool.specs.declared.entry.Entry.{Entry}
 use Rattle.tn3270e_msg.specs.Device.{model_of}
-use Rattle.tn3270e_msg.specs.Talk.{Saying}
+use Rattle.tn3270e_msg.specs.Talk.{NegotiationMessage}
 use Rattle.tn3270e_msg.specs.TermTable.{Term}
 use Rattle.tn3270e_msg.specs.declared.reply.OwnedMessage.TheVariants.{FunIs}
 use Rattle.host_core.specs.Answering.{number_of}
@@ -27,17 +27,17 @@ use Rattle.host_core.specs.Session.{Session, agreed_lu, new_conn}
 use Rattle.host_core.specs.Takes.{may_have_changed}
 use Rattle.host_core.specs.declared.question.Question.{Question}
 use Rattle.world3270.specs.statement.Asked.{AreFieldsAsked, IsSeen}
-use Rattle.world3270.specs.statement.EveryTerminal.{AreByTheRules, Begins, EveryTerminal, IsByTheRules, Move, RightOf, ReportedLink, after_moves, came_down, came_up, moved, told_link}
+use Rattle.world3270.specs.statement.EveryTerminal.{AreByTheRules, FirstPaint, EveryTerminal, IsByTheRules, Move, RightOf, LinkWithReport, after_moves, came_down, came_up, moved, told_link}
 use Rattle.world3270.specs.refinement.LowerLaws.{LowerLaws}
 use Rattle.world3270.specs.statement.Headline.{Agrees, IsHostsTurn, SeesTheScreen}
 use Rattle.world3270.specs.model.Link.{Link}
-use Rattle.world3270.specs.refinement.Phases.{IsAt, LinkPhase, Serving, Talking, UnderWay}
+use Rattle.world3270.specs.refinement.Phases.{IsAt, LinkPhase, SessionPhase, NegotiationPhase, IsInFlight}
 use Rattle.world3270.specs.statement.Rules.{Binds}
 use Rattle.world3270.specs.statement.Observation.{HostSeen, SeenLink, TerminalSeen, end_seen, host_seen, seen_link, terminal_seen}
 use Rattle.world3270.specs.statement.Showing.{ShowsItsPanel}
 use Rattle.world3270.specs.statement.Shown.{HasShown, IsPanelShown}
 use Rattle.world3270.specs.statement.ShownFields.{WantsItsFields}
-use Rattle.world3270.specs.refinement.Invariant.{Fact, FactsAreExact, IsNew, Kept, ShownAt, local_state_of}
+use Rattle.world3270.specs.refinement.Invariant.{Fact, FactsAreExact, IsNew, ConnectionInvariant, ShownAt, local_state_of}
 use Rattle.world3270.specs.model.Terminal.{Display, TermEnd, bound_to, new_display}
 use Rattle.world3270.specs.refinement.View.{view_of}
 use Rattle.world3270.proofs.Asked.{asked_seen, each_asked}
@@ -49,14 +49,14 @@ use Rattle.world3270.proofs.ShownPanels.{shown_now}
 use Rattle.world3270.proofs.SimulatedDown.{noted_still, painted_still, read_still, talked_still}
 use Rattle.world3270.proofs.SimulatedHost.{acts_still, answers_still, hears_still, loses_still, notes_still}
 use Rattle.world3270.proofs.SimulatedKeys.{operates_still}
-use Rattle.world3270.proofs.SecondKeys.{Extras}
+use Rattle.world3270.proofs.SecondKeys.{AddsSecondKeys}
 use Rattle.world3270.proofs.Simulation.{Simulated, since_same}
 use Rattle.world3270.proofs.Unreturned.{all_as_left, all_kept}
 use Rattle.world3270.proofs.Worlds.{some_cells}
 
 -- ---- at agreement
 
-module _ (given : LowerLaws) (app : Application) (is : IsApplication app) (lu : List ℕ) (t : ReportedLink) (b : Begins app lu t) where
+module _ (given : LowerLaws) (app : Application) (is : IsApplication app) (lu : List ℕ) (t : LinkWithReport) (b : FirstPaint app lu t) where
   abbrev blank : Display
   blank = new_display (model_of b.device) app.begins
 
@@ -73,7 +73,7 @@ module _ (given : LowerLaws) (app : Application) (is : IsApplication app) (lu : 
   is_new : IsNew (local_state_of (view_of begun))
   is_new = record { shadow = refl; turn_reason = refl; lock = refl; aid = refl; no_fields = no_field (replicate (cells_in app.begins) (Char 0)) 0 (cells_in app.begins) }
 
-  is_at : (moment : LinkPhase) → IsAt (view_of begun) None moment → Fact None (local_state_of (view_of begun)) moment → ShownAt app false host blank.before_restored blank.last_restored blank.screen moment → Kept app (view_of begun)
+  is_at : (moment : LinkPhase) → IsAt (view_of begun) None moment → Fact None (local_state_of (view_of begun)) moment → ShownAt app false host blank.before_restored blank.last_restored blank.screen moment → ConnectionInvariant app (view_of begun)
   is_at moment at fact shown = record {
     whole = length-replicate (cells_in app.begins) (Char 0);
     cursor = some_cells app.begins is.begins;
@@ -88,15 +88,15 @@ module _ (given : LowerLaws) (app : Application) (is : IsApplication app) (lu : 
     shown = shown;
   }
 
-  all_of : {X : Type 0} (queue messages : List X) → queue ≡ messages → UnderWay t.link.lost queue messages
+  all_of : {X : Type 0} (queue messages : List X) → queue ≡ messages → IsInFlight t.link.lost queue messages
   all_of queue messages is_so = record { vanished = []; whole = append-nil queue ∙ is_so; none = λ _. refl }
 
-  begun_kept : Kept app (view_of begun)
+  begun_kept : ConnectionInvariant app (view_of begun)
   begun_kept = by_talk b.binds
     where
-      by_talk : Binds lu t.link.term.talk.talk.state t.link.down → Kept app (view_of begun)
+      by_talk : Binds lu t.link.term.talk.talk.state t.link.down → ConnectionInvariant app (view_of begun)
       by_talk (Binds.bound state down) =
-          is_at (LinkPhase.Serves lu Serving.Deciding)
+          is_at (LinkPhase.InSession lu SessionPhase.Deciding)
           (record {
             host_talk = record { device = b.device; state_is = b.agreed; model_is = refl };
             term_talk = state;
@@ -106,13 +106,13 @@ module _ (given : LowerLaws) (app : Application) (is : IsApplication app) (lu : 
             goes_up = all_of [] [] refl;
           }) (decides_new (local_state_of (view_of begun)) is_new nothing_known) (λ later. absurd (later refl), tt)
       by_talk (Binds.about_to state down) =
-          is_at (LinkPhase.Talks (Talking.Agreeing lu))
+          is_at (LinkPhase.Negotiating (NegotiationPhase.Agreeing lu))
           (record {
             host_talk = record { device = b.device; state_is = b.agreed; model_is = refl };
             term_talk = state;
             turn = refl;
             pending = refl;
-            goes_down = all_of t.link.down (ToTerminal.TalksDown (Saying.Sub FunIs) ∷ []) down;
+            goes_down = all_of t.link.down (ToTerminal.TalksDown (NegotiationMessage.Sub FunIs) ∷ []) down;
             goes_up = all_of [] [] refl;
           }) (is_new, tt) tt
 
@@ -132,7 +132,7 @@ module _ (given : LowerLaws) (app : Application) (is : IsApplication app) (lu : 
       lost = refl;
       down = refl;
       talk = refl;
-      up = subst (λ (up : List ToHost). Extras host.turn host.pending [] up) (sym b.nothing_up) refl;
+      up = subst (λ (up : List ToHost). AddsSecondKeys host.turn host.pending [] up) (sym b.nothing_up) refl;
       since = since_same given blank t.link.term.display b.blank
           (subst (λ (d : Display). d.screen.cursor < length d.screen.cells) (sym b.blank) (subst (λ (size : ℕ). 0 < size) (sym (length-replicate (cells_in app.begins) (Char 0))) (some_cells app.begins is.begins)));
     };
@@ -141,18 +141,18 @@ module _ (given : LowerLaws) (app : Application) (is : IsApplication app) (lu : 
 -- ---- each move
 
 module _ (given : LowerLaws) (app : Application) (is : IsApplication app) (lu : List ℕ) where
-  up_still : (t : ReportedLink) → Simulated app lu t → (pool : List Entry) → IsSound pool → (up : List ToHost) → t.link.up ≡ up → Simulated app lu (came_up pool up t)
+  up_still : (t : LinkWithReport) → Simulated app lu t → (pool : List Entry) → IsSound pool → (up : List ToHost) → t.link.up ≡ up → Simulated app lu (came_up pool up t)
   up_still t s pool sound [] is_up = s
   up_still t s pool sound (message ∷ rest) is_up = hears_still given app lu t s pool sound message rest is_up
 
-  down_still : (t : ReportedLink) → Simulated app lu t → (down : List ToTerminal) → t.link.down ≡ down → Simulated app lu (came_down down t)
+  down_still : (t : LinkWithReport) → Simulated app lu t → (down : List ToTerminal) → t.link.down ≡ down → Simulated app lu (came_down down t)
   down_still t s [] is_down = s
   down_still t s (ToTerminal.TalksDown saying ∷ rest) is_down = talked_still given app is lu t s saying rest is_down
   down_still t s (ToTerminal.Paint number wanted over ∷ rest) is_down = painted_still given app is lu t s number wanted over rest is_down
   down_still t s (ToTerminal.ReadBuffer number ∷ rest) is_down = read_still given app is lu t s number rest is_down
   down_still t s (ToTerminal.Note number command ∷ rest) is_down = noted_still given app is lu t s number command rest is_down
 
-  pub move_still : (move : Move) (t : ReportedLink) → IsByTheRules move t → Simulated app lu t → Simulated app lu (moved app move t)
+  pub move_still : (move : Move) (t : LinkWithReport) → IsByTheRules move t → Simulated app lu t → Simulated app lu (moved app move t)
   move_still (Move.Up pool) t sound s = up_still t s pool sound t.link.up refl
   move_still Move.Down t rules s = down_still t s t.link.down refl
   move_still Move.Act t rules s = acts_still given app is lu t s
@@ -161,7 +161,7 @@ module _ (given : LowerLaws) (app : Application) (is : IsApplication app) (lu : 
   move_still (Move.Operate step) t rules s = operates_still given app lu t s step rules.0 rules.1
   move_still Move.Lose t rules s = loses_still given app is lu t s
 
-  moves_still : (moves : List Move) (t : ReportedLink) → AreByTheRules app moves t → Simulated app lu t → Simulated app lu (after_moves app moves t)
+  moves_still : (moves : List Move) (t : LinkWithReport) → AreByTheRules app moves t → Simulated app lu t → Simulated app lu (after_moves app moves t)
   moves_still [] t rules s = s
   moves_still (move ∷ moves) t rules s = moves_still moves (moved app move t) rules.1 (move_still move t rules.0 s)
 
@@ -187,7 +187,7 @@ lists_despite round erased Shadow.NothingKnown told now lists meets held = λ so
     by_fields [] none some = some (still_unformatted round erased told.cells now.cells held none)
     by_fields (field ∷ more) found some = lists (λ none. let clash = sym found ∙ none in absurd (cc))
 
-module _ (given : LowerLaws) (written : WrittenIsThere) (kept : KeptStaysThere) (app : Application) (is : IsApplication app) (lu : List ℕ) (t : ReportedLink) (s : Simulated app lu t) where
+module _ (given : LowerLaws) (written : WrittenIsThere) (kept : KeptStaysThere) (app : Application) (is : IsApplication app) (lu : List ℕ) (t : LinkWithReport) (s : Simulated app lu t) where
   abbrev end : Link
   end = s.told
 

@@ -23,7 +23,7 @@ use Rattle.world3270.specs.refinement.LowerLaws.{LowerLaws}
 use Rattle.world3270.specs.model.Steps.{closed_if, said, freed_if, came_up, left_alone, place_after, came_down, went_down, key_went, parted, term_saw, joined, term_anew, host_left_from, done, stepped_by, run}
 use Rattle.world3270.specs.model.Link.{Link, begun, unused, cut, host_left, host_stepped, host_sent, term_left, term_left_if, term_stepped}
 use Rattle.world3270.specs.model.Enabled.{is_enabled, free_number}
-use Rattle.world3270.specs.refinement.Invariant.{Kept}
+use Rattle.world3270.specs.refinement.Invariant.{ConnectionInvariant}
 use Rattle.world3270.specs.model.Terminal.{Display, TermStep, new_display, after_key, key_came, took as term_took}
 use Rattle.world3270.specs.refinement.View.{view_of}
 use Rattle.world3270.specs.model.World.{Place, World, Event, AreEvents, new_world, with_at, display_at}
@@ -36,22 +36,22 @@ use Rattle.world3270.proofs.Worlds.{GoodWorld, happens_good, new_good}
 pub record Steps (app : Application) (IsSuch : Event → Type 0) (OfLink : Link → Type 0) (OfDisplay : Display → Type 0) : Type 0 where
   pub never : (serves : Terminals) → OfLink (unused app serves)
   pub begins : (serves : Terminals) (model : Model) (terminal : ℕ) (wanted : Option (List ℕ)) → OfLink (begun app serves model terminal wanted)
-  pub up : (pool : Answers) (link : Link) (message : ToHost) (rest : List ToHost) → link.up ≡ message ∷ rest → Kept app (view_of link) → OfLink link
+  pub up : (pool : Answers) (link : Link) (message : ToHost) (rest : List ToHost) → link.up ≡ message ∷ rest → ConnectionInvariant app (view_of link) → OfLink link
       → OfLink (host_stepped (host_took pool link.host message) rest link)
-  pub acts : (link : Link) → Kept app (view_of link) → OfLink link → OfLink (host_sent (acted app link.host) link)
-  pub answers : (number : ℕ) (said : ApplicationAnswer) (link : Link) → IsSuch (Event.Answer number said) → Kept app (view_of link) → OfLink link
+  pub acts : (link : Link) → ConnectionInvariant app (view_of link) → OfLink link → OfLink (host_sent (acted app link.host) link)
+  pub answers : (number : ℕ) (said : ApplicationAnswer) (link : Link) → IsSuch (Event.Answer number said) → ConnectionInvariant app (view_of link) → OfLink link
       → OfLink (host_sent (answered_on app link.host said) link)
-  pub notes : (number : ℕ) (text : List ℕ) (link : Link) → IsSuch (Event.Note number text) → Kept app (view_of link) → OfLink link
+  pub notes : (number : ℕ) (text : List ℕ) (link : Link) → IsSuch (Event.Note number text) → ConnectionInvariant app (view_of link) → OfLink link
       → OfLink (host_sent (noted text link.host) link)
-  pub down : (link : Link) (message : ToTerminal) (rest : List ToTerminal) → link.down ≡ message ∷ rest → Kept app (view_of link) → OfLink link
+  pub down : (link : Link) (message : ToTerminal) (rest : List ToTerminal) → link.down ≡ message ∷ rest → ConnectionInvariant app (view_of link) → OfLink link
       → OfLink (term_view (term_took link.term message) rest link)
-  pub key : (terminal : ℕ) (key : Key) (link : Link) → IsSuch (Event.Press terminal key) → Kept app (view_of link) → OfLink link
+  pub key : (terminal : ℕ) (key : Key) (link : Link) → IsSuch (Event.Press terminal key) → ConnectionInvariant app (view_of link) → OfLink link
       → OfLink (term_stepped (key_came key link.term) link.down link)
   pub loses : (link : Link) → OfLink link → OfLink (cut link)
   pub host_leaves : (link : Link) → OfLink link → OfLink (host_left link)
   pub term_leaves : (link : Link) → OfLink link → OfLink (term_left link)
   pub fresh : (model : Model) → OfDisplay (new_display model app.begins)
-  pub alone : (link : Link) → Kept app (view_of link) → OfLink link → OfDisplay (left_alone link.term.display)
+  pub alone : (link : Link) → ConnectionInvariant app (view_of link) → OfLink link → OfDisplay (left_alone link.term.display)
   pub key_alone : (terminal : ℕ) (key : Key) (display : Display) → IsSuch (Event.Press terminal key) → OfDisplay display → OfDisplay (after_key key display)
 
 -- the display of a terminal that is alone

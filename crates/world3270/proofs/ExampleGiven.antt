@@ -17,7 +17,7 @@ use Rattle.lu_pool.specs.declared.entry.Entry.{Entry}
 use Rattle.panels.specs.Screen.{Values}
 use Rattle.panels.specs.declared.message.Message.{Message}
 use Rattle.tn3270e_msg.specs.Lu.{is_lu}
-use Rattle.host_core.specs.Application.{IsApplication, IsShape, IsShowable, KeepsNothing, IsSizeOf}
+use Rattle.host_core.specs.Application.{IsApplication, IsValidSize, IsShowable, KeepsNothing, IsSizeOf}
 use Rattle.host_core.specs.Notes.{IsNoteText, is_graphic, longest_note}
 use Rattle.world3270.specs.examples.ExampleApplication.{example, screen_of, l2, example_pool, alternate, shown_to}
 use Rattle.world3270.specs.model.World.{Event, IsEvent, AreEvents}
@@ -41,10 +41,10 @@ sizes M2 (suc panel) values message keep = inl refl
 sizes M3 (suc panel) values message keep = inl refl
 sizes M4 (suc panel) values message keep = inl refl
 
-is_shape : IsShape example.begins
+is_shape : IsValidSize example.begins
 is_shape = record { columns = lit< tt; row = lit≤ tt; addresses = lit≤ tt }
 
-alternates : (model : Model) → IsShape (alternate model)
+alternates : (model : Model) → IsValidSize (alternate model)
 alternates M2 = is_shape
 alternates M3 = is_shape
 alternates M4 = is_shape

@@ -17,7 +17,7 @@ use Rattle.world3270.specs.refinement.Deliveries.{AreDeliveries, host_rest, take
 use Rattle.world3270.specs.model.Steps.{done, stepped_by}
 use Rattle.world3270.specs.refinement.MessageLaws.{MessageLaws}
 use Rattle.world3270.specs.model.Enabled.{is_enabled as is_enabled_over_messages}
-use Rattle.world3270.specs.refinement.Refines.{Begin, IsBegin, Reached, IsReached, IsReal, GoesOn, ComesTo, StepsGoOn, SkipsAreThose, ComeTo, NextComesTo, RunGoesOn, RunsGoOn, StepOverMessages, RunOverMessages, AreReal, after, once, once_taken}
+use Rattle.world3270.specs.refinement.Refines.{WorldSetup, IsWorldSetup, Reached, IsReached, IsValidEvent, GoesOn, CorrespondsTo, StepsAreSimulated, SameSkips, CorrespondTo, NextCorrespondsTo, RunIsSimulated, RunsAreSimulated, StepOverMessages, RunOverMessages, AreValidEvents, after, once, once_taken}
 use Rattle.world3270.specs.refinement.Sendable.{IsWellFormed}
 use Rattle.world3270.specs.refinement.Representation.{WorldRepresents}
 use Rattle.world3270.specs.refinement.Represents.{all_items, without_nops}
@@ -63,7 +63,7 @@ goes go event.RestartHost = go.restart_host
 
 -- ---- an event that has no place
 
-module _ (begin : Begin) (events : List MessageEvent) (old new : ByteWorld) (reached : Reached begin events old) (same : new ≡ old) where
+module _ (begin : WorldSetup) (events : List MessageEvent) (old new : ByteWorld) (reached : Reached begin events old) (same : new ≡ old) where
   -- what happens over messages is skipped too
   skipped : (message : MessageEvent) → IsEvent message × IsWellFormed message → is_enabled_over_messages (application_of begin.panels) message (after begin events) ≡ false
       → Reached begin (events ++ message ∷ []) new
@@ -76,13 +76,13 @@ module _ (begin : Begin) (events : List MessageEvent) (old new : ByteWorld) (rea
       (ap (λ (b : ByteWorld). b.host.panels) same)
       (subst (λ (w : World). WorldRepresents new w) (sym stays) (subst (λ (b : ByteWorld). WorldRepresents b world) (sym same) reached.stands))
 
-module _ (known : MessageLaws) (skips : SkipsAreThose) (begin : Begin) (events : List MessageEvent) (old : ByteWorld) (answer : Stepped) (new : ByteWorld)
-    (is : IsBegin begin) (reached : Reached begin events old) (skip : answer ≡ stepped.Skipped) (same : new ≡ old) where
+module _ (known : MessageLaws) (skips : SameSkips) (begin : WorldSetup) (events : List MessageEvent) (old : ByteWorld) (answer : Stepped) (new : ByteWorld)
+    (is : IsWorldSetup begin) (reached : Reached begin events old) (skip : answer ≡ stepped.Skipped) (same : new ≡ old) where
   is_once : (event : MessageEvent) → event ∷ [] ≡ once event answer
   is_once event = sym (ap (once event) skip)
 
   skips_once : (event : Event) (message : MessageEvent) → IsEvent message × IsWellFormed message → is_enabled event old ≡ is_enabled_over_messages (application_of begin.panels) message (after begin events)
-      → is_enabled event old ≡ false → ComesTo event old answer (message ∷ []) → GoesOn begin events event old answer new
+      → is_enabled event old ≡ false → CorrespondsTo event old answer (message ∷ []) → GoesOn begin events event old answer new
   skips_once event message real alike place comes = record {
     more = message ∷ [];
     comes_to = comes;
@@ -95,7 +95,7 @@ module _ (known : MessageLaws) (skips : SkipsAreThose) (begin : Begin) (events :
   none_taken spoken rest bytes delivery none held =
       subst (λ (a : Stepped). AreDeliveries spoken rest (taken_by a bytes) delivery []) (sym skip) (none_delivered known spoken rest delivery none held)
 
-  skips_go : (event : Event) → IsReal event → is_enabled event old ≡ false → GoesOn begin events event old answer new
+  skips_go : (event : Event) → IsValidEvent event → is_enabled event old ≡ false → GoesOn begin events event old answer new
   skips_go (event.Up number count) real place = record {
     more = [];
     comes_to = none_taken all_items (host_rest number old) (take count (up_of number old)) (MessageEvent.Up number) refl (host_rest_is known number old (after begin events) reached.stands);
@@ -122,7 +122,7 @@ module _ (known : MessageLaws) (skips : SkipsAreThose) (begin : Begin) (events :
 
 -- ---- each event
 
-pub steps_go_on : MessageLaws → EventsGo → SkipsAreThose → StepsGoOn
+pub steps_go_on : MessageLaws → EventsGo → SameSkips → StepsAreSimulated
 steps_go_on known go skips begin events event old answer new is reached real steps = by_place (is_enabled event old) refl steps
   where
     by_place : (b : Bool) → is_enabled event old ≡ b → IsStepIf b event old answer new → GoesOn begin events event old answer new
@@ -130,7 +130,7 @@ steps_go_on known go skips begin events event old answer new is reached real ste
     by_place false place nothing = skips_go known skips begin events old answer new is reached nothing.0 nothing.1 event real place
 
 -- So a world that was reached is still one that is.
-pub step_reaches : StepsGoOn → (event : Event) (old : ByteWorld) (answer : Stepped) (new : ByteWorld) → IsReal event → Steps event old answer new → IsReached old → IsReached new
+pub step_reaches : StepsAreSimulated → (event : Event) (old : ByteWorld) (answer : Stepped) (new : ByteWorld) → IsValidEvent event → Steps event old answer new → IsReached old → IsReached new
 step_reaches go event old answer new real steps is =
     let goes_on = go is.begin is.events event old answer new is.is_begin is.reached real steps in
     record { begin = is.begin; is_begin = is.is_begin; events = is.events ++ goes_on.more; reached = goes_on.reached }
@@ -138,16 +138,16 @@ step_reaches go event old answer new real steps is =
 -- ---- many events
 
 -- what events that happened are over messages
-pub record HaveGone (begin : Begin) (before : List MessageEvent) (events : List Event) (old new : ByteWorld) : Type 0 where
+pub record AllSimulated (begin : WorldSetup) (before : List MessageEvent) (events : List Event) (old new : ByteWorld) : Type 0 where
   pub more : List MessageEvent
-  pub come : ComeTo begin before events old new more
+  pub come : CorrespondTo begin before events old new more
   pub reached : Reached begin (before ++ more) new
 
-grouped : (begin : Begin) (before first others : List MessageEvent) (new : ByteWorld) → Reached begin ((before ++ first) ++ others) new → Reached begin (before ++ (first ++ others)) new
+grouped : (begin : WorldSetup) (before first others : List MessageEvent) (new : ByteWorld) → Reached begin ((before ++ first) ++ others) new → Reached begin (before ++ (first ++ others)) new
 grouped begin before first others new reached = subst (λ (es : List MessageEvent). Reached begin es new) (append_assoc before first others) reached
 
-all_gone : StepsGoOn → (begin : Begin) (before : List MessageEvent) (events : List Event) (old new : ByteWorld)
-    → IsBegin begin → Reached begin before old → AreReal events → AllHappen events old new → HaveGone begin before events old new
+all_gone : StepsAreSimulated → (begin : WorldSetup) (before : List MessageEvent) (events : List Event) (old new : ByteWorld)
+    → IsWorldSetup begin → Reached begin before old → AreValidEvents events → AllHappen events old new → AllSimulated begin before events old new
 all_gone go begin before [] old new is reached real none =
     record { more = []; come = (none, refl); reached = reached_still begin before old new reached none }
 all_gone go begin before (event ∷ events) old new is reached real all =
@@ -160,32 +160,32 @@ all_gone go begin before (event ∷ events) old new is reached real all =
     }
 
 -- the next of the events
-pub record HasStopped (begin : Begin) (before : List MessageEvent) (events : List Event) (part : ℕ) (old new : ByteWorld) : Type 0 where
+pub record HasStopped (begin : WorldSetup) (before : List MessageEvent) (events : List Event) (part : ℕ) (old new : ByteWorld) : Type 0 where
   pub more : List MessageEvent
-  pub comes : NextComesTo begin before events part old new more
+  pub comes : NextCorrespondsTo begin before events part old new more
   pub reached : Reached begin (before ++ more) new
 
-stopped : StepsGoOn → (begin : Begin) (before : List MessageEvent) (events : List Event) (part : ℕ) (old new : ByteWorld)
-    → IsBegin begin → Reached begin before old → AreReal events → StopsAt events part old new → HasStopped begin before events part old new
+stopped : StepsAreSimulated → (begin : WorldSetup) (before : List MessageEvent) (events : List Event) (part : ℕ) (old new : ByteWorld)
+    → IsWorldSetup begin → Reached begin before old → AreValidEvents events → StopsAt events part old new → HasStopped begin before events part old new
 stopped go begin before [] part old new is reached real stops =
     record { more = []; comes = (stops.0, stops.1, refl); reached = reached_still begin before old new reached stops.1 }
 stopped go begin before (event ∷ events) part old new is reached real stops =
     let one = go begin before event old stops.0 new is reached real.0 stops.1 in
     record { more = one.more; comes = (stops.0, stops.1, stops.2, one, refl); reached = one.reached }
 
-real_first : (count : ℕ) (events : List Event) → AreReal events → AreReal (take count events)
+real_first : (count : ℕ) (events : List Event) → AreValidEvents events → AreValidEvents (take count events)
 real_first zero events real = tt
 real_first (suc count) [] real = tt
 real_first (suc count) (event ∷ events) real = (real.0, real_first count events real.1)
 
-real_others : (count : ℕ) (events : List Event) → AreReal events → AreReal (drop count events)
+real_others : (count : ℕ) (events : List Event) → AreValidEvents events → AreValidEvents (drop count events)
 real_others zero events real = real
 real_others (suc count) [] real = tt
 real_others (suc count) (event ∷ events) real = real_others count events real.1
 
-whole_and_next : (begin : Begin) (before : List MessageEvent) (events : List Event) (old mid : ByteWorld) (ran : Ran) (new : ByteWorld)
-    → (whole : HaveGone begin before (take ran.whole events) old mid) → HasStopped begin (before ++ whole.more) (drop ran.whole events) ran.part mid new
-    → RunGoesOn begin before events old ran new
+whole_and_next : (begin : WorldSetup) (before : List MessageEvent) (events : List Event) (old mid : ByteWorld) (ran : Ran) (new : ByteWorld)
+    → (whole : AllSimulated begin before (take ran.whole events) old mid) → HasStopped begin (before ++ whole.more) (drop ran.whole events) ran.part mid new
+    → RunIsSimulated begin before events old ran new
 whole_and_next begin before events old mid ran new whole next = record {
   first = whole.more;
   last = next.more;
@@ -196,7 +196,7 @@ whole_and_next begin before events old mid ran new whole next = record {
   reached = grouped begin before whole.more next.more new next.reached;
 }
 
-pub runs_go_on : StepsGoOn → RunsGoOn
+pub runs_go_on : StepsAreSimulated → RunsAreSimulated
 runs_go_on go begin before events old ran new is reached real runs =
     let whole = all_gone go begin before (take ran.whole events) old runs.mid is reached (real_first ran.whole events real) runs.whole in
     whole_and_next begin before events old runs.mid ran new whole
@@ -206,23 +206,23 @@ runs_go_on go begin before events old ran new is reached real runs =
 
 -- whatever world over messages the old bytes represent
 abbrev pub Gone : List Event → ByteWorld → ByteWorld → Type 0
-Gone events old new = (begin : Begin) (before : List MessageEvent) → IsBegin begin → Reached begin before old → HaveGone begin before events old new
+Gone events old new = (begin : WorldSetup) (before : List MessageEvent) → IsWorldSetup begin → Reached begin before old → AllSimulated begin before events old new
 
 pub none_gone : (old new : ByteWorld) → new ≡ old → Gone [] old new
 none_gone old new same begin before is reached = record { more = []; come = (same, refl); reached = reached_still begin before old new reached same }
 
 -- the same step, of a world and after events that are the same
-abbrev goes_on_from : (begin : Begin) (before others : List MessageEvent) (event : Event) (mid old : ByteWorld) (answer : Stepped) (new : ByteWorld)
+abbrev goes_on_from : (begin : WorldSetup) (before others : List MessageEvent) (event : Event) (mid old : ByteWorld) (answer : Stepped) (new : ByteWorld)
     → before ≡ others → mid ≡ old → GoesOn begin before event mid answer new → GoesOn begin others event old answer new
 goes_on_from begin before others event mid old answer new same world one = record {
   more = one.more;
-  comes_to = subst (λ (w : ByteWorld). ComesTo event w answer one.more) world one.comes_to;
+  comes_to = subst (λ (w : ByteWorld). CorrespondsTo event w answer one.more) world one.comes_to;
   reached = subst (λ (es : List MessageEvent). Reached begin (es ++ one.more) new) same one.reached;
 }
 
-come_more : (begin : Begin) (before : List MessageEvent) (events : List Event) (event : Event) (old mid new : ByteWorld) (answer : Stepped) (first : List MessageEvent)
-    → ComeTo begin before events old mid first → Steps event mid answer new → refused_at answer ≡ None → (one : GoesOn begin (before ++ first) event mid answer new)
-    → ComeTo begin before (events ++ event ∷ []) old new (first ++ one.more)
+come_more : (begin : WorldSetup) (before : List MessageEvent) (events : List Event) (event : Event) (old mid new : ByteWorld) (answer : Stepped) (first : List MessageEvent)
+    → CorrespondTo begin before events old mid first → Steps event mid answer new → refused_at answer ≡ None → (one : GoesOn begin (before ++ first) event mid answer new)
+    → CorrespondTo begin before (events ++ event ∷ []) old new (first ++ one.more)
 come_more begin before [] event old mid new answer first come steps goes one =
     let none : before ++ first ≡ before = ap (λ (m : List MessageEvent). before ++ m) come.1 ∙ append-nil before in (
       answer,
@@ -257,7 +257,7 @@ gone_more events index d old mid new answer below gone steps over goes begin bef
     let one = over.goes_on begin (before ++ whole.more) is whole.reached in
     record {
       more = whole.more ++ one.more;
-      come = subst (λ (es : List Event). ComeTo begin before es old new (whole.more ++ one.more)) (sym (take_more events index d below))
+      come = subst (λ (es : List Event). CorrespondTo begin before es old new (whole.more ++ one.more)) (sym (take_more events index d below))
           (come_more begin before (take index events) (get_or events index d) old mid new answer whole.more whole.come steps goes one);
       reached = grouped begin before whole.more one.more new one.reached;
     }
@@ -275,12 +275,12 @@ all_ran events index ran old new past whole part gone represents = record {
       whole_and_next begin before events old new ran new
       (record {
         more = have.more;
-        come = subst (λ (es : List Event). ComeTo begin before es old new have.more) all have.come;
+        come = subst (λ (es : List Event). CorrespondTo begin before es old new have.more) all have.come;
         reached = have.reached;
       })
       (record {
         more = [];
-        comes = subst (λ (es : List Event). NextComesTo begin (before ++ have.more) es ran.part new new []) (sym none) (part, refl, refl);
+        comes = subst (λ (es : List Event). NextCorrespondsTo begin (before ++ have.more) es ran.part new new []) (sym none) (part, refl, refl);
         reached = reached_still begin (before ++ have.more) new new have.reached refl;
       });
 }
@@ -297,13 +297,13 @@ part_ran events index d ran old mid new answer below whole gone steps over refus
       whole_and_next begin before events old mid ran new
       (record {
         more = have.more;
-        come = subst (λ (n : ℕ). ComeTo begin before (take n events) old mid have.more) (sym whole) have.come;
+        come = subst (λ (n : ℕ). CorrespondTo begin before (take n events) old mid have.more) (sym whole) have.come;
         reached = have.reached;
       })
       (record {
         more = one.more;
-        comes = subst (λ (n : ℕ). NextComesTo begin (before ++ have.more) (drop n events) ran.part mid new one.more) (sym whole)
-            (subst (λ (es : List Event). NextComesTo begin (before ++ have.more) es ran.part mid new one.more)
+        comes = subst (λ (n : ℕ). NextCorrespondsTo begin (before ++ have.more) (drop n events) ran.part mid new one.more) (sym whole)
+            (subst (λ (es : List Event). NextCorrespondsTo begin (before ++ have.more) es ran.part mid new one.more)
             (sym (at_drop_more (λ (es : List Event). es) events index d below)) (answer, steps, refused, one, refl));
         reached = one.reached;
       });

@@ -8,7 +8,7 @@ use Rattle.std.proofs.lemmas.List.{get_or_past, get_or-set_same, get_or-set_othe
 use Rattle.std.proofs.lemmas.List.Quantifiers.{position-Some}
 use Rattle.telnet_wire.specs.Reading.{Rest}
 use Rattle.host_core.specs.Session.{Session}
-use Rattle.host_core.specs.State.{Host, Connection, unused, most_connections, connection_at, service_at, with_connection}
+use Rattle.host_core.specs.State.{Host, Connection, unused, most_connections, connection_at, state_at, with_connection}
 use Rattle.world3270.specs.model.ByteWorld.{ByteWorld, Transits, TerminalSlot, under_way, is_live, is_there, unused_transits, no_slot, transits_at, slot_at, with_transits, with_slot, is_attached_to, terminal_at, host_there, host_out, out_of}
 use Rattle.world3270.specs.model.Link.{Link}
 use Rattle.world3270.specs.model.Places.{EndsAgree}
@@ -193,7 +193,7 @@ pub record Changed (number terminal : ℕ) (old new : ByteWorld) (was now : Worl
   pub pool : new.host.pool ≡ now.pool
   pub before : IsHere number (was.place terminal)
   pub behind : IsHere number (now.place terminal)
-  pub none_closed : IsNotClosed (service_at number new.host)
+  pub none_closed : IsNotClosed (state_at number new.host)
   pub settled : IsSettled (connection_at number new.host)
   pub flow : AreTransits (now.link number).term_here number new
   pub link : LinkRepresents (link_with (now.link number).term_here number new) (now.link number)
@@ -257,8 +257,8 @@ module _ (number terminal : ℕ) (old new : ByteWorld) (was now : World) (c : Ch
       (λ other differs. subst (λ (l : Link). AreTransits l.term_here other new) (sym (c.links other differs))
       (flow_stays other differs (was.link other).term_here refl (flow_there other old was agree stands)))
 
-  closed_stands : (other : ℕ) → IsNotClosed (service_at other new.host)
-  closed_stands = one_or_another (λ (other : ℕ). IsNotClosed (service_at other new.host)) number c.none_closed
+  closed_stands : (other : ℕ) → IsNotClosed (state_at other new.host)
+  closed_stands = one_or_another (λ (other : ℕ). IsNotClosed (state_at other new.host)) number c.none_closed
       (λ other differs. subst (λ (l : Connection). IsNotClosed l.service) (sym (c.connections other differs)) (stands.none_closed other))
 
   settled_stands : (other : ℕ) → IsSettled (connection_at other new.host)

@@ -19,15 +19,15 @@ use Rattle.host_core.specs.declared.turn.Turn.TheVariants as whose
 use Rattle.host_core.specs.declared.turn_reason.TurnReason.{TurnReason}
 use Rattle.host_core.specs.declared.turn_reason.TurnReason.TheVariants as turn_reasons
 use Rattle.host_core.specs.Session.{Session, Pending, agreed_lu}
-use Rattle.world3270.specs.statement.Always.{Always, HeadlineHolds, is_refusal, NobodyRefuses}
+use Rattle.world3270.specs.statement.Always.{Always, HeadlineHolds, is_refusal, NoCommandIsRejected}
 use Rattle.world3270.specs.refinement.LowerLaws.{LowerLaws}
 use Rattle.world3270.specs.model.Steps.{run}
 use Rattle.world3270.specs.statement.Headline.{SentFields, OneSessionEach, BoundIsGranted, IsHostsTurn, Agrees}
 use Rattle.world3270.specs.model.Link.{Link}
-use Rattle.world3270.specs.refinement.Phases.{Talking, Serving, LinkPhase, UnderWay, IsAt, turn_at, pending_at, up_at}
+use Rattle.world3270.specs.refinement.Phases.{NegotiationPhase, SessionPhase, LinkPhase, IsInFlight, IsAt, turn_at, pending_at, up_at}
 use Rattle.world3270.specs.statement.TurnReasons.{IsOccasion, IsOpenBy, IsOpenFor, IsCleared, ActsOnTheKey, KnowsTheCleared, LeavesNothingOpen}
 use Rattle.world3270.specs.statement.Observation.{HostSeen, TerminalSeen, conn_seen, end_seen, host_seen, seen, seen_link, terminal_seen}
-use Rattle.world3270.specs.refinement.Invariant.{local_state_of, Fact, IfRelies, Kept}
+use Rattle.world3270.specs.refinement.Invariant.{local_state_of, Fact, IfRelies, ConnectionInvariant}
 use Rattle.world3270.specs.model.Terminal.{TermEnd, bound_to}
 use Rattle.world3270.specs.refinement.View.{View, view_of}
 use Rattle.world3270.specs.model.World.{World, new_world}
@@ -39,13 +39,13 @@ use Rattle.world3270.proofs.TalkStates.{agreed_on, talking_unbound}
 -- ---- who is bound to what
 
 -- where the terminal is bound to an LU, the host's end agreed on it
-pub bound_agrees : (app : Application) (v : View) (mine : List ℕ) → Kept app v → bound_to v.talk.talk.state ≡ Some mine → agreed_lu v.host.talk.state ≡ Some mine
+pub bound_agrees : (app : Application) (v : View) (mine : List ℕ) → ConnectionInvariant app v → bound_to v.talk.talk.state ≡ Some mine → agreed_lu v.host.talk.state ≡ Some mine
 bound_agrees app v mine k e = by_moment k.moment k.at
   where
     by_moment : (moment : LinkPhase) → IsAt v k.wanted moment → agreed_lu v.host.talk.state ≡ Some mine
-    by_moment (LinkPhase.Talks talking) at = absurd (talking_unbound v.model k.wanted talking v.talk at.term_talk (ap is_some e))
-    by_moment (LinkPhase.Begins lu number command wanted over) at = absurd (let wrong = sym (ap bound_to at.term_talk) ∙ e in cc)
-    by_moment (LinkPhase.Serves lu serving) at = agreed_on v.host.talk at.host_talk ∙ sym (ap bound_to at.term_talk) ∙ e
+    by_moment (LinkPhase.Negotiating talking) at = absurd (talking_unbound v.model k.wanted talking v.talk at.term_talk (ap is_some e))
+    by_moment (LinkPhase.FirstPaint lu number command wanted over) at = absurd (let wrong = sym (ap bound_to at.term_talk) ∙ e in cc)
+    by_moment (LinkPhase.InSession lu serving) at = agreed_on v.host.talk at.host_talk ∙ sym (ap bound_to at.term_talk) ∙ e
 
 -- an LU that was agreed on was granted
 agreed_granted : (state : HostState) (mine : List ℕ) → agreed_lu state ≡ Some mine → granted state ≡ Some mine
@@ -96,7 +96,7 @@ pub record Knows (v : View) : Type 0 where
 
 -- the moments at which it holds the turn, with nothing that waits for an answer
 knows_by : (wanted : Option (List ℕ)) (v : View) (moment : LinkPhase) → Fact wanted (local_state_of v) moment → turn_at moment ≡ whose.Host → pending_at moment ≡ Pending.Nothing → Knows v
-knows_by wanted v (LinkPhase.Talks talking) f t p = record {
+knows_by wanted v (LinkPhase.Negotiating talking) f t p = record {
   meets = subst (λ s. Meets s v.screen) (sym f.0.shadow) tt;
   lists = λ some. absurd (some f.0.no_fields);
   told = λ sent. absurd (subst SentFields f.0.aid sent);
@@ -104,23 +104,23 @@ knows_by wanted v (LinkPhase.Talks talking) f t p = record {
   closed = λ relies. subst (λ o. IsOpenFor o v.host.shadow) (sym f.0.turn_reason) (none_open v.host.shadow f.0.shadow);
   cleared = λ clear. absurd (let x = sym f.0.aid ∙ clear in cc);
 }
-knows_by wanted v (LinkPhase.Begins lu number command wants over) f t p = absurd (cc)
-knows_by wanted v (LinkPhase.Serves lu Serving.Deciding) f t p =
+knows_by wanted v (LinkPhase.FirstPaint lu number command wants over) f t p = absurd (cc)
+knows_by wanted v (LinkPhase.InSession lu SessionPhase.Deciding) f t p =
     record { meets = f.sees.meets; lists = f.sees.lists; told = f.sees.told; turn_reason = f.turn_reason; closed = f.closed; cleared = f.sees.cleared }
-knows_by wanted v (LinkPhase.Serves lu (Serving.Reading number)) f t p = absurd (cc)
-knows_by wanted v (LinkPhase.Serves lu (Serving.Reported number parts)) f t p = absurd (cc)
-knows_by wanted v (LinkPhase.Serves lu (Serving.NotedLate number command)) f t p = absurd (cc)
-knows_by wanted v (LinkPhase.Serves lu (Serving.AnsweredLate number command)) f t p = absurd (cc)
-knows_by wanted v (LinkPhase.Serves lu (Serving.Painting number command wants over)) f t p = absurd (cc)
-knows_by wanted v (LinkPhase.Serves lu (Serving.Answering kind number command)) f t p = absurd (cc)
-knows_by wanted v (LinkPhase.Serves lu Serving.Operating) f t p = absurd (cc)
-knows_by wanted v (LinkPhase.Serves lu (Serving.Noting number command)) f t p = absurd (cc)
-knows_by wanted v (LinkPhase.Serves lu (Serving.KeyAlone parts)) f t p = absurd (cc)
-knows_by wanted v (LinkPhase.Serves lu (Serving.KeyBehind kind number command parts)) f t p = absurd (cc)
-knows_by wanted v (LinkPhase.Serves lu (Serving.KeyNoted number command parts)) f t p = absurd (cc)
-knows_by wanted v (LinkPhase.Serves lu (Serving.KeyBefore number command parts)) f t p = absurd (cc)
+knows_by wanted v (LinkPhase.InSession lu (SessionPhase.Reading number)) f t p = absurd (cc)
+knows_by wanted v (LinkPhase.InSession lu (SessionPhase.BufferReturning number parts)) f t p = absurd (cc)
+knows_by wanted v (LinkPhase.InSession lu (SessionPhase.DecidingNoteSent number command)) f t p = absurd (cc)
+knows_by wanted v (LinkPhase.InSession lu (SessionPhase.DecidingNoteAnswered number command)) f t p = absurd (cc)
+knows_by wanted v (LinkPhase.InSession lu (SessionPhase.Painting number command wants over)) f t p = absurd (cc)
+knows_by wanted v (LinkPhase.InSession lu (SessionPhase.AwaitingWriteResponse kind number command)) f t p = absurd (cc)
+knows_by wanted v (LinkPhase.InSession lu SessionPhase.OperatorTyping) f t p = absurd (cc)
+knows_by wanted v (LinkPhase.InSession lu (SessionPhase.Noting number command)) f t p = absurd (cc)
+knows_by wanted v (LinkPhase.InSession lu (SessionPhase.KeySent parts)) f t p = absurd (cc)
+knows_by wanted v (LinkPhase.InSession lu (SessionPhase.KeySentAfterResponse kind number command parts)) f t p = absurd (cc)
+knows_by wanted v (LinkPhase.InSession lu (SessionPhase.KeyCrossingNote number command parts)) f t p = absurd (cc)
+knows_by wanted v (LinkPhase.InSession lu (SessionPhase.KeyBeforeNoteResponse number command parts)) f t p = absurd (cc)
 
-pub knows_at : (app : Application) (v : View) → Kept app v → v.host.turn ≡ whose.Host → v.host.pending ≡ Pending.Nothing → Knows v
+pub knows_at : (app : Application) (v : View) → ConnectionInvariant app v → v.host.turn ≡ whose.Host → v.host.pending ≡ Pending.Nothing → Knows v
 knows_at app v k t p = knows_by k.wanted v k.moment k.fact (sym k.at.turn ∙ t) (sym k.at.pending ∙ p)
 
 -- no number waits: nothing does
@@ -130,7 +130,7 @@ nothing_waits (Pending.Writing number command) e = absurd (cc)
 nothing_waits (Pending.Reading number) e = absurd (cc)
 nothing_waits (Pending.Noting number command) e = absurd (cc)
 
-knows_turn : (app : Application) (link : Link) → Kept app (view_of link) → IsHostsTurn (seen_link link) → Knows (view_of link)
+knows_turn : (app : Application) (link : Link) → ConnectionInvariant app (view_of link) → IsHostsTurn (seen_link link) → Knows (view_of link)
 knows_turn app link k h =
     let here = host_attached link.host_here link.host h.host h.host_is in
     knows_at app (view_of link) k (sym (ap (λ (host : HostSeen). host.turn) here.1) ∙ h.turn)
@@ -144,7 +144,7 @@ not_clear (PfAid key) sent is = absurd (cc)
 not_clear (PaAid key) sent is = absurd sent
 not_clear ClearAid sent is = absurd sent
 
-pub agrees : LowerLaws → (app : Application) (link : Link) → Kept app (view_of link) → (h : IsHostsTurn (seen_link link)) → Agrees h.host h.terminal
+pub agrees : LowerLaws → (app : Application) (link : Link) → ConnectionInvariant app (view_of link) → (h : IsHostsTurn (seen_link link)) → Agrees h.host h.terminal
 agrees given app link k h =
     let v : View = view_of link in
     let known = knows_turn app link k h in
@@ -169,34 +169,34 @@ none_of p (x ∷ xs) ys h = by_test (p x) h (none_of p xs ys)
     by_test true e more = absurd (cc)
     by_test false e more = more e
 
-none_under : (lost : Bool) (queue messages : List ToHost) → UnderWay lost queue messages → list_any is_refusal messages ≡ false → list_any is_refusal queue ≡ false
+none_under : (lost : Bool) (queue messages : List ToHost) → IsInFlight lost queue messages → list_any is_refusal messages ≡ false → list_any is_refusal queue ≡ false
 none_under lost queue messages way h = none_of is_refusal queue way.vanished (ap (list_any is_refusal) way.whole ∙ h)
 
 -- at no moment is a refusal under way
 none_at : (model : Model) (wanted : Option (List ℕ)) (moment : LinkPhase) → list_any is_refusal (up_at model wanted moment) ≡ false
-none_at model wanted (LinkPhase.Talks Talking.Offering) = refl
-none_at model wanted (LinkPhase.Talks Talking.Accepting) = refl
-none_at model wanted (LinkPhase.Talks Talking.AskingType) = refl
-none_at model wanted (LinkPhase.Talks Talking.NamingType) = refl
-none_at model wanted (LinkPhase.Talks (Talking.Granting lu)) = refl
-none_at model wanted (LinkPhase.Talks (Talking.AskingFunctions lu)) = refl
-none_at model wanted (LinkPhase.Talks (Talking.Agreeing lu)) = refl
-none_at model wanted (LinkPhase.Talks (Talking.Rejecting reason)) = refl
-none_at model wanted (LinkPhase.Talks (Talking.Rejected reason)) = refl
-none_at model wanted (LinkPhase.Begins lu number command wants over) = refl
-none_at model wanted (LinkPhase.Serves lu Serving.Deciding) = refl
-none_at model wanted (LinkPhase.Serves lu (Serving.Reading number)) = refl
-none_at model wanted (LinkPhase.Serves lu (Serving.Reported number parts)) = refl
-none_at model wanted (LinkPhase.Serves lu (Serving.NotedLate number command)) = refl
-none_at model wanted (LinkPhase.Serves lu (Serving.AnsweredLate number command)) = refl
-none_at model wanted (LinkPhase.Serves lu (Serving.Painting number command wants over)) = refl
-none_at model wanted (LinkPhase.Serves lu (Serving.Answering kind number command)) = refl
-none_at model wanted (LinkPhase.Serves lu Serving.Operating) = refl
-none_at model wanted (LinkPhase.Serves lu (Serving.Noting number command)) = refl
-none_at model wanted (LinkPhase.Serves lu (Serving.KeyAlone parts)) = refl
-none_at model wanted (LinkPhase.Serves lu (Serving.KeyBehind kind number command parts)) = refl
-none_at model wanted (LinkPhase.Serves lu (Serving.KeyNoted number command parts)) = refl
-none_at model wanted (LinkPhase.Serves lu (Serving.KeyBefore number command parts)) = refl
+none_at model wanted (LinkPhase.Negotiating NegotiationPhase.Offering) = refl
+none_at model wanted (LinkPhase.Negotiating NegotiationPhase.Accepting) = refl
+none_at model wanted (LinkPhase.Negotiating NegotiationPhase.AskingType) = refl
+none_at model wanted (LinkPhase.Negotiating NegotiationPhase.NamingType) = refl
+none_at model wanted (LinkPhase.Negotiating (NegotiationPhase.Granting lu)) = refl
+none_at model wanted (LinkPhase.Negotiating (NegotiationPhase.AskingFunctions lu)) = refl
+none_at model wanted (LinkPhase.Negotiating (NegotiationPhase.Agreeing lu)) = refl
+none_at model wanted (LinkPhase.Negotiating (NegotiationPhase.Rejecting reason)) = refl
+none_at model wanted (LinkPhase.Negotiating (NegotiationPhase.Rejected reason)) = refl
+none_at model wanted (LinkPhase.FirstPaint lu number command wants over) = refl
+none_at model wanted (LinkPhase.InSession lu SessionPhase.Deciding) = refl
+none_at model wanted (LinkPhase.InSession lu (SessionPhase.Reading number)) = refl
+none_at model wanted (LinkPhase.InSession lu (SessionPhase.BufferReturning number parts)) = refl
+none_at model wanted (LinkPhase.InSession lu (SessionPhase.DecidingNoteSent number command)) = refl
+none_at model wanted (LinkPhase.InSession lu (SessionPhase.DecidingNoteAnswered number command)) = refl
+none_at model wanted (LinkPhase.InSession lu (SessionPhase.Painting number command wants over)) = refl
+none_at model wanted (LinkPhase.InSession lu (SessionPhase.AwaitingWriteResponse kind number command)) = refl
+none_at model wanted (LinkPhase.InSession lu SessionPhase.OperatorTyping) = refl
+none_at model wanted (LinkPhase.InSession lu (SessionPhase.Noting number command)) = refl
+none_at model wanted (LinkPhase.InSession lu (SessionPhase.KeySent parts)) = refl
+none_at model wanted (LinkPhase.InSession lu (SessionPhase.KeySentAfterResponse kind number command parts)) = refl
+none_at model wanted (LinkPhase.InSession lu (SessionPhase.KeyCrossingNote number command parts)) = refl
+none_at model wanted (LinkPhase.InSession lu (SessionPhase.KeyBeforeNoteResponse number command parts)) = refl
 
 -- in the host's turn the reason is agreement or a key
 no_refusal : (reason : TurnReason) (aid : Aid) → IsOccasion reason aid → reason ≡ turn_reasons.Refusal → ⊥
@@ -205,26 +205,26 @@ no_refusal (turn_reasons.Key pressed buffered) aid is e = absurd (cc)
 no_refusal turn_reasons.Refusal aid is e = is
 
 heard_by : (wanted : Option (List ℕ)) (v : View) (moment : LinkPhase) → Fact wanted (local_state_of v) moment → turn_at moment ≡ whose.Host → v.host.turn_reason ≡ turn_reasons.Refusal → ⊥
-heard_by wanted v (LinkPhase.Talks talking) f t e = absurd (let first = sym f.0.turn_reason ∙ e in cc)
-heard_by wanted v (LinkPhase.Begins lu number command wants over) f t e = absurd (cc)
-heard_by wanted v (LinkPhase.Serves lu Serving.Deciding) f t e = no_refusal v.host.turn_reason v.screen.aid f.turn_reason e
-heard_by wanted v (LinkPhase.Serves lu (Serving.Reading number)) f t e = no_refusal v.host.turn_reason v.screen.aid f.decides.turn_reason e
-heard_by wanted v (LinkPhase.Serves lu (Serving.Reported number parts)) f t e = no_refusal v.host.turn_reason v.screen.aid f.turn_reason e
-heard_by wanted v (LinkPhase.Serves lu (Serving.NotedLate number command)) f t e = no_refusal v.host.turn_reason v.screen.aid f.0.turn_reason e
-heard_by wanted v (LinkPhase.Serves lu (Serving.AnsweredLate number command)) f t e = no_refusal v.host.turn_reason v.screen.aid f.turn_reason e
-heard_by wanted v (LinkPhase.Serves lu (Serving.Painting number command wants over)) f t e = absurd (cc)
-heard_by wanted v (LinkPhase.Serves lu (Serving.Answering kind number command)) f t e = absurd (cc)
-heard_by wanted v (LinkPhase.Serves lu Serving.Operating) f t e = absurd (cc)
-heard_by wanted v (LinkPhase.Serves lu (Serving.Noting number command)) f t e = absurd (cc)
-heard_by wanted v (LinkPhase.Serves lu (Serving.KeyAlone parts)) f t e = absurd (cc)
-heard_by wanted v (LinkPhase.Serves lu (Serving.KeyBehind kind number command parts)) f t e = absurd (cc)
-heard_by wanted v (LinkPhase.Serves lu (Serving.KeyNoted number command parts)) f t e = absurd (cc)
-heard_by wanted v (LinkPhase.Serves lu (Serving.KeyBefore number command parts)) f t e = absurd (cc)
+heard_by wanted v (LinkPhase.Negotiating talking) f t e = absurd (let first = sym f.0.turn_reason ∙ e in cc)
+heard_by wanted v (LinkPhase.FirstPaint lu number command wants over) f t e = absurd (cc)
+heard_by wanted v (LinkPhase.InSession lu SessionPhase.Deciding) f t e = no_refusal v.host.turn_reason v.screen.aid f.turn_reason e
+heard_by wanted v (LinkPhase.InSession lu (SessionPhase.Reading number)) f t e = no_refusal v.host.turn_reason v.screen.aid f.decides.turn_reason e
+heard_by wanted v (LinkPhase.InSession lu (SessionPhase.BufferReturning number parts)) f t e = no_refusal v.host.turn_reason v.screen.aid f.turn_reason e
+heard_by wanted v (LinkPhase.InSession lu (SessionPhase.DecidingNoteSent number command)) f t e = no_refusal v.host.turn_reason v.screen.aid f.0.turn_reason e
+heard_by wanted v (LinkPhase.InSession lu (SessionPhase.DecidingNoteAnswered number command)) f t e = no_refusal v.host.turn_reason v.screen.aid f.turn_reason e
+heard_by wanted v (LinkPhase.InSession lu (SessionPhase.Painting number command wants over)) f t e = absurd (cc)
+heard_by wanted v (LinkPhase.InSession lu (SessionPhase.AwaitingWriteResponse kind number command)) f t e = absurd (cc)
+heard_by wanted v (LinkPhase.InSession lu SessionPhase.OperatorTyping) f t e = absurd (cc)
+heard_by wanted v (LinkPhase.InSession lu (SessionPhase.Noting number command)) f t e = absurd (cc)
+heard_by wanted v (LinkPhase.InSession lu (SessionPhase.KeySent parts)) f t e = absurd (cc)
+heard_by wanted v (LinkPhase.InSession lu (SessionPhase.KeySentAfterResponse kind number command parts)) f t e = absurd (cc)
+heard_by wanted v (LinkPhase.InSession lu (SessionPhase.KeyCrossingNote number command parts)) f t e = absurd (cc)
+heard_by wanted v (LinkPhase.InSession lu (SessionPhase.KeyBeforeNoteResponse number command parts)) f t e = absurd (cc)
 
-none_heard : (app : Application) (v : View) → Kept app v → v.host.turn ≡ whose.Host → v.host.turn_reason ≡ turn_reasons.Refusal → ⊥
+none_heard : (app : Application) (v : View) → ConnectionInvariant app v → v.host.turn ≡ whose.Host → v.host.turn_reason ≡ turn_reasons.Refusal → ⊥
 none_heard app v k turn reason = heard_by k.wanted v k.moment k.fact (sym k.at.turn ∙ turn) reason
 
-none_refused : (app : Application) (v : View) → Kept app v → list_any is_refusal v.up ≡ false
+none_refused : (app : Application) (v : View) → ConnectionInvariant app v → list_any is_refusal v.up ≡ false
 none_refused app v k = none_under v.lost v.up (up_at v.model k.wanted k.moment) k.at.goes_up (none_at v.model k.wanted k.moment)
 
 -- ---- the theorems
@@ -235,7 +235,7 @@ headline given app serves pool models events is lists few are =
     let g = run_good given app is events (new_world app serves pool models) are (new_good given app is serves pool models lists) in
     record { one_session_each = one_session app world g; bound_is_granted = bound_granted app world g; agrees = λ number h. agrees given app (world.link number) (g.links number) h }
 
-pub nobody_refuses : LowerLaws → Always NobodyRefuses
+pub nobody_refuses : LowerLaws → Always NoCommandIsRejected
 nobody_refuses given app serves pool models events is lists few are =
     let world : World = run app events (new_world app serves pool models) in
     let g = run_good given app is events (new_world app serves pool models) are (new_good given app is serves pool models lists) in

@@ -1,6 +1,6 @@
 -- Whose turn it is, and what is pending, once a message of a session was heard; the talk stays.
 use Rattle.std.proofs.Common.{◌≡◌, true, false, ℕ, Option, List, [], ◌∷◌, None, Result, Ok, Err, IsOkAnd, refl, ap, sym, subst, ◌∙◌}
-use Rattle.codes3270.specs.Size.{Shape}
+use Rattle.codes3270.specs.Size.{ScreenSize}
 use Rattle.codes3270.specs.declared.attention.Aid.TheVariants.{NoAid}
 use Rattle.datastream.specs.Grammar.{CommandParts}
 use Rattle.datastream.specs.InboundFields.{buffer_data}
@@ -20,8 +20,8 @@ use Rattle.host_core.specs.declared.turn_reason.TurnReason.{TurnReason}
 use Rattle.host_core.specs.declared.turn_reason.TurnReason.TheVariants as turn_reasons
 use Rattle.world3270.specs.refinement.LowerLaws.{LowerLaws}
 use Rattle.world3270.specs.model.Link.{Link}
-use Rattle.world3270.specs.refinement.Phases.{IsAt, Kind, LinkPhase, Serving, Talking, UnderWay, awaiting}
-use Rattle.world3270.specs.refinement.Invariant.{Fact, Kept, Sizes, local_state_of}
+use Rattle.world3270.specs.refinement.Phases.{IsAt, Kind, LinkPhase, SessionPhase, NegotiationPhase, IsInFlight, awaiting}
+use Rattle.world3270.specs.refinement.Invariant.{Fact, ConnectionInvariant, Sizes, local_state_of}
 use Rattle.world3270.specs.refinement.View.{view_of}
 use Rattle.world3270.proofs.Queues.{front, nothing}
 use Rattle.world3270.proofs.SecondKeys.{pending_after, turn_after, unless_read}
@@ -59,7 +59,7 @@ response_goes pool conn kind number command agrees pends =
     let is = response_took pool conn kind number command agrees pends in
     record { turn = ap (λ (s : HostStep). s.conn.turn) is; pending = ap (λ (s : HostStep). s.conn.pending) is; talk = ap (λ (s : HostStep). s.conn.talk) is }
 
-buffer_goes : (P : Shadow → Type 0) (pool : Answers) (conn : Session) (size : Shape) (screen : Screen) (number : ℕ) → is_agreed conn.talk.state ≡ true → conn.pending ≡ Pending.Reading number
+buffer_goes : (P : Shadow → Type 0) (pool : Answers) (conn : Session) (size : ScreenSize) (screen : Screen) (number : ℕ) → is_agreed conn.talk.state ≡ true → conn.pending ≡ Pending.Reading number
     → rule_break conn.shadow screen.cells ≡ None → IsOkAnd (hears (buffer_data size screen) conn) P → GoesOn pool conn (ToHost.Data (buffer_data size screen))
 buffer_goes P pool conn size screen number agrees pends unbroken ok =
     let read : InboundParts = buffer_data size screen in
@@ -71,53 +71,53 @@ buffer_goes P pool conn size screen number agrees pends unbroken ok =
       talk = ap (λ (s : HostStep). s.conn.talk) is ∙ then_this.2;
     }
 
-pub goes_on : LowerLaws → (app : Application) (pool : Answers) (link : Link) (message : ToHost) (rest : List ToHost) → link.up ≡ message ∷ rest → Kept app (view_of link) → is_agreed link.host.talk.state ≡ true → GoesOn pool link.host message
+pub goes_on : LowerLaws → (app : Application) (pool : Answers) (link : Link) (message : ToHost) (rest : List ToHost) → link.up ≡ message ∷ rest → ConnectionInvariant app (view_of link) → is_agreed link.host.talk.state ≡ true → GoesOn pool link.host message
 goes_on given app pool link message rest e k agrees = by_moment k.moment k.sizes k.at k.fact
   where
     screen : Screen
     screen = link.term.display.screen
 
-    no_more : UnderWay link.lost link.up [] → GoesOn pool link.host message
+    no_more : IsInFlight link.lost link.up [] → GoesOn pool link.host message
     no_more way = absurd (nothing link.lost link.up message rest e way)
 
     as_it : (one : ToHost) → message ≡ one → GoesOn pool link.host one → GoesOn pool link.host message
     as_it one is goes = subst (GoesOn pool link.host) (sym is) goes
 
-    by_serving : (lu : List ℕ) (serving : Serving) → Sizes app (view_of link) (LinkPhase.Serves lu serving) → IsAt (view_of link) k.wanted (LinkPhase.Serves lu serving) → Fact k.wanted (local_state_of (view_of link)) (LinkPhase.Serves lu serving) → GoesOn pool link.host message
-    by_serving lu (Serving.Reported number parts) s at f =
+    by_serving : (lu : List ℕ) (serving : SessionPhase) → Sizes app (view_of link) (LinkPhase.InSession lu serving) → IsAt (view_of link) k.wanted (LinkPhase.InSession lu serving) → Fact k.wanted (local_state_of (view_of link)) (LinkPhase.InSession lu serving) → GoesOn pool link.host message
+    by_serving lu (SessionPhase.BufferReturning number parts) s at f =
         let first = front link.lost link.up message rest _ [] e at.goes_up in
         let said : Screen = record screen { aid = parts.aid } in
         as_it (ToHost.Data (buffer_data link.host.size said)) (first.0 ∙ ap (λ p. ToHost.Data p) f.says)
         (buffer_goes (Believed false screen) pool link.host link.host.size said number agrees at.pending f.unbroken f.will)
-    by_serving lu (Serving.AnsweredLate number command) s at f =
+    by_serving lu (SessionPhase.DecidingNoteAnswered number command) s at f =
         let first = front link.lost link.up message rest _ [] e at.goes_up in
         as_it (ToHost.Response number Verdict.Positive) first.0 (response_goes pool link.host Kind.ANote number command agrees at.pending)
-    by_serving lu (Serving.Answering kind number command) s at f =
+    by_serving lu (SessionPhase.AwaitingWriteResponse kind number command) s at f =
         let first = front link.lost link.up message rest _ [] e at.goes_up in
         as_it (ToHost.Response number Verdict.Positive) first.0 (response_goes pool link.host kind number command agrees at.pending)
-    by_serving lu (Serving.KeyBehind kind number command parts) s at f =
+    by_serving lu (SessionPhase.KeySentAfterResponse kind number command parts) s at f =
         let first = front link.lost link.up message rest _ _ e at.goes_up in
         as_it (ToHost.Response number Verdict.Positive) first.0 (response_goes pool link.host kind number command agrees at.pending)
-    by_serving lu (Serving.KeyAlone parts) s at f =
+    by_serving lu (SessionPhase.KeySent parts) s at f =
         let first = front link.lost link.up message rest _ [] e at.goes_up in
         as_it (ToHost.Data parts) first.0 (key_goes _ pool link.host parts agrees at.turn (IsKeyTime.nothing_waits at.pending) f.0.form (λ none. f.0.some (sym f.0.pressed ∙ none)) f.1)
-    by_serving lu (Serving.KeyNoted number command parts) s at f =
+    by_serving lu (SessionPhase.KeyCrossingNote number command parts) s at f =
         let first = front link.lost link.up message rest _ [] e at.goes_up in
         as_it (ToHost.Data parts) first.0 (key_goes _ pool link.host parts agrees at.turn (IsKeyTime.note_waits number command at.pending) f.0.form (λ none. f.0.some (sym f.0.pressed ∙ none)) f.1)
-    by_serving lu (Serving.KeyBefore number command parts) s at f =
+    by_serving lu (SessionPhase.KeyBeforeNoteResponse number command parts) s at f =
         let first = front link.lost link.up message rest _ _ e at.goes_up in
         as_it (ToHost.Data parts) first.0 (key_goes _ pool link.host parts agrees at.turn (IsKeyTime.note_waits number command at.pending) f.0.form (λ none. f.0.some (sym f.0.pressed ∙ none)) f.1)
-    by_serving lu Serving.Deciding s at f = no_more at.goes_up
-    by_serving lu (Serving.Reading number) s at f = no_more at.goes_up
-    by_serving lu (Serving.NotedLate number command) s at f = no_more at.goes_up
-    by_serving lu (Serving.Painting number command wants over) s at f = no_more at.goes_up
-    by_serving lu Serving.Operating s at f = no_more at.goes_up
-    by_serving lu (Serving.Noting number command) s at f = no_more at.goes_up
+    by_serving lu SessionPhase.Deciding s at f = no_more at.goes_up
+    by_serving lu (SessionPhase.Reading number) s at f = no_more at.goes_up
+    by_serving lu (SessionPhase.DecidingNoteSent number command) s at f = no_more at.goes_up
+    by_serving lu (SessionPhase.Painting number command wants over) s at f = no_more at.goes_up
+    by_serving lu SessionPhase.OperatorTyping s at f = no_more at.goes_up
+    by_serving lu (SessionPhase.Noting number command) s at f = no_more at.goes_up
 
-    by_talk : (talking : Talking) → IsAt (view_of link) k.wanted (LinkPhase.Talks talking) → (lu : List ℕ) × (talking ≡ Talking.Agreeing lu) → GoesOn pool link.host message
-    by_talk talking at is = no_more (subst (λ (t : Talking). IsAt (view_of link) k.wanted (LinkPhase.Talks t)) is.1 at).goes_up
+    by_talk : (talking : NegotiationPhase) → IsAt (view_of link) k.wanted (LinkPhase.Negotiating talking) → (lu : List ℕ) × (talking ≡ NegotiationPhase.Agreeing lu) → GoesOn pool link.host message
+    by_talk talking at is = no_more (subst (λ (t : NegotiationPhase). IsAt (view_of link) k.wanted (LinkPhase.Negotiating t)) is.1 at).goes_up
 
     by_moment : (moment : LinkPhase) → Sizes app (view_of link) moment → IsAt (view_of link) k.wanted moment → Fact k.wanted (local_state_of (view_of link)) moment → GoesOn pool link.host message
-    by_moment (LinkPhase.Talks talking) s at f = by_talk talking at (agreed_there link.term.display.model talking link.host.talk at.host_talk agrees)
-    by_moment (LinkPhase.Begins lu number command wants over) s at f = no_more at.goes_up
-    by_moment (LinkPhase.Serves lu serving) s at f = by_serving lu serving s at f
+    by_moment (LinkPhase.Negotiating talking) s at f = by_talk talking at (agreed_there link.term.display.model talking link.host.talk at.host_talk agrees)
+    by_moment (LinkPhase.FirstPaint lu number command wants over) s at f = no_more at.goes_up
+    by_moment (LinkPhase.InSession lu serving) s at f = by_serving lu serving s at f

@@ -1,6 +1,6 @@
 -- What a host makes of an item is what it makes of the message as which it reads the item.
 use Rattle.std.proofs.Common.{◌≡◌, ◌<◌, ◌≤◌, ◌/◌, ◌%◌, ◌^◌, ◌&&◌, inl, inr, ℕ, Bool, true, false, List, [], ◌∷◌, ◌++◌, length, Some, Ok, refl, ap, sym, subst, ◌∙◌, arith, if◌then◌else◌}
-use Rattle.codes3270.specs.Size.{Shape, cells_in}
+use Rattle.codes3270.specs.Size.{ScreenSize, cells_in}
 use Rattle.codes3270.specs.Aid.{aid_of}
 use Rattle.codes3270.specs.Storable.{is_storable}
 use Rattle.codes3270.specs.declared.attention.Aid.{Aid}
@@ -17,7 +17,7 @@ use Rattle.datastream.proofs.InboundData.{first_inbound_fault}
 use Rattle.telnet_wire.specs.Items.{WireItem}
 use Rattle.tn3270e_msg.specs.Header.{Begins, negative, spelling}
 use Rattle.tn3270e_msg.specs.Laws.{OneHeader, FaultIsNoHeader}
-use Rattle.tn3270e_msg.specs.Talk.{Comes, Hears, Saying, says, item_of}
+use Rattle.tn3270e_msg.specs.Talk.{Comes, Hears, NegotiationMessage, says, item_of}
 use Rattle.tn3270e_msg.specs.declared.cause.Cause.TheVariants.{BadInbound}
 use Rattle.tn3270e_msg.specs.declared.header.DataType.TheVariants.{Data3270, Response}
 use Rattle.tn3270e_msg.specs.declared.header.Header.{Header}
@@ -31,22 +31,22 @@ use Rattle.host_core.specs.Session.{Session, Pending, is_agreed}
 use Rattle.host_core.specs.declared.turn.Turn.{Turn}
 use Rattle.host_core.specs.Takes.{Answers, HostStep, buffer_came, closed_by, form_awaited, data_came, may_have_changed, out_of_turn, response_came, once_agreed, second_key, second_key_data, talked, took}
 use Rattle.world3270.specs.statement.Forms.{IsAwaitedBy}
-use Rattle.world3270.specs.refinement.Readings.{HasNoLead, IsReadAs, IsSecondKeyIn, MayComeUp}
+use Rattle.world3270.specs.refinement.Readings.{HasNoLeadingText, IsReadAs, IsSecondKeyIn, MayBeSent}
 use Rattle.world3270.specs.refinement.Represents.{OutcomeIs, RepresentsUp}
 use Rattle.world3270.specs.refinement.RepresentsEnds.{IsSaid}
 
 -- ---- the talk
 
-is_heard : (saying : Saying) → IsSaid saying → (comes : Comes) → Hears (item_of saying) comes → comes ≡ says saying
-is_heard (Saying.Opt verb code) h comes k = k
-is_heard (Saying.Sub sending) h comes k = sent_is_heard sending h comes k
+is_heard : (saying : NegotiationMessage) → IsSaid saying → (comes : Comes) → Hears (item_of saying) comes → comes ≡ says saying
+is_heard (NegotiationMessage.Opt verb code) h comes k = k
+is_heard (NegotiationMessage.Sub sending) h comes k = sent_is_heard sending h comes k
 
 -- an option or a subnegotiation is for the talk
-is_talk : (saying : Saying) (answers : Answers) (conn : Session) (step : HostStep) → TakesItem answers conn (item_of saying) step → Talks answers conn (item_of saying) step
-is_talk (Saying.Opt verb code) answers conn step taken = taken
-is_talk (Saying.Sub sending) answers conn step taken = taken
+is_talk : (saying : NegotiationMessage) (answers : Answers) (conn : Session) (step : HostStep) → TakesItem answers conn (item_of saying) step → Talks answers conn (item_of saying) step
+is_talk (NegotiationMessage.Opt verb code) answers conn step taken = taken
+is_talk (NegotiationMessage.Sub sending) answers conn step taken = taken
 
-takes_talk : (saying : Saying) (answers : Answers) (conn : Session) (step : HostStep) → IsSaid saying → TakesItem answers conn (item_of saying) step
+takes_talk : (saying : NegotiationMessage) (answers : Answers) (conn : Session) (step : HostStep) → IsSaid saying → TakesItem answers conn (item_of saying) step
     → step ≡ talked answers conn conn.talk (says saying)
 takes_talk saying answers conn step said taken =
     let talks = is_talk saying answers conn step taken in
@@ -55,7 +55,7 @@ takes_talk saying answers conn step said taken =
 -- ---- data
 
 -- inbound data has no fault
-no_fault : (size : Shape) (form : Form) (parts : InboundParts) (fault : InboundFault) (body : List ℕ) → parts.form ≡ form → parts.size ≡ size → IsInbound parts body
+no_fault : (size : ScreenSize) (form : Form) (parts : InboundParts) (fault : InboundFault) (body : List ℕ) → parts.form ≡ form → parts.size ≡ size → IsInbound parts body
     → IsNoInbound size form fault body → ⊥
 no_fault size form parts fault body of_form of_size is bad = let same = first_inbound_fault form size (Ok parts) body (of_form, of_size, is) fault bad in absurd (cc)
 
@@ -81,7 +81,7 @@ first_of_cell (Char char) front is = record { byte = char; more = []; is = is.1;
 first_of_cell (Attr attr) front is = record { byte = start_field; more = is.0 ∷ []; is = is.2; no_address = other_order }
 
 -- the fields of a screen that has fields begin with an address
-first_of_fields : (size : ℕ) (parts : List Part) (text : List ℕ) (byte : ℕ) (more : List ℕ) → HasNoLead parts → AreParts size Modified parts text → text ≡ byte ∷ more → byte ≡ set_buffer_address
+first_of_fields : (size : ℕ) (parts : List Part) (text : List ℕ) (byte : ℕ) (more : List ℕ) → HasNoLeadingText parts → AreParts size Modified parts text → text ≡ byte ∷ more → byte ≡ set_buffer_address
 first_of_fields size [] text byte more no_lead are is = let both : [] ≡ byte ∷ more = sym are ∙ is in absurd (cc)
 first_of_fields size (At address ∷ parts) text byte more no_lead are is =
     heads byte set_buffer_address more (are.2.0 ∷ are.2.1 ∷ are.1) (sym is ∙ are.4 ∙ ap (λ (front : List ℕ). front ++ are.1) are.2.3)
@@ -89,28 +89,28 @@ first_of_fields size (Char char ∷ parts) text byte more no_lead are is = absur
 first_of_fields size (Attr attr ∷ parts) text byte more no_lead are is = absurd no_lead
 
 -- the data of a key on a screen with fields is no whole screen
-not_whole : (its size : ℕ) (parts cells : List Part) (text : List ℕ) → 0 < size → HasNoLead parts → AreParts its Modified parts text → AreParts size Buffer cells text → length cells ≡ size → ⊥
+not_whole : (its size : ℕ) (parts cells : List Part) (text : List ℕ) → 0 < size → HasNoLeadingText parts → AreParts its Modified parts text → AreParts size Buffer cells text → length cells ≡ size → ⊥
 not_whole its size parts [] text some no_lead are whole sized = absurd (omega (arith, some, sized))
 not_whole its size parts (cell ∷ cells) text some no_lead are whole sized =
     let first = first_of_cell cell whole.0 whole.2 in
     first.no_address (first_of_fields its parts text first.byte (first.more ++ whole.1) no_lead are (whole.4 ∙ ap (λ (front : List ℕ). front ++ whole.1) first.is))
 
-no_buffer : (size : Shape) (parts buffer : InboundParts) (body : List ℕ) → 0 < cells_in size → parts.form ≡ Modified → HasNoLead parts.parts → IsInbound parts body
+no_buffer : (size : ScreenSize) (parts buffer : InboundParts) (body : List ℕ) → 0 < cells_in size → parts.form ≡ Modified → HasNoLeadingText parts.parts → IsInbound parts body
     → buffer.form ≡ Buffer → buffer.size ≡ size → IsInbound buffer body → ⊥
-no_buffer size parts buffer body some form no_lead (alone byte is_alone aid none nothing spelt) of_form of_size (alone other alone_too aid_too none_too nothing_too spelt_too) =
+no_buffer size parts buffer body some form no_lead (alone byte is_alone aid none nothing encoded) of_form of_size (alone other alone_too aid_too none_too nothing_too spelt_too) =
     let both : false ≡ true = sym (ap (λ (f : Form). stands_alone f buffer.aid) of_form) ∙ alone_too in absurd (cc)
-no_buffer size parts buffer body some form no_lead (long byte high low cursor text is_long aid at address are whole spelt) of_form of_size (alone other alone_too aid_too none_too nothing_too spelt_too) =
+no_buffer size parts buffer body some form no_lead (long byte high low cursor text is_long aid at address are whole encoded) of_form of_size (alone other alone_too aid_too none_too nothing_too spelt_too) =
     let both : false ≡ true = sym (ap (λ (f : Form). stands_alone f buffer.aid) of_form) ∙ alone_too in absurd (cc)
-no_buffer size parts buffer body some form no_lead (alone byte is_alone aid none nothing spelt) of_form of_size (long other high low cursor text is_long aid_too at address are whole spelt_too) =
-    let both : byte ∷ [] ≡ other ∷ high ∷ low ∷ text = sym spelt ∙ spelt_too in absurd (cc)
-no_buffer size parts buffer body some form no_lead (long byte high low cursor text is_long aid at address are whole spelt) of_form of_size (long other high' low' cursor' text' is_long' aid' at' address' are' whole' spelt') =
-    let both : byte ∷ high ∷ low ∷ text ≡ other ∷ high' ∷ low' ∷ text' = sym spelt ∙ spelt' in
+no_buffer size parts buffer body some form no_lead (alone byte is_alone aid none nothing encoded) of_form of_size (long other high low cursor text is_long aid_too at address are whole spelt_too) =
+    let both : byte ∷ [] ≡ other ∷ high ∷ low ∷ text = sym encoded ∙ spelt_too in absurd (cc)
+no_buffer size parts buffer body some form no_lead (long byte high low cursor text is_long aid at address are whole encoded) of_form of_size (long other high' low' cursor' text' is_long' aid' at' address' are' whole' spelt') =
+    let both : byte ∷ high ∷ low ∷ text ≡ other ∷ high' ∷ low' ∷ text' = sym encoded ∙ spelt' in
     let same : text ≡ text' = cc in
     not_whole (cells_in parts.size) (cells_in size) parts.parts buffer.parts text' some no_lead
     (subst (λ (t : List ℕ). AreParts (cells_in parts.size) Modified parts.parts t) same
     (subst (λ (f : Form). AreParts (cells_in parts.size) f parts.parts text) form are))
-    (subst (λ (f : Form). AreParts (cells_in size) f buffer.parts text') of_form (subst (λ (s : Shape). AreParts (cells_in s) buffer.form buffer.parts text') of_size are'))
-    (subst (λ (f : Form). IsWhole (cells_in size) f buffer.parts) of_form (subst (λ (s : Shape). IsWhole (cells_in s) buffer.form buffer.parts) of_size whole'))
+    (subst (λ (f : Form). AreParts (cells_in size) f buffer.parts text') of_form (subst (λ (s : ScreenSize). AreParts (cells_in s) buffer.form buffer.parts text') of_size are'))
+    (subst (λ (f : Form). IsWhole (cells_in size) f buffer.parts) of_form (subst (λ (s : ScreenSize). IsWhole (cells_in s) buffer.form buffer.parts) of_size whole'))
 
 -- ---- a second key's data
 
@@ -123,15 +123,15 @@ on_larger_text small large (At address ∷ parts) text larger are =
 on_larger_text small large (Char char ∷ parts) text larger are = (are.0, are.1, are.2, on_larger_text small large parts are.1 larger are.3, are.4)
 on_larger_text small large (Attr attr ∷ parts) text larger are = absurd are.2
 
-on_larger : (parts : InboundParts) (body : List ℕ) (large : Shape) → parts.form ≡ Modified → cells_in parts.size ≤ cells_in large → IsInbound parts body
+on_larger : (parts : InboundParts) (body : List ℕ) (large : ScreenSize) → parts.form ≡ Modified → cells_in parts.size ≤ cells_in large → IsInbound parts body
     → IsInbound (record parts { size = large }) body
-on_larger parts body large form larger (alone byte is_alone aid none nothing spelt) = alone byte is_alone aid none nothing spelt
-on_larger parts body large form larger (long byte high low cursor text is_long aid at address are whole spelt) =
+on_larger parts body large form larger (alone byte is_alone aid none nothing encoded) = alone byte is_alone aid none nothing encoded
+on_larger parts body large form larger (long byte high low cursor text is_long aid at address are whole encoded) =
     let below = address.1 in
     let modified = subst (λ (f : Form). AreParts (cells_in parts.size) f parts.parts text) form are in
     long byte high low cursor text is_long aid at (address.0, omega (arith, larger, below))
     (subst (λ (f : Form). AreParts (cells_in large) f parts.parts text) (sym form) (on_larger_text (cells_in parts.size) (cells_in large) parts.parts text larger modified))
-    (subst (λ (f : Form). IsWhole (cells_in large) f parts.parts) (sym form) tt) spelt
+    (subst (λ (f : Form). IsWhole (cells_in large) f parts.parts) (sym form) tt) encoded
 
 -- the first byte says the AID, whatever else is read
 record FirstOf (parts : InboundParts) (body : List ℕ) : Type 0 where
@@ -141,8 +141,8 @@ record FirstOf (parts : InboundParts) (body : List ℕ) : Type 0 where
   aid : aid_of byte ≡ Some parts.aid
 
 first_of : (parts : InboundParts) (body : List ℕ) → IsInbound parts body → FirstOf parts body
-first_of parts body (alone byte is_alone aid none nothing spelt) = record { byte = byte; more = []; is = spelt; aid = aid }
-first_of parts body (long byte high low cursor text is_long aid at address are whole spelt) = record { byte = byte; more = high ∷ low ∷ text; is = spelt; aid = aid }
+first_of parts body (alone byte is_alone aid none nothing encoded) = record { byte = byte; more = []; is = encoded; aid = aid }
+first_of parts body (long byte high low cursor text is_long aid at address are whole encoded) = record { byte = byte; more = high ∷ low ∷ text; is = encoded; aid = aid }
 
 the_one : (aid other : Aid) → Some aid ≡ Some other → aid ≡ other
 the_one aid other e = cc
@@ -208,12 +208,12 @@ module _ (one_header : OneHeader) (fault_or_header : FaultIsNoHeader) (one_inbou
       let none = subst (λ (b : Bool). IsNoSecondKey b large body) second.may_be no_key in
       absurd (no_fault large Modified (record parts { size = large }) none.0 body second.form refl (on_larger parts body large second.form second.size is) none.1)
 
-  data_is_taken : (conn : Session) (body : List ℕ) (parts : InboundParts) (step : HostStep) → MayComeUp conn (ToHost.Data parts) → IsInbound parts body → TakesData conn body step → step ≡ data_came parts conn.turn conn.pending conn
+  data_is_taken : (conn : Session) (body : List ℕ) (parts : InboundParts) (step : HostStep) → MayBeSent conn (ToHost.Data parts) → IsInbound parts body → TakesData conn body step → step ≡ data_came parts conn.turn conn.pending conn
   data_is_taken conn body parts step (inl awaited) is takes = awaited_is_taken conn body parts step awaited is takes
   data_is_taken conn body parts step (inr second) is takes = second_is_taken conn body parts step second is takes
 
   data_taken : (conn : Session) (bytes body : List ℕ) (header : Header) (parts : InboundParts) (step : HostStep) → header.kind ≡ Data3270 → Begins bytes header body
-      → MayComeUp conn (ToHost.Data parts) → IsInbound parts body → TakesRecord conn bytes step → step ≡ data_came parts conn.turn conn.pending conn
+      → MayBeSent conn (ToHost.Data parts) → IsInbound parts body → TakesRecord conn bytes step → step ≡ data_came parts conn.turn conn.pending conn
   data_taken conn bytes body header parts step kind begins awaited is (TakesRecord.no_header fault has e) = absurd (fault_or_header bytes fault header body has begins)
   data_taken conn bytes body header parts step kind begins awaited is (TakesRecord.dropped other rest begins' drops e) =
       let same = (one_header bytes other header rest body begins' begins).0 in
@@ -249,7 +249,7 @@ module _ (one_header : OneHeader) (fault_or_header : FaultIsNoHeader) (one_inbou
   -- ---- any item
 
   pub host_reads : (answers : Answers) (conn : Session) (item : WireItem) (message : ToHost) (step : HostStep)
-      → IsReadAs item message → MayComeUp conn message → TakesItem answers conn item step → step ≡ took answers conn message
+      → IsReadAs item message → MayBeSent conn message → TakesItem answers conn item step → step ≡ took answers conn message
   host_reads answers conn item (ToHost.TalksUp saying) step read may taken =
       takes_talk saying answers conn step may (subst (λ (i : WireItem). TakesItem answers conn i step) read taken)
   host_reads answers conn item (ToHost.Data parts) step read may taken =
@@ -272,7 +272,7 @@ data_begins number body =
     record {
       is_header = record { kind = tt; flag = omega arith };
       number = omega arith;
-      spelt = ap (λ (b : ℕ). 0 ∷ 0 ∷ 0 ∷ b ∷ (number % 256) ∷ body) high ∙ ap (λ (b : ℕ). 0 ∷ 0 ∷ 0 ∷ (number % 65536 / 256 % 256) ∷ b ∷ body) low;
+      encoded = ap (λ (b : ℕ). 0 ∷ 0 ∷ 0 ∷ b ∷ (number % 256) ∷ body) high ∙ ap (λ (b : ℕ). 0 ∷ 0 ∷ 0 ∷ (number % 65536 / 256 % 256) ∷ b ∷ body) low;
     }
 
 flag_is : (outcome : Outcome) → outcome_flag outcome ≤ negative
@@ -281,7 +281,7 @@ flag_is (Refused sense) = omega arith
 
 response_begins : (number : ℕ) (outcome : Outcome) (body : List ℕ) → number < 2 ^ 16
     → Begins (spelling (response_header number outcome) ++ body) (response_header number outcome) body
-response_begins number outcome body below = record { is_header = record { kind = tt; flag = flag_is outcome }; number = below; spelt = refl }
+response_begins number outcome body below = record { is_header = record { kind = tt; flag = flag_is outcome }; number = below; encoded = refl }
 
 -- the flag says the verdict
 verdict_is : (verdict : Verdict) (outcome : Outcome) → OutcomeIs verdict outcome → verdict_of (outcome_flag outcome) ≡ verdict

@@ -10,7 +10,7 @@ use Rattle.shadow.specs.Belief.{Shadow}
 use Rattle.shadow.specs.Exactness.{is_erase}
 use Rattle.shadow.specs.declared.fault.HeardFault.{HeardFault}
 use Rattle.tn3270e_msg.specs.HostTable.{host_transition, answer_transition}
-use Rattle.tn3270e_msg.specs.Talk.{Talk, follow, Saying, says, sayings}
+use Rattle.tn3270e_msg.specs.Talk.{Talk, follow, NegotiationMessage, says, sayings}
 use Rattle.tn3270e_msg.specs.declared.cause.Cause.{Cause}
 use Rattle.tn3270e_msg.specs.declared.cause.Cause.TheVariants.{BadInbound, Negative}
 use Rattle.tn3270e_msg.specs.declared.host_talk.HostState.{HostState}
@@ -40,7 +40,7 @@ pub record JustTalks (old : Session) (step : HostStep) : Type 0 where
   pub pending : (step.conn.pending ≡ old.pending) ⊎ (step.conn.pending ≡ Pending.Nothing)
   pub unheard : (step.conn.unheard ≡ old.unheard) ⊎ (step.conn.unheard ≡ unheards.Clear)
   pub reason : (step.conn.turn_reason ≡ old.turn_reason) ⊎ (step.conn.turn_reason ≡ turn_reasons.Agreement → ⊥)
-  pub talk : List Saying
+  pub talk : List NegotiationMessage
   pub says : step.sends ≡ map ToTerminal.TalksDown talk
 
 quietly : (conn : Session) → JustTalks conn (quiet conn)

@@ -4,7 +4,7 @@ use Rattle.std.specs.Prelude.{is_some}
 use Rattle.std.specs.List.{list_all}
 use Rattle.std.proofs.lemmas.List.Elements.{All-nil}
 use Rattle.codes3270.specs.Aid.{is_short_aid}
-use Rattle.codes3270.specs.Size.{Shape, cells_in}
+use Rattle.codes3270.specs.Size.{ScreenSize, cells_in}
 use Rattle.codes3270.specs.declared.attention.Aid.{Aid}
 use Rattle.codes3270.specs.declared.attention.Aid.TheVariants.{NoAid, Enter as EnterAid, Clear as ClearAid, Pf as PfAid, Pa as PaAid}
 use Rattle.codes3270.specs.declared.attribute.Cell.{Cell}
@@ -38,10 +38,10 @@ use Rattle.host_core.specs.Messages.{ToHost}
 use Rattle.host_core.specs.NoteLaws.{HasMessageRow, TakesNotes}
 use Rattle.world3270.specs.refinement.LowerLaws.{LowerLaws}
 use Rattle.world3270.specs.model.Link.{Link, sent, term_stepped}
-use Rattle.world3270.specs.refinement.Phases.{Serving, LinkPhase, UnderWay, IsAt, turn_at, pending_at, served_down, served_up}
+use Rattle.world3270.specs.refinement.Phases.{SessionPhase, LinkPhase, IsInFlight, IsAt, turn_at, pending_at, served_down, served_up}
 use Rattle.world3270.specs.statement.TurnReasons.{IsCleared, IsOpenBy}
 use Rattle.host_core.specs.declared.unheard.Unheard.{Unheard}
-use Rattle.world3270.specs.refinement.Invariant.{LocalState, local_state_of, once_taken, FactsAreExact, IfRelies, Operates, Sees, IsPressed, WillSee, Fact, Kept, Sizes, ShownAt}
+use Rattle.world3270.specs.refinement.Invariant.{LocalState, local_state_of, once_taken, FactsAreExact, IfRelies, Operates, Sees, IsPressed, WillSee, Fact, ConnectionInvariant, Sizes, ShownAt}
 use Rattle.world3270.specs.model.Terminal.{Display, is_bound, bound_to, data_of, erases_if, outcome_of, key_came}
 use Rattle.world3270.specs.refinement.View.{View, view_of}
 use Rattle.world3270.proofs.Down.{ok_map}
@@ -57,13 +57,13 @@ record Waits (key : Key) (screen : Screen) (outcome : Outcome) : Type 0 where
   same : outcome.screen ≡ screen
   lock : outcome.keyboard.lock ≡ Wait
   keeps : erases_if outcome.answer key ≡ false
-  silent : (bound : Bool) (shape : Shape) (now : Screen) → data_of bound outcome.answer shape now ≡ []
+  silent : (bound : Bool) (shape : ScreenSize) (now : Screen) → data_of bound outcome.answer shape now ≡ []
 
-pub quiet_refused : (bound : Bool) (why : Refusal) (shape : Shape) (now : Screen) → data_of bound (Refused why) shape now ≡ []
+pub quiet_refused : (bound : Bool) (why : Refusal) (shape : ScreenSize) (now : Screen) → data_of bound (Refused why) shape now ≡ []
 quiet_refused true why shape now = refl
 quiet_refused false why shape now = refl
 
-pub quiet_done : (bound : Bool) (shape : Shape) (now : Screen) → data_of bound Done shape now ≡ []
+pub quiet_done : (bound : Bool) (shape : ScreenSize) (now : Screen) → data_of bound Done shape now ≡ []
 quiet_done true shape now = refl
 quiet_done false shape now = refl
 
@@ -211,7 +211,7 @@ all_chars zero = refl
 all_chars (suc count) = all_chars count
 
 -- notes may be written on it
-takes_notes : LowerLaws → (shape : Shape) (erased : Bool) (left now : List Cell) (aid : Aid) → KeepsSent erased aid left now → HasMessageRow shape left → TakesNotes shape now
+takes_notes : LowerLaws → (shape : ScreenSize) (erased : Bool) (left now : List Cell) (aid : Aid) → KeepsSent erased aid left now → HasMessageRow shape left → TakesNotes shape now
 takes_notes given shape erased left now NoAid k row = absurd k
 takes_notes given shape erased left now EnterAid k row = TakesNotes.formatted (given.notes.held_takes shape erased left now k row)
 takes_notes given shape erased left now (PfAid key) k row = TakesNotes.formatted (given.notes.held_takes shape erased left now k row)
@@ -227,7 +227,7 @@ opens_by EnterAid s size clear long = long refl
 opens_by (PfAid key) s size clear long = long refl
 
 -- the host will hear it, and then see the screen
-will_see : LowerLaws → (unheard : Unheard) (erased : Bool) (shape size : Shape) (shadow : Shadow) (left screen : Screen) (aid : Aid) → screen.aid ≡ aid → length screen.cells ≡ cells_in shape → FactsAreExact shadow → Knows shadow → IfRelies unheard (NothingIsOpen shadow) → Meets shadow left
+will_see : LowerLaws → (unheard : Unheard) (erased : Bool) (shape size : ScreenSize) (shadow : Shadow) (left screen : Screen) (aid : Aid) → screen.aid ≡ aid → length screen.cells ≡ cells_in shape → FactsAreExact shadow → Knows shadow → IfRelies unheard (NothingIsOpen shadow) → Meets shadow left
     → KeepsSent erased aid left.cells screen.cells → IsOkAnd (heard (cells_in shape) shadow (modified_data Modified size screen)) (Sees unheard shape screen)
 will_see given unheard erased shape size shadow left screen aid is whole exact knows closed meets keeps =
     subst (λ n. IsOkAnd (heard n shadow parts) (Sees unheard shape screen)) whole
@@ -257,32 +257,32 @@ will_see given unheard erased shape size shadow left screen aid is whole exact k
 
 -- ---- what the operator does at a moment at which he types
 
-module _ (given : LowerLaws) (app : Application) (link : Link) (k : Kept app (view_of link)) (lu : List ℕ) (from : Serving) (shadow : Shadow)
-    (at : IsAt (view_of link) k.wanted (LinkPhase.Serves lu from)) (same : link.term.display.size ≡ link.host.size) (f : Operates shadow (local_state_of (view_of link))) where
+module _ (given : LowerLaws) (app : Application) (link : Link) (k : ConnectionInvariant app (view_of link)) (lu : List ℕ) (from : SessionPhase) (shadow : Shadow)
+    (at : IsAt (view_of link) k.wanted (LinkPhase.InSession lu from)) (same : link.term.display.size ≡ link.host.size) (f : Operates shadow (local_state_of (view_of link))) where
   abbrev v : View
   v = view_of link
 
   -- where nothing is sent, it is the same moment
-  stays_at : (screen : Screen) (lock : Lock) (erased : Bool) → IsAt (seen_as v (sent v.lost v.up []) screen lock erased) k.wanted (LinkPhase.Serves lu from)
+  stays_at : (screen : Screen) (lock : Lock) (erased : Bool) → IsAt (seen_as v (sent v.lost v.up []) screen lock erased) k.wanted (LinkPhase.InSession lu from)
   stays_at screen lock erased = record {
     host_talk = at.host_talk;
     term_talk = at.term_talk;
     turn = at.turn;
     pending = at.pending;
     goes_down = at.goes_down;
-    goes_up = subst (UnderWay v.lost (sent v.lost v.up [])) (append-nil (served_up from)) (more v.lost v.up (served_up from) [] at.goes_up);
+    goes_up = subst (IsInFlight v.lost (sent v.lost v.up [])) (append-nil (served_up from)) (more v.lost v.up (served_up from) [] at.goes_up);
   }
 
-  sends_at : (to : Serving) (parts : InboundParts) (screen : Screen) (lock : Lock) (erased : Bool) → turn_at (LinkPhase.Serves lu to) ≡ turn_at (LinkPhase.Serves lu from) → pending_at (LinkPhase.Serves lu to) ≡ pending_at (LinkPhase.Serves lu from)
+  sends_at : (to : SessionPhase) (parts : InboundParts) (screen : Screen) (lock : Lock) (erased : Bool) → turn_at (LinkPhase.InSession lu to) ≡ turn_at (LinkPhase.InSession lu from) → pending_at (LinkPhase.InSession lu to) ≡ pending_at (LinkPhase.InSession lu from)
       → served_down to ≡ served_down from → served_up from ++ ToHost.Data parts ∷ [] ≡ served_up to
-      → IsAt (seen_as v (sent v.lost v.up (ToHost.Data parts ∷ [])) screen lock erased) k.wanted (LinkPhase.Serves lu to)
+      → IsAt (seen_as v (sent v.lost v.up (ToHost.Data parts ∷ [])) screen lock erased) k.wanted (LinkPhase.InSession lu to)
   sends_at to parts screen lock erased turn pending down up = record {
     host_talk = at.host_talk;
     term_talk = at.term_talk;
     turn = at.turn ∙ sym turn;
     pending = at.pending ∙ sym pending;
-    goes_down = subst (UnderWay v.lost v.down) (sym down) at.goes_down;
-    goes_up = subst (UnderWay v.lost (sent v.lost v.up (ToHost.Data parts ∷ []))) up (more v.lost v.up (served_up from) (ToHost.Data parts ∷ []) at.goes_up);
+    goes_down = subst (IsInFlight v.lost v.down) (sym down) at.goes_down;
+    goes_up = subst (IsInFlight v.lost (sent v.lost v.up (ToHost.Data parts ∷ []))) up (more v.lost v.up (served_up from) (ToHost.Data parts ∷ []) at.goes_up);
   }
 
   abbrev scene_now : Screen → Lock → Bool → LocalState
@@ -290,21 +290,21 @@ module _ (given : LowerLaws) (app : Application) (link : Link) (k : Kept app (vi
 
   -- what a moment has of an operator who types, and of a key that was pressed
   pub record Typing : Type 0 where
-    pub to : InboundParts → Serving
-    pub stay : (screen : Screen) (lock : Lock) (erased : Bool) → Operates shadow (scene_now screen lock erased) → Fact k.wanted (scene_now screen lock erased) (LinkPhase.Serves lu from)
+    pub to : InboundParts → SessionPhase
+    pub stay : (screen : Screen) (lock : Lock) (erased : Bool) → Operates shadow (scene_now screen lock erased) → Fact k.wanted (scene_now screen lock erased) (LinkPhase.InSession lu from)
     pub press : (parts : InboundParts) (screen : Screen) (lock : Lock) (erased : Bool) → IsPressed (scene_now screen lock erased) parts → WillSee (scene_now screen lock erased) shadow parts → TakesNotes v.host.size screen.cells
-        → Fact k.wanted (scene_now screen lock erased) (LinkPhase.Serves lu (to parts))
-    pub at_to : (parts : InboundParts) (screen : Screen) (lock : Lock) (erased : Bool) → IsAt (seen_as v (sent v.lost v.up (ToHost.Data parts ∷ [])) screen lock erased) k.wanted (LinkPhase.Serves lu (to parts))
-    pub shown : (screen : Screen) → ShownAt app v.waits v.host v.before_restored v.last_restored screen (LinkPhase.Serves lu from)
-    pub shown_to : (parts : InboundParts) (screen : Screen) → ShownAt app v.waits v.host v.before_restored v.last_restored screen (LinkPhase.Serves lu (to parts))
+        → Fact k.wanted (scene_now screen lock erased) (LinkPhase.InSession lu (to parts))
+    pub at_to : (parts : InboundParts) (screen : Screen) (lock : Lock) (erased : Bool) → IsAt (seen_as v (sent v.lost v.up (ToHost.Data parts ∷ [])) screen lock erased) k.wanted (LinkPhase.InSession lu (to parts))
+    pub shown : (screen : Screen) → ShownAt app v.waits v.host v.before_restored v.last_restored screen (LinkPhase.InSession lu from)
+    pub shown_to : (parts : InboundParts) (screen : Screen) → ShownAt app v.waits v.host v.before_restored v.last_restored screen (LinkPhase.InSession lu (to parts))
 
   -- what was noted, on the screen of this size
   noted_here : NotedSince (message_place v.size) v.last_restored.cells f.shown.cells
-  noted_here = subst (λ (s : Shape). NotedSince (message_place s) v.last_restored.cells f.shown.cells) (sym same) f.noted
+  noted_here = subst (λ (s : ScreenSize). NotedSince (message_place s) v.last_restored.cells f.shown.cells) (sym same) f.noted
 
   -- a key that sends nothing
   pub stays : Typing → (screen : Screen) (lock : Lock) (erased : Bool) → length screen.cells ≡ cells_in v.size → screen.cursor < cells_in v.size → (lock ≡ Wait → ⊥) → KeptByKeys erased f.shown.cells screen.cells
-      → Kept app (seen_as v (sent v.lost v.up []) screen lock erased)
+      → ConnectionInvariant app (seen_as v (sent v.lost v.up []) screen lock erased)
   stays typing screen lock erased whole cursor free held = record {
     whole = whole;
     cursor = cursor;
@@ -312,7 +312,7 @@ module _ (given : LowerLaws) (app : Application) (link : Link) (k : Kept app (vi
     as_left = λ _. as_left_of erased (message_place v.size) v.last_restored.cells f.shown.cells screen.cells held noted_here;
     exact = k.exact;
     wanted = k.wanted;
-    moment = LinkPhase.Serves lu from;
+    moment = LinkPhase.InSession lu from;
     sizes = record { host = k.sizes.host; screen = k.sizes.screen; same = λ steady. same };
     at = stays_at screen lock erased;
     fact = typing.stay screen lock erased (record { shown = f.shown; lock = free; exact = f.exact; meets = f.meets; closed = f.closed; knows = f.knows; held = held; messages = f.messages; noted = f.noted });
@@ -321,7 +321,7 @@ module _ (given : LowerLaws) (app : Application) (link : Link) (k : Kept app (vi
 
   -- a key that sends
   pub sends : Typing → (screen : Screen) (lock : Lock) (erased : Bool) (aid : Aid) → length screen.cells ≡ cells_in v.size → screen.cursor < cells_in v.size → lock ≡ Wait → screen.aid ≡ aid → (aid ≡ NoAid → ⊥)
-      → KeepsSent erased aid f.shown.cells screen.cells → Kept app (seen_as v (sent v.lost v.up (ToHost.Data (modified_data Modified v.size screen) ∷ [])) screen lock erased)
+      → KeepsSent erased aid f.shown.cells screen.cells → ConnectionInvariant app (seen_as v (sent v.lost v.up (ToHost.Data (modified_data Modified v.size screen) ∷ [])) screen lock erased)
   sends typing screen lock erased aid whole cursor waits is some keeps =
       let parts : InboundParts = modified_data Modified v.size screen in
       let still : (screen.aid ≡ ClearAid → ⊥) → KeptByKeys erased f.shown.cells screen.cells =
@@ -333,12 +333,12 @@ module _ (given : LowerLaws) (app : Application) (link : Link) (k : Kept app (vi
         as_left = λ uncleared. as_left_of erased (message_place v.size) v.last_restored.cells f.shown.cells screen.cells (still uncleared) noted_here;
         exact = k.exact;
         wanted = k.wanted;
-        moment = LinkPhase.Serves lu (typing.to parts);
+        moment = LinkPhase.InSession lu (typing.to parts);
         sizes = record { host = k.sizes.host; screen = k.sizes.screen; same = λ steady. same };
         at = typing.at_to parts screen lock erased;
         fact = typing.press parts screen lock erased
             (record { lock = waits; form = key_form v.size screen; size = key_size v.size screen ∙ same; pressed = key_aid v.size screen; cursor = key_cursor v.size screen; some = λ none. some (sym is ∙ none) })
-            (will_see given v.host.unheard erased v.host.size v.size shadow f.shown screen aid is (whole ∙ ap (λ (s : Shape). cells_in s) same) f.exact f.knows f.closed f.meets keeps)
+            (will_see given v.host.unheard erased v.host.size v.size shadow f.shown screen aid is (whole ∙ ap (λ (s : ScreenSize). cells_in s) same) f.exact f.knows f.closed f.meets keeps)
             (takes_notes given v.host.size erased f.shown.cells screen.cells aid keeps f.messages);
         shown = typing.shown_to parts screen;
       }
@@ -346,92 +346,92 @@ module _ (given : LowerLaws) (app : Application) (link : Link) (k : Kept app (vi
 -- ---- the moments at which he types
 
 -- the terminal has the turn, and takes keys
-pub record TypingNow (given : LowerLaws) (app : Application) (link : Link) (k : Kept app (view_of link)) : Type 0 where
+pub record TypingNow (given : LowerLaws) (app : Application) (link : Link) (k : ConnectionInvariant app (view_of link)) : Type 0 where
   pub lu : List ℕ
-  pub from : Serving
+  pub from : SessionPhase
   pub shadow : Shadow
-  pub at : IsAt (view_of link) k.wanted (LinkPhase.Serves lu from)
+  pub at : IsAt (view_of link) k.wanted (LinkPhase.InSession lu from)
   pub same : link.term.display.size ≡ link.host.size
   pub operates : Operates shadow (local_state_of (view_of link))
   pub typing : Typing given app link k lu from shadow at same operates
 
-pub types_now : (given : LowerLaws) (app : Application) (link : Link) (k : Kept app (view_of link)) → (link.term.display.keyboard.lock ≡ Wait → ⊥) → TypingNow given app link k
+pub types_now : (given : LowerLaws) (app : Application) (link : Link) (k : ConnectionInvariant app (view_of link)) → (link.term.display.keyboard.lock ≡ Wait → ⊥) → TypingNow given app link k
 types_now given app link k free = by_moment k.moment k.sizes k.at k.fact k.shown
   where
-    by_serving : (lu : List ℕ) (serving : Serving) → Sizes app (view_of link) (LinkPhase.Serves lu serving) → IsAt (view_of link) k.wanted (LinkPhase.Serves lu serving) → Fact k.wanted (local_state_of (view_of link)) (LinkPhase.Serves lu serving)
-        → ShownAt app link.term.waits link.host link.term.display.before_restored link.term.display.last_restored link.term.display.screen (LinkPhase.Serves lu serving) → TypingNow given app link k
-    by_serving lu (Serving.Answering kind number command) s at f shown =
+    by_serving : (lu : List ℕ) (serving : SessionPhase) → Sizes app (view_of link) (LinkPhase.InSession lu serving) → IsAt (view_of link) k.wanted (LinkPhase.InSession lu serving) → Fact k.wanted (local_state_of (view_of link)) (LinkPhase.InSession lu serving)
+        → ShownAt app link.term.waits link.host link.term.display.before_restored link.term.display.last_restored link.term.display.screen (LinkPhase.InSession lu serving) → TypingNow given app link k
+    by_serving lu (SessionPhase.AwaitingWriteResponse kind number command) s at f shown =
         let shadow : Shadow = once_taken link.host.size command link.host.shadow in
         record {
           lu = lu;
-          from = Serving.Answering kind number command;
+          from = SessionPhase.AwaitingWriteResponse kind number command;
           shadow = shadow;
           at = at;
           same = s.same refl;
           operates = f;
           typing = record {
-            to = λ parts. Serving.KeyBehind kind number command parts;
+            to = λ parts. SessionPhase.KeySentAfterResponse kind number command parts;
             stay = λ screen lock erased operates. operates;
             press = λ parts screen lock erased pressed sees takes. (pressed, sees, takes, f.exact);
-            at_to = λ parts screen lock erased. sends_at given app link k lu (Serving.Answering kind number command) shadow at (s.same refl) f (Serving.KeyBehind kind number command parts) parts screen lock erased refl refl refl refl;
+            at_to = λ parts screen lock erased. sends_at given app link k lu (SessionPhase.AwaitingWriteResponse kind number command) shadow at (s.same refl) f (SessionPhase.KeySentAfterResponse kind number command parts) parts screen lock erased refl refl refl refl;
             shown = λ screen. shown;
             shown_to = λ parts screen. shown;
           };
         }
-    by_serving lu Serving.Operating s at f shown =
+    by_serving lu SessionPhase.OperatorTyping s at f shown =
         record {
           lu = lu;
-          from = Serving.Operating;
+          from = SessionPhase.OperatorTyping;
           shadow = link.host.shadow;
           at = at;
           same = s.same refl;
           operates = f;
           typing = record {
-            to = λ parts. Serving.KeyAlone parts;
+            to = λ parts. SessionPhase.KeySent parts;
             stay = λ screen lock erased operates. operates;
             press = λ parts screen lock erased pressed sees takes. (pressed, sees, takes);
-            at_to = λ parts screen lock erased. sends_at given app link k lu Serving.Operating link.host.shadow at (s.same refl) f (Serving.KeyAlone parts) parts screen lock erased refl refl refl refl;
+            at_to = λ parts screen lock erased. sends_at given app link k lu SessionPhase.OperatorTyping link.host.shadow at (s.same refl) f (SessionPhase.KeySent parts) parts screen lock erased refl refl refl refl;
             shown = λ screen. shown;
             shown_to = λ parts screen. shown;
           };
         }
-    by_serving lu (Serving.Noting number command) s at f shown =
+    by_serving lu (SessionPhase.Noting number command) s at f shown =
         record {
           lu = lu;
-          from = Serving.Noting number command;
+          from = SessionPhase.Noting number command;
           shadow = link.host.shadow;
           at = at;
           same = s.same refl;
           operates = f.0;
           typing = record {
-            to = λ parts. Serving.KeyNoted number command parts;
+            to = λ parts. SessionPhase.KeyCrossingNote number command parts;
             stay = λ screen lock erased operates. (operates, f.1);
             press = λ parts screen lock erased pressed sees takes. (pressed, sees, record { note = f.1; takes = takes });
-            at_to = λ parts screen lock erased. sends_at given app link k lu (Serving.Noting number command) link.host.shadow at (s.same refl) f.0 (Serving.KeyNoted number command parts) parts screen lock erased refl refl refl refl;
+            at_to = λ parts screen lock erased. sends_at given app link k lu (SessionPhase.Noting number command) link.host.shadow at (s.same refl) f.0 (SessionPhase.KeyCrossingNote number command parts) parts screen lock erased refl refl refl refl;
             shown = λ screen. shown;
             shown_to = λ parts screen. shown;
           };
         }
-    by_serving lu Serving.Deciding s at f shown = absurd (free f.lock)
-    by_serving lu (Serving.Reading number) s at f shown = absurd (free f.decides.lock)
-    by_serving lu (Serving.Reported number parts) s at f shown = absurd (free f.lock)
-    by_serving lu (Serving.NotedLate number command) s at f shown = absurd (free f.0.lock)
-    by_serving lu (Serving.AnsweredLate number command) s at f shown = absurd (free f.lock)
-    by_serving lu (Serving.Painting number command wants over) s at f shown = absurd (free f.lock)
-    by_serving lu (Serving.KeyAlone parts) s at f shown = absurd (free f.0.lock)
-    by_serving lu (Serving.KeyBehind kind number command parts) s at f shown = absurd (free f.0.lock)
-    by_serving lu (Serving.KeyNoted number command parts) s at f shown = absurd (free f.0.lock)
-    by_serving lu (Serving.KeyBefore number command parts) s at f shown = absurd (free f.0.lock)
+    by_serving lu SessionPhase.Deciding s at f shown = absurd (free f.lock)
+    by_serving lu (SessionPhase.Reading number) s at f shown = absurd (free f.decides.lock)
+    by_serving lu (SessionPhase.BufferReturning number parts) s at f shown = absurd (free f.lock)
+    by_serving lu (SessionPhase.DecidingNoteSent number command) s at f shown = absurd (free f.0.lock)
+    by_serving lu (SessionPhase.DecidingNoteAnswered number command) s at f shown = absurd (free f.lock)
+    by_serving lu (SessionPhase.Painting number command wants over) s at f shown = absurd (free f.lock)
+    by_serving lu (SessionPhase.KeySent parts) s at f shown = absurd (free f.0.lock)
+    by_serving lu (SessionPhase.KeySentAfterResponse kind number command parts) s at f shown = absurd (free f.0.lock)
+    by_serving lu (SessionPhase.KeyCrossingNote number command parts) s at f shown = absurd (free f.0.lock)
+    by_serving lu (SessionPhase.KeyBeforeNoteResponse number command parts) s at f shown = absurd (free f.0.lock)
 
     by_moment : (moment : LinkPhase) → Sizes app (view_of link) moment → IsAt (view_of link) k.wanted moment → Fact k.wanted (local_state_of (view_of link)) moment
         → ShownAt app link.term.waits link.host link.term.display.before_restored link.term.display.last_restored link.term.display.screen moment → TypingNow given app link k
-    by_moment (LinkPhase.Talks talking) s at f shown = absurd (free f.0.lock)
-    by_moment (LinkPhase.Begins lu number command wants over) s at f shown = absurd (free f.lock)
-    by_moment (LinkPhase.Serves lu serving) s at f shown = by_serving lu serving s at f shown
+    by_moment (LinkPhase.Negotiating talking) s at f shown = absurd (free f.0.lock)
+    by_moment (LinkPhase.FirstPaint lu number command wants over) s at f shown = absurd (free f.lock)
+    by_moment (LinkPhase.InSession lu serving) s at f shown = by_serving lu serving s at f shown
 
 -- ---- by what a key is answered
 
-module _ (given : LowerLaws) (app : Application) (link : Link) (key : Key) (k : Kept app (view_of link)) (now : TypingNow given app link k) where
+module _ (given : LowerLaws) (app : Application) (link : Link) (key : Key) (k : ConnectionInvariant app (view_of link)) (now : TypingNow given app link k) where
   abbrev here : View
   here = view_of link
 
@@ -447,23 +447,23 @@ module _ (given : LowerLaws) (app : Application) (link : Link) (key : Key) (k : 
   bound = ap (λ state. is_some (bound_to state)) now.at.term_talk
 
   pub stay : (screen : Screen) (lock : Lock) (erased : Bool) → length screen.cells ≡ cells_in here.size → screen.cursor < cells_in here.size → (lock ≡ Wait → ⊥) → KeptByKeys erased left screen.cells
-      → Kept app (seen_as here (sent here.lost here.up []) screen lock erased)
+      → ConnectionInvariant app (seen_as here (sent here.lost here.up []) screen lock erased)
   stay screen lock erased whole cursor free held = stays given app link k now.lu now.from now.shadow now.at now.same now.operates now.typing screen lock erased whole cursor free held
 
   by_answer : (outcome : Outcome) (answer : Pressed) → length outcome.screen.cells ≡ cells_in here.size → outcome.screen.cursor < cells_in here.size → ActsBy answer outcome
-      → Keeps here.erased key answer left outcome.screen.cells → Kept app (said outcome answer)
+      → Keeps here.erased key answer left outcome.screen.cells → ConnectionInvariant app (said outcome answer)
   by_answer outcome Done whole cursor a keeps =
-      subst (λ says. Kept app (seen_as here (sent here.lost here.up says) outcome.screen outcome.keyboard.lock (here.erased || erases key))) (sym (quiet_done (is_bound link.term) here.size outcome.screen))
+      subst (λ says. ConnectionInvariant app (seen_as here (sent here.lost here.up says) outcome.screen outcome.keyboard.lock (here.erased || erases key))) (sym (quiet_done (is_bound link.term) here.size outcome.screen))
       (stay outcome.screen outcome.keyboard.lock (here.erased || erases key) whole cursor a keeps)
   by_answer outcome (Refused why) whole cursor a keeps =
-      subst (λ says. Kept app (seen_as here (sent here.lost here.up says) outcome.screen outcome.keyboard.lock (here.erased || false))) (sym (quiet_refused (is_bound link.term) why here.size outcome.screen))
+      subst (λ says. ConnectionInvariant app (seen_as here (sent here.lost here.up says) outcome.screen outcome.keyboard.lock (here.erased || false))) (sym (quiet_refused (is_bound link.term) why here.size outcome.screen))
       (stay outcome.screen outcome.keyboard.lock (here.erased || false) whole cursor a (subst (λ b. KeptByKeys b left outcome.screen.cells) (sym (or_false here.erased)) keeps))
   by_answer outcome (Send aid) whole cursor a keeps =
-      subst (λ b. Kept app (seen_as here (sent here.lost here.up (data_of b (Send aid) here.size outcome.screen)) outcome.screen outcome.keyboard.lock (here.erased || false))) (sym bound)
+      subst (λ b. ConnectionInvariant app (seen_as here (sent here.lost here.up (data_of b (Send aid) here.size outcome.screen)) outcome.screen outcome.keyboard.lock (here.erased || false))) (sym bound)
       (sends given app link k now.lu now.from now.shadow now.at now.same now.operates now.typing outcome.screen outcome.keyboard.lock (here.erased || false) aid whole cursor a.0 a.1 a.2
       (subst (λ b. KeepsSent b aid left outcome.screen.cells) (sym (or_false here.erased)) keeps))
 
-  types : Kept app (view_of (key_view key link))
+  types : ConnectionInvariant app (view_of (key_view key link))
   types =
       let display : Display = link.term.display in
       let outcome : Outcome = outcome_of key display in
@@ -476,13 +476,13 @@ module _ (given : LowerLaws) (app : Application) (link : Link) (key : Key) (k : 
 
 -- ---- any key, at any moment
 
-pub keys : LowerLaws → (app : Application) (link : Link) (key : Key) → Kept app (view_of link) → Kept app (view_of (key_view key link))
+pub keys : LowerLaws → (app : Application) (link : Link) (key : Key) → ConnectionInvariant app (view_of link) → ConnectionInvariant app (view_of (key_view key link))
 keys given app link key k = by_lock link.term.display.keyboard.lock refl
   where
-    types_at : (lock : Lock) → link.term.display.keyboard.lock ≡ lock → (lock ≡ Wait → ⊥) → Kept app (view_of (key_view key link))
+    types_at : (lock : Lock) → link.term.display.keyboard.lock ≡ lock → (lock ≡ Wait → ⊥) → ConnectionInvariant app (view_of (key_view key link))
     types_at lock is free = types given app link key k (types_now given app link k (λ waits. free (sym is ∙ waits)))
 
-    by_lock : (lock : Lock) → link.term.display.keyboard.lock ≡ lock → Kept app (view_of (key_view key link))
-    by_lock Wait is = subst (Kept app) (sym (key_waits key link is)) k
+    by_lock : (lock : Lock) → link.term.display.keyboard.lock ≡ lock → ConnectionInvariant app (view_of (key_view key link))
+    by_lock Wait is = subst (ConnectionInvariant app) (sym (key_waits key link is)) k
     by_lock Free is = types_at Free is (λ waits. absurd (cc))
     by_lock Error is = types_at Error is (λ waits. absurd (cc))

@@ -14,7 +14,7 @@ use Rattle.world3270.specs.model.Steps.{done, stepped_by, joined, key_went, run,
 use Rattle.world3270.specs.refinement.MessageLaws.{WorldLaws}
 use Rattle.world3270.specs.model.Link.{Link, host_sent}
 use Rattle.world3270.specs.model.Enabled.{free_number, is_enabled, is_terminal, may_connect}
-use Rattle.world3270.specs.refinement.Refines.{Begin, IsBegin, Reached, GoesOn, after, once, once_taken}
+use Rattle.world3270.specs.refinement.Refines.{WorldSetup, IsWorldSetup, Reached, GoesOn, after, once, once_taken}
 use Rattle.world3270.specs.statement.Unbroken.{EndsStay, NobodyCloses}
 use Rattle.world3270.specs.model.Terminal.{Display, after_key}
 use Rattle.world3270.specs.model.World.{Place, World, Event, with_at, display_at}
@@ -185,7 +185,7 @@ connect_terminal app at wanted terminal number world is = by_has (is_enabled app
 
 -- ---- over bytes
 
-module _ (known : WorldLaws) (begin : Begin) (events : List Event) (old : ByteWorld) (answer : Stepped) (new : ByteWorld) (is : IsBegin begin) (reached : Reached begin events old) where
+module _ (known : WorldLaws) (begin : WorldSetup) (events : List Event) (old : ByteWorld) (answer : Stepped) (new : ByteWorld) (is : IsWorldSetup begin) (reached : Reached begin events old) where
   abbrev app : Application
   app = application_of begin.panels
 

@@ -8,7 +8,7 @@ use Rattle.telnet_wire.specs.Laws.{WrongIsFinal}
 use Rattle.telnet_wire.specs.Reading.{Rest, Delivers, GoesWrong}
 use Rattle.telnet_wire.specs.declared.wire.WireFault.{WireFault}
 use Rattle.tn3270e_msg.specs.Header.{record_limit}
-use Rattle.tn3270e_msg.specs.Talk.{Saying, item_of}
+use Rattle.tn3270e_msg.specs.Talk.{NegotiationMessage, item_of}
 use Rattle.host_core.specs.Messages.{ToTerminal, ToHost}
 use Rattle.host_core.specs.Says.{item_sent}
 use Rattle.host_core.specs.Session.{Session}
@@ -25,15 +25,15 @@ use Rattle.world3270.proofs.UnderWay.{lost_says}
 -- ---- what a host says to a message
 
 -- it is nothing but talk, each of its items stands for its saying, and may come where the sayings may
-talk_stands : (talk : List Saying) → Pairwise RepresentsDown (map item_sent (map ToTerminal.TalksDown talk)) (map ToTerminal.TalksDown talk)
+talk_stands : (talk : List NegotiationMessage) → Pairwise RepresentsDown (map item_sent (map ToTerminal.TalksDown talk)) (map ToTerminal.TalksDown talk)
 talk_stands [] = tt
 talk_stands (saying ∷ talk) = (refl, talk_stands talk)
 
-saying_comes : (saying : Saying) → IsSaid saying → CanCome record_limit (item_of saying)
-saying_comes (Saying.Opt verb code) is = tt
-saying_comes (Saying.Sub sending) is = payload_fits sending is
+saying_comes : (saying : NegotiationMessage) → IsSaid saying → CanCome record_limit (item_of saying)
+saying_comes (NegotiationMessage.Opt verb code) is = tt
+saying_comes (NegotiationMessage.Sub sending) is = payload_fits sending is
 
-talk_comes : (talk : List Saying) (end : TermEnd) → MayComeAll end (map ToTerminal.TalksDown talk)
+talk_comes : (talk : List NegotiationMessage) (end : TermEnd) → MayComeAll end (map ToTerminal.TalksDown talk)
     → AllByRecursion (CanCome record_limit) (map item_sent (map ToTerminal.TalksDown talk))
 talk_comes [] end may = tt
 talk_comes (saying ∷ talk) end may = (saying_comes saying may.1.0, talk_comes talk (term_took end (ToTerminal.TalksDown saying)).end may.2)
@@ -43,7 +43,7 @@ may_behind : (front back : List ToTerminal) (end : TermEnd) → MayComeAll end (
 may_behind [] back end may = (end, may)
 may_behind (message ∷ front) back end may = may_behind front back (term_took end message).end may.2
 
-module _ {heard : List WireItem → List WireItem} {Up : WireItem → ToHost → Type 0} (host_sends : HostSendsBy heard Up) (bytes : ByteLink) (link : Link) (conn : Session) (sends : List ToTerminal) (talk : List Saying) (says : sends ≡ map ToTerminal.TalksDown talk)
+module _ {heard : List WireItem → List WireItem} {Up : WireItem → ToHost → Type 0} (host_sends : HostSendsBy heard Up) (bytes : ByteLink) (link : Link) (conn : Session) (sends : List ToTerminal) (talk : List NegotiationMessage) (says : sends ≡ map ToTerminal.TalksDown talk)
     (stands : LinkRepresentsBy heard Up bytes link) where
   said_if : (lost : Bool) → link.lost ≡ lost → MayComeAll link.term (sent link.lost link.down sends) → LinkRepresentsBy heard Up (said_down conn (map item_sent sends) bytes) (sent_down conn sends link)
   said_if true e may = lost_says host_sends bytes link conn (map item_sent sends) sends stands e

@@ -2,7 +2,7 @@
 use Rattle.std.proofs.Common.{◌≡◌, Bool, true, Option, None, List, [], ◌∷◌, length, map, refl, ap, sym, subst, ◌∙◌}
 use Rattle.std.specs.List.{list_all}
 use Rattle.std.specs.Option.{option_or}
-use Rattle.codes3270.specs.Size.{Shape, cells_in}
+use Rattle.codes3270.specs.Size.{ScreenSize, cells_in}
 use Rattle.codes3270.specs.declared.attribute.Attr.{Attr as Attribute}
 use Rattle.codes3270.specs.declared.attribute.Cell.{Cell}
 use Rattle.codes3270.specs.declared.attribute.Cell.TheVariants.{Char, Attr}
@@ -12,7 +12,7 @@ use Rattle.datastream.specs.HeldLaws.{HeldIsRound}
 use Rattle.datastream.specs.HeldRound.{HeldFrom}
 use Rattle.datastream.specs.Meaning.{after_command}
 use Rattle.datastream.specs.Screen.{Screen, attribute_in, is_char, last_attribute}
-use Rattle.host_core.specs.Application.{IsShape}
+use Rattle.host_core.specs.Application.{IsValidSize}
 use Rattle.host_core.specs.NoteLaws.{IsNoteOf, TakesNotes}
 use Rattle.world3270.specs.refinement.LowerLaws.{LowerLaws}
 
@@ -53,7 +53,7 @@ chars_held erased (Attr left ∷ lefts) (now ∷ nows) left_chars now_chars same
 
 -- ---- any screen that takes notes
 
-pub note_held : LowerLaws → HeldIsRound → (shape : Shape) (command : CommandParts) (erased : Bool) (left now : Screen) → IsShape shape → IsNoteOf shape command → length left.cells ≡ cells_in shape → TakesNotes shape left.cells
+pub note_held : LowerLaws → HeldIsRound → (shape : ScreenSize) (command : CommandParts) (erased : Bool) (left now : Screen) → IsValidSize shape → IsNoteOf shape command → length left.cells ≡ cells_in shape → TakesNotes shape left.cells
     → KeptByKeys erased left.cells now.cells → KeptByKeys erased (after_command command left).cells (after_command command now).cells
 note_held given round shape command erased left now is note whole takes held = by_form takes
   where

@@ -5,7 +5,7 @@ use Rattle.std.specs.Option.{option_and_then}
 use Rattle.std.specs.List.{All}
 use Rattle.std.proofs.lemmas.Bool.{ltb-true}
 use Rattle.std.proofs.lemmas.List.Elements.{All-nil, All-cons, All-head, All-tail, All-append, All-map}
-use Rattle.codes3270.specs.Size.{Shape}
+use Rattle.codes3270.specs.Size.{ScreenSize}
 use Rattle.datastream.specs.Screen.{Screen}
 use Rattle.keyboard.specs.declared.key.Pressed.{Pressed}
 use Rattle.keyboard.specs.declared.key.Pressed.TheVariants.{Done, Refused, Send}
@@ -46,6 +46,7 @@ next_fits number = by_test (nat_lt number 32767) refl
 
 -- ---- what a host makes of a message
 
+-- the sequence numbers, the next one and the one that is awaited, have 15 bits
 pub record Numbered (conn : Session) : Type 0 where
   pub next : IsNumber conn.next_seq
   pub pending : IfSome (number_of conn.pending) IsNumber
@@ -93,7 +94,7 @@ term_fits end (ToTerminal.Paint number wanted over) fits = once_bound_fits (is_b
 term_fits end (ToTerminal.ReadBuffer number) fits = once_bound_fits (is_bound end) end _ _ tt
 term_fits end (ToTerminal.Note number command) fits = once_bound_fits (is_bound end) end _ (ToHost.Response number Verdict.Positive) fits
 
-data_fits_up : (bound : Bool) (answer : Pressed) (shape : Shape) (screen : Screen) → All FitsUp (data_of bound answer shape screen)
+data_fits_up : (bound : Bool) (answer : Pressed) (shape : ScreenSize) (screen : Screen) → All FitsUp (data_of bound answer shape screen)
 data_fits_up true (Send aid) shape screen = All-cons FitsUp _ [] tt (All-nil FitsUp)
 data_fits_up false (Send aid) shape screen = All-nil FitsUp
 data_fits_up true Done shape screen = All-nil FitsUp

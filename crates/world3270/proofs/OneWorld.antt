@@ -13,7 +13,7 @@ use Rattle.host_core.specs.Bytes.{ConnectionAndPool, TakesByte, TakesBytes}
 use Rattle.host_core.specs.Does.{Does as HostDoes, acted_by, noted_by, DoesAnswer}
 use Rattle.host_core.specs.Feeds.{Feeds, IsOpen, StopsFor as HostStopsFor, connection_and_pool_at, with_connection_and_pool}
 use Rattle.host_core.specs.Machine.{OneOutcome as OneOutcomeOfHost}
-use Rattle.host_core.specs.State.{Host, Connection, Service, connection_at, service_at, with_connection, session_at}
+use Rattle.host_core.specs.State.{Host, Connection, Service, connection_at, state_at, with_connection, session_at}
 use Rattle.host_core.specs.declared.acted.Acted.{Acted}
 use Rattle.host_core.specs.declared.question.Answer.{Answer as ApplicationAnswer}
 use Rattle.host_core.specs.declared.acted.Acted.TheVariants as acted
@@ -349,11 +349,11 @@ module _ (one_host : OneOutcomeOfHost) (one_terminal : OneOutcomeOfTerminal) whe
   one_happening (event.Down number count) old new other answer reply is none also other_none =
       one_going_down one_terminal (terminal_at number old.slots) number (take count (down_of number old)) old new other answer reply is none also other_none
   one_happening (event.Act number) old new other answer reply is none also other_none =
-      one_act (acted_by (application_of old.host.panels) (service_at number old.host)) number old new other answer reply is none also other_none
+      one_act (acted_by (application_of old.host.panels) (state_at number old.host)) number old new other answer reply is none also other_none
   one_happening (event.Answer number ticket said) old new other answer reply is none also other_none =
-      one_answer (application_of old.host.panels) said (answered_by (application_of old.host.panels) (session_at number old.host) ticket said (service_at number old.host)) number old new other answer reply is none also other_none
+      one_answer (application_of old.host.panels) said (answered_by (application_of old.host.panels) (session_at number old.host) ticket said (state_at number old.host)) number old new other answer reply is none also other_none
   one_happening (event.Note number text) old new other answer reply is none also other_none =
-      one_act (noted_by text (service_at number old.host)) number old new other answer reply is none also other_none
+      one_act (noted_by text (state_at number old.host)) number old new other answer reply is none also other_none
   one_happening (event.KeepAlive number) old new other answer reply is none also other_none = one_made _ new other answer reply is also
   one_happening (event.Lose number) old new other answer reply is none also other_none = one_made _ new other answer reply is also
   one_happening (event.HostSees number) old new other answer reply is none also other_none = one_made _ new other answer reply is also

@@ -2,7 +2,7 @@
 use Rattle.std.proofs.Common.{◌≡◌, ◌<◌, not, ℕ, Bool, true, false, Option, None, Some, is_some, List, [], length, le_refl, refl, ap, sym, subst, ◌∙◌}
 use Rattle.std.proofs.lemmas.List.{length-set}
 use Rattle.lu_pool.specs.Holders.{given_back}
-use Rattle.host_core.specs.State.{Host, Connection, unused, connection_at, service_at}
+use Rattle.host_core.specs.State.{Host, Connection, unused, connection_at, state_at}
 use Rattle.world3270.specs.model.ByteSteps.{lost_transits, host_gone, terminal_gone}
 use Rattle.world3270.specs.model.ByteWorld.{ByteWorld, Transit, Transits, TerminalSlot, under_way, cut, sender_gone, is_live, is_there, transits_at, slot_at, with_transits, with_slot, host_there, host_out, out_of}
 use Rattle.world3270.specs.model.Steps.{host_parted, parted}
@@ -85,7 +85,7 @@ module _ (number : ℕ) (old new : ByteWorld) (was here : Option ℕ) (connectio
         (subst (λ (o : List ℕ). IsFlow (is_some here) o transits.up) (sym gone.out_is) gone.up.flow);
   }
 
-  pub gone_stands : (link : Link) → (link.host_here ≡ true → connection.service ≡ service_at number old.host)
+  pub gone_stands : (link : Link) → (link.host_here ≡ true → connection.service ≡ state_at number old.host)
       → ((terminal : ℕ) → link.term_here ≡ Some terminal → tracked_of here new ≡ tracked_of was old)
       → LinkRepresents (record (link_with was number old) { lost = true; host_here = is_there connection.service; term_here = here }) link
       → LinkRepresents (link_with here number new) link

@@ -12,7 +12,7 @@ use Rattle.world3270.specs.model.ByteWorld.{ByteWorld, host_there, is_there, slo
 use Rattle.world3270.specs.refinement.MessageLaws.{WorldLaws}
 use Rattle.world3270.specs.model.Places.{EndsAgree}
 use Rattle.world3270.specs.statement.ProtocolErrors.{HasNotClosed, RefusalsAreNegative, RefusesNothing, WorldsHaveNoProtocolError, EventsMakeNoProtocolErrors}
-use Rattle.world3270.specs.refinement.Refines.{IsReached, StepsGoOn, after}
+use Rattle.world3270.specs.refinement.Refines.{IsReached, StepsAreSimulated, after}
 use Rattle.world3270.specs.refinement.Representation.{WorldRepresents, IsAt, conn_of, tracked_of}
 use Rattle.world3270.specs.statement.Unbroken.{NobodyCloses, TerminalsRefuseNothing}
 use Rattle.world3270.specs.model.World.{Place, World}
@@ -86,7 +86,7 @@ refuses none (event.Connect terminal wanted) old answer new is steps = tt
 refuses none (event.RestartTerm terminal) old answer new is steps = tt
 refuses none event.RestartHost old answer new is steps = tt
 
-pub events_make_no_errors : StepsGoOn → NobodyCloses → TerminalsRefuseNothing → EventsMakeNoProtocolErrors
+pub events_make_no_errors : StepsAreSimulated → NobodyCloses → TerminalsRefuseNothing → EventsMakeNoProtocolErrors
 events_make_no_errors goes closes none [] bytes is real = tt
 events_make_no_errors goes closes none (event ∷ events) bytes is real = λ answer next steps.
     let one = goes is.begin is.events event bytes answer next is.is_begin is.reached real.0 steps in (
@@ -108,7 +108,7 @@ refusals_are_negative number sense below =
       header = response_header number (outcomes.Refused sense);
       body = code;
       is_record = refl;
-      begins = record { is_header = record { kind = tt; flag = lit≤ tt }; number = below; spelt = refl };
+      begins = record { is_header = record { kind = tt; flag = lit≤ tt }; number = below; encoded = refl };
       kind = refl;
       flag = refl;
     }

@@ -3,7 +3,7 @@
 use Rattle.std.proofs.Common.{◌≡◌, ◌==◌, ◌||◌, ◌&&◌, ℕ, Bool, true, false, None, List, [], ◌∷◌, length, refl, ap, sym, subst, ◌∙◌, if◌then◌else◌}
 use Rattle.std.specs.Prelude.{map, not, IsOkAnd, Ok, Err}
 use Rattle.std.specs.List.{list_all}
-use Rattle.codes3270.specs.Size.{Shape}
+use Rattle.codes3270.specs.Size.{ScreenSize}
 use Rattle.codes3270.specs.declared.attribute.Cell.{Cell}
 use Rattle.codes3270.specs.declared.attribute.Cell.TheVariants.{Char, Attr}
 use Rattle.datastream.specs.Fields.{Field, fields}
@@ -69,7 +69,7 @@ any_text (char ∷ chars) = (tt, any_text chars)
 
 -- ---- it is heard
 
-pub reads_input : HeldIsRound → HearsBuffer → DoubtAllowsInput → (size : Shape) (erased : Bool) (shadow : Shadow) (left now : Screen) → Meets shadow left → KeptByKeys erased left.cells now.cells
+pub reads_input : HeldIsRound → HearsBuffer → DoubtAllowsInput → (size : ScreenSize) (erased : Bool) (shadow : Shadow) (left now : Screen) → Meets shadow left → KeptByKeys erased left.cells now.cells
     → IsOkAnd (heard (length now.cells) shadow (buffer_data size now)) (Believed false now)
 reads_input round reads doubt size erased Shadow.NothingKnown left now meets held = reads size Shadow.NothingKnown now tt
 reads_input round reads doubt size erased (Shadow.Unformatted known) left now meets held =

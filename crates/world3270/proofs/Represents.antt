@@ -6,7 +6,7 @@ use Rattle.std.proofs.lemmas.Grind.{flat_map-append}
 use Rattle.std.proofs.lemmas.Bool.{and_parts, eqb-true}
 use Rattle.std.proofs.lemmas.List.Elements.{filter-append}
 use Rattle.std.specs.List.{flat_map, AllByRecursion}
-use Rattle.codes3270.specs.Size.{Shape, alternate_of, cells_in, most_cells}
+use Rattle.codes3270.specs.Size.{ScreenSize, alternate_of, cells_in, most_cells}
 use Rattle.codes3270.specs.declared.size.Model.{Model}
 use Rattle.presentation.specs.Sizes.{SizedScreen, applied as screen_applied}
 use Rattle.datastream.specs.Grammar.{CommandParts, IsCommand, is_write}
@@ -38,7 +38,7 @@ use Rattle.telnet_wire.specs.Token.{text, spelling}
 use Rattle.telnet_wire.specs.declared.wire.Verb.TheVariants.{Do}
 use Rattle.tn3270e_msg.specs.Header.{Begins, record_limit, error_response, always_response}
 use Rattle.tn3270e_msg.specs.Laws.{OneHeader, FaultIsNoHeader}
-use Rattle.tn3270e_msg.specs.Talk.{Comes, NoTalk, Hears, Talk, items_sent, follow, Saying, says, sayings, item_of, closing}
+use Rattle.tn3270e_msg.specs.Talk.{Comes, NoTalk, Hears, Talk, items_sent, follow, NegotiationMessage, says, sayings, item_of, closing}
 use Rattle.tn3270e_msg.specs.TermTable.{Term, term_transition, term_start}
 use Rattle.tn3270e_msg.specs.declared.cause.Cause.{Cause}
 use Rattle.tn3270e_msg.specs.declared.header.Header.{Header}
@@ -104,13 +104,13 @@ written_over n believed wanted writes = by_belief believed writes
     by_belief (Shadow.Formatted beliefs) is = by_size beliefs (cells_of_fields beliefs == n) refl is
 
 pub paint_stands : WantedIsPainted → PaintRepresents
-paint_stands painted number wanted believed bytes body whole begins spelt fit = record {
+paint_stands painted number wanted believed bytes body whole begins encoded fit = record {
   bytes = bytes;
   body = body;
   command = paint (cells_in wanted.size) believed wanted;
   is_record = refl;
   begins = begins;
-  spelt = spelt;
+  encoded = encoded;
   paints = record {
     size = refl;
     writes = paint_writes (cells_in wanted.size) believed wanted;
@@ -138,9 +138,9 @@ side_of bytes end is = record { talk_is = is.talk_is; screen_is = is.screen_is; 
 
 -- ---- the talk
 
-said_is_heard : (saying : Saying) → IsSaid saying → (comes : Comes) → Hears (item_of saying) comes → comes ≡ says saying
-said_is_heard (Saying.Opt verb code) h comes k = k
-said_is_heard (Saying.Sub sending) h comes k = sent_is_heard sending h comes k
+said_is_heard : (saying : NegotiationMessage) → IsSaid saying → (comes : Comes) → Hears (item_of saying) comes → comes ≡ says saying
+said_is_heard (NegotiationMessage.Opt verb code) h comes k = k
+said_is_heard (NegotiationMessage.Sub sending) h comes k = sent_is_heard sending h comes k
 
 sayings_stand : (answer : Reply) → Pairwise RepresentsUp (items_sent answer) (map ToHost.TalksUp (sayings answer))
 sayings_stand reply.Nothing = tt
@@ -176,18 +176,18 @@ replied_same end talk next old new answer p sent closes is unmarked model wanted
 }
 
 -- a negotiation or a subnegotiation is for the talk, however far it is
-saying_talks : (state : TermState) (saying : Saying) (talk next : Term) (old new : Station) (sent : List WireItem) (closes : Option Cause)
+saying_talks : (state : TermState) (saying : NegotiationMessage) (talk next : Term) (old new : Station) (sent : List WireItem) (closes : Option Cause)
     → TakesItemIn state talk old (item_of saying) sent closes next new → TalksOn talk old (item_of saying) sent closes next new
 saying_talks at.Waiting saying talk next old new sent closes taken = taken
 saying_talks at.Willing saying talk next old new sent closes taken = taken
 saying_talks at.TypeAsked saying talk next old new sent closes taken = taken
 saying_talks (at.FunctionsAsked lu) saying talk next old new sent closes taken = taken
-saying_talks (at.Agreed lu) (Saying.Opt verb code) talk next old new sent closes taken = taken
-saying_talks (at.Agreed lu) (Saying.Sub sending) talk next old new sent closes taken = taken
+saying_talks (at.Agreed lu) (NegotiationMessage.Opt verb code) talk next old new sent closes taken = taken
+saying_talks (at.Agreed lu) (NegotiationMessage.Sub sending) talk next old new sent closes taken = taken
 saying_talks (at.Refused reason) saying talk next old new sent closes taken = taken
 saying_talks (at.Closed cause) saying talk next old new sent closes taken = taken
 
-takes_talk : (saying : Saying) (talk next : Term) (old new : Station) (end : TermEnd) (sent : List WireItem) (closes : Option Cause)
+takes_talk : (saying : NegotiationMessage) (talk next : Term) (old new : Station) (end : TermEnd) (sent : List WireItem) (closes : Option Cause)
     → IsSaid saying → NamesWanted end.talk.talk.state end.talk.wanted → IsSide talk old end → old.took_write ≡ false → TakesItem talk old (item_of saying) sent closes next new
     → SameItem next new sent closes false (took end (ToTerminal.TalksDown saying))
 takes_talk saying talk next old new end sent closes h wish is unmarked taken =
@@ -328,33 +328,33 @@ module _ (sizes : MeetsIsOfSize) (one_header : OneHeader) (fault_or_header : Fau
   obeys : (old new : Station) (bytes body : List ℕ) (sent : List WireItem) (closes : Option Cause) (header : Header) (command : CommandParts)
       → header.kind ≡ Data3270 → Begins bytes header body → SpellsCommand old command body → TakesRecord old bytes sent closes new
       → Obeys old new sent closes header command
-  obeys old new bytes body sent closes header command kind begins spelt (TakesRecord.no_header fault has a b c) =
+  obeys old new bytes body sent closes header command kind begins encoded (TakesRecord.no_header fault has a b c) =
       absurd (fault_or_header bytes fault header body has begins)
-  obeys old new bytes body sent closes header command kind begins spelt (TakesRecord.dropped other rest begins' k a b c) =
+  obeys old new bytes body sent closes header command kind begins encoded (TakesRecord.dropped other rest begins' k a b c) =
       absurd (k (ap (λ (h : Header). h.kind) (one_header bytes other header rest body begins' begins).0 ∙ kind))
-  obeys old new bytes body sent closes header command kind begins spelt (TakesRecord.refused other rest fault begins' k bad a b c) =
+  obeys old new bytes body sent closes header command kind begins encoded (TakesRecord.refused other rest fault begins' k bad a b c) =
       let both = one_header bytes other header rest body begins' begins in
-      absurd (command_or_fault old.screen.size (alternate_of old.screen.model) command fault body spelt (subst (λ (b : List ℕ). SpellsNoCommand old fault b) both.1 bad))
-  obeys old new bytes body sent closes header command kind begins spelt (TakesRecord.obeys other rest command' begins' k good a b c) =
+      absurd (command_or_fault old.screen.size (alternate_of old.screen.model) command fault body encoded (subst (λ (b : List ℕ). SpellsNoCommand old fault b) both.1 bad))
+  obeys old new bytes body sent closes header command kind begins encoded (TakesRecord.obeys other rest command' begins' k good a b c) =
       let both = one_header bytes other header rest body begins' begins in
-      let commands = one_command old.screen.size (alternate_of old.screen.model) command' command body (subst (λ (x : List ℕ). SpellsCommand old command' x) both.1 good) spelt in
+      let commands = one_command old.screen.size (alternate_of old.screen.model) command' command body (subst (λ (x : List ℕ). SpellsCommand old command' x) both.1 good) encoded in
       record {
         said = a ∙ ap (λ (h : Header). answer_of h command' old) both.0 ∙ ap (λ (x : CommandParts). answer_of header x old) commands;
         closed = b;
         becomes = c ∙ ap (λ (x : CommandParts). obeyed x old) commands;
       }
 
-  -- what is spelt for its sizes is spelt for the terminal
+  -- what is encoded for its sizes is encoded for the terminal
   spelt_for : (old : Station) (display : Display) (command : CommandParts) (body : List ℕ) → old.screen ≡ sized display → IsCommand display.size (alternate_of display.model) command body
       → SpellsCommand old command body
-  spelt_for old display command body is spelt = subst (λ (s : SizedScreen). IsCommand s.size (alternate_of s.model) command body) (sym is) spelt
+  spelt_for old display command body is encoded = subst (λ (s : SizedScreen). IsCommand s.size (alternate_of s.model) command body) (sym is) encoded
 
   -- the screen after a command has the command's size
-  applied_so : (old : Station) (display : Display) (command : CommandParts) (size : Shape) → old.screen ≡ sized display → command.size ≡ size
+  applied_so : (old : Station) (display : Display) (command : CommandParts) (size : ScreenSize) → old.screen ≡ sized display → command.size ≡ size
       → screen_applied command old.screen ≡ record { model = display.model; size = size; screen = after_command command display.screen }
   applied_so old display command size is same =
       ap (λ (s : SizedScreen). screen_applied command s) is
-      ∙ ap (λ (n : Shape). record { model = display.model; size = n; screen = after_command command display.screen }) same
+      ∙ ap (λ (n : ScreenSize). record { model = display.model; size = n; screen = after_command command display.screen }) same
 
   -- ---- a paint
 
@@ -371,8 +371,8 @@ module _ (sizes : MeetsIsOfSize) (one_header : OneHeader) (fault_or_header : Fau
       (item : WireItem) (p : IsPaint item number wanted believed) → MayBePainted wanted believed end → CanBeSent end.display.size end.display.screen → IsSide talk old end
       → TakesRecord old p.bytes sent closes new → next ≡ talk → SameItem next new sent closes true (paint_came number wanted end)
   painted_same number wanted believed talk next old new end sent closes item p b r is taken same =
-      let spelt = spelt_for old end.display p.command p.body is.screen_is (read_as_written sizes number wanted believed item end p b r) in
-      let done = obeys old new p.bytes p.body sent closes (command_header always_response number) p.command refl p.begins spelt taken in
+      let encoded = spelt_for old end.display p.command p.body is.screen_is (read_as_written sizes number wanted believed item end p b r) in
+      let done = obeys old new p.bytes p.body sent closes (command_header always_response number) p.command refl p.begins encoded taken in
       let parts = and_parts (is_write p.command.code) (asked_by p.command).restore p.paints.writes in
       let silent = no_data p.command.code (after_command p.command old.screen.screen) parts.0 in
       record {
@@ -400,8 +400,8 @@ module _ (sizes : MeetsIsOfSize) (one_header : OneHeader) (fault_or_header : Fau
   read_same reads number talk next old new end sent closes item p r is taken same =
       let screen_is : old.screen.screen ≡ end.display.screen = ap (λ (s : SizedScreen). s.screen) is.screen_is in
       let read : CommandParts = read_buffer_command end.display.size in
-      let spelt = spelt_for old end.display read p.body is.screen_is (p.spelt end.display.size (alternate_of end.display.model)) in
-      let done = obeys old new p.bytes p.body sent closes (command_header error_response number) read refl p.begins spelt taken in
+      let encoded = spelt_for old end.display read p.body is.screen_is (p.encoded end.display.size (alternate_of end.display.model)) in
+      let done = obeys old new p.bytes p.body sent closes (command_header error_response number) read refl p.begins encoded taken in
       let inbound : IsInbound (buffer_data end.display.size end.display.screen) (read_buffer old.screen.screen) =
       subst (λ (s : Screen). IsInbound (buffer_data end.display.size end.display.screen) (read_buffer s)) (sym screen_is) (reads.buffer end.display.size end.display.screen r.whole r.sendable) in
       record {
@@ -425,9 +425,9 @@ module _ (sizes : MeetsIsOfSize) (one_header : OneHeader) (fault_or_header : Fau
       → TakesRecord old p.bytes sent closes new → next ≡ talk → SameItem next new sent closes false (note_came number command end)
   noted_same number command talk next old new end sent closes item p may is taken same =
       let note : IsNote command = may.note in
-      let spelt = spelt_for old end.display command p.body is.screen_is
-      (subst (λ (now : Shape). IsCommand now (alternate_of end.display.model) command p.body) may.size (p.spelt (alternate_of end.display.model))) in
-      let done = obeys old new p.bytes p.body sent closes (command_header always_response number) command refl p.begins spelt taken in
+      let encoded = spelt_for old end.display command p.body is.screen_is
+      (subst (λ (now : ScreenSize). IsCommand now (alternate_of end.display.model) command p.body) may.size (p.encoded (alternate_of end.display.model))) in
+      let done = obeys old new p.bytes p.body sent closes (command_header always_response number) command refl p.begins encoded taken in
       let restores : (asked_by command).restore ≡ false = note_restores command note in
       let silent : data_read command.code (after_command command old.screen.screen) ≡ None = ap (λ (c : CommandCode). data_read c (after_command command old.screen.screen)) note.code in
       record {
@@ -563,7 +563,7 @@ same_bound (at.Agreed lu) = refl
 same_bound (at.Refused reason) = refl
 same_bound (at.Closed cause) = refl
 
-key_says : SentIsRead → (bound : Bool) (answer : Pressed) (shape : Shape) (screen : Screen) (number : ℕ) → CanBeSent shape screen
+key_says : SentIsRead → (bound : Bool) (answer : Pressed) (shape : ScreenSize) (screen : Screen) (number : ℕ) → CanBeSent shape screen
     → Pairwise RepresentsUp (data_sent number (data_pressed bound answer screen)) (data_of bound answer shape screen)
 key_says reads true (Send aid) shape screen number is = ((number, read_modified false screen, refl, reads.modified shape screen is.whole is.sendable), tt)
 key_says reads false (Send aid) shape screen number is = tt
@@ -618,8 +618,8 @@ term_presses ascend listed whole reads key old rest end holds sendable =
 
 -- an item that represents a message isn't NOP
 is_spoken : (item : WireItem) (message : ToTerminal) → RepresentsDown item message → is_nop item ≡ false
-is_spoken item (ToTerminal.TalksDown (Saying.Opt verb code)) stands = ap is_nop stands
-is_spoken item (ToTerminal.TalksDown (Saying.Sub sending)) stands = ap is_nop stands
+is_spoken item (ToTerminal.TalksDown (NegotiationMessage.Opt verb code)) stands = ap is_nop stands
+is_spoken item (ToTerminal.TalksDown (NegotiationMessage.Sub sending)) stands = ap is_nop stands
 is_spoken item (ToTerminal.Paint number wanted believed) stands = ap is_nop stands.is_record
 is_spoken item (ToTerminal.ReadBuffer number) stands = ap is_nop stands.is_record
 is_spoken item (ToTerminal.Note number command) stands = ap is_nop stands.is_record
@@ -633,8 +633,8 @@ all_spoken (item ∷ items) (message ∷ messages) pairs =
 
 -- one to the host is no bare command
 is_heard : (item : WireItem) (message : ToHost) → RepresentsUp item message → is_bare_command item ≡ false
-is_heard item (ToHost.TalksUp (Saying.Opt verb code)) stands = ap is_bare_command stands
-is_heard item (ToHost.TalksUp (Saying.Sub sending)) stands = ap is_bare_command stands
+is_heard item (ToHost.TalksUp (NegotiationMessage.Opt verb code)) stands = ap is_bare_command stands
+is_heard item (ToHost.TalksUp (NegotiationMessage.Sub sending)) stands = ap is_bare_command stands
 is_heard item (ToHost.Data parts) stands = ap is_bare_command stands.2
 is_heard item (ToHost.Response number verdict) stands = ap is_bare_command stands.1
 

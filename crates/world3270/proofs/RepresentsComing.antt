@@ -1,12 +1,12 @@
 -- What comes down to a terminal may come, at each moment of its connection.
 use Rattle.std.proofs.Common.{◌≡◌, ℕ, List, [], ◌∷◌, sym, subst, refl, ◌∙◌, inl, inr, ap}
-use Rattle.codes3270.specs.Size.{Shape}
+use Rattle.codes3270.specs.Size.{ScreenSize}
 use Rattle.tn3270e_msg.specs.Device.{device_for}
 use Rattle.presentation.specs.Sizes.{HasSize}
 use Rattle.codes3270.specs.declared.size.Model.{Model}
 use Rattle.datastream.specs.Grammar.{CommandParts}
 use Rattle.telnet_wire.specs.declared.wire.Verb.TheVariants.{Do}
-use Rattle.tn3270e_msg.specs.Talk.{Saying}
+use Rattle.tn3270e_msg.specs.Talk.{NegotiationMessage}
 use Rattle.tn3270e_msg.specs.declared.term_talk.TermState.TheVariants.{Willing}
 use Rattle.tn3270e_msg.specs.TermTable.{Term}
 use Rattle.tn3270e_msg.specs.declared.reply.OwnedMessage.TheVariants.{SendType, TypeIs, TypeReject, FunIs}
@@ -18,8 +18,8 @@ use Rattle.world3270.specs.statement.Always.{AlwaysOf}
 use Rattle.world3270.specs.refinement.LowerLaws.{LowerLaws}
 use Rattle.world3270.specs.model.Steps.{run}
 use Rattle.world3270.specs.model.Link.{Link}
-use Rattle.world3270.specs.refinement.Phases.{UnderWay, Talking, Serving, LinkPhase, IsAt, term_in_talk, term_state_at, down_at, served_down}
-use Rattle.world3270.specs.refinement.Invariant.{local_state_of, Fact, Kept, Sizes}
+use Rattle.world3270.specs.refinement.Phases.{IsInFlight, NegotiationPhase, SessionPhase, LinkPhase, IsAt, term_in_talk, term_state_at, down_at, served_down}
+use Rattle.world3270.specs.refinement.Invariant.{local_state_of, Fact, ConnectionInvariant, Sizes}
 use Rattle.world3270.specs.refinement.RepresentsEnds.{IsSaid, IsOpen, NamesWanted, MayCome}
 use Rattle.world3270.specs.refinement.RepresentsLinks.{MayComeAll, NoneCloses, WhatComesMayCome, HasTheSizes}
 use Rattle.world3270.specs.model.Terminal.{took}
@@ -32,35 +32,35 @@ use Rattle.world3270.proofs.Worlds.{run_good, new_good}
 use Rattle.world3270.proofs.TalkStates.{term_state}
 
 -- where the application's sizes are the models', so are those that its terminals may have
-pub has_size : (app : Application) (model : Model) (size : Shape) → HasTheSizes app → IsSizeOf app model size → HasSize model size
+pub has_size : (app : Application) (model : Model) (size : ScreenSize) → HasTheSizes app → IsSizeOf app model size → HasSize model size
 has_size app model size sizes (inl base) = inl (base ∙ sizes.begins)
 has_size app model size sizes (inr alternate) = inr (alternate ∙ sizes.alternate model)
 
 module _ (given : LowerLaws) (app : Application) (is : IsApplication app) (sizes : HasTheSizes app) (link : Link) (message : ToTerminal) (rest : List ToTerminal) (e : link.down ≡ message ∷ rest)
-    (k : Kept app (view_of link)) where
+    (k : ConnectionInvariant app (view_of link)) where
   -- what comes is the first message that is under way
   is_first : (moment : LinkPhase) (first : ToTerminal) (behind : List ToTerminal) → IsAt (view_of link) k.wanted moment → down_at link.term.display.model moment ≡ first ∷ behind → message ≡ first
   is_first moment first behind at down =
-      (front link.lost link.down message rest first behind e (subst (UnderWay link.lost link.down) down at.goes_down)).0
+      (front link.lost link.down message rest first behind e (subst (IsInFlight link.lost link.down) down at.goes_down)).0
 
   -- a saying, in the state that the talk is in
-  saying_may : (moment : LinkPhase) (saying : Saying) (behind : List ToTerminal) → IsAt (view_of link) k.wanted moment → down_at link.term.display.model moment ≡ ToTerminal.TalksDown saying ∷ behind
+  saying_may : (moment : LinkPhase) (saying : NegotiationMessage) (behind : List ToTerminal) → IsAt (view_of link) k.wanted moment → down_at link.term.display.model moment ≡ ToTerminal.TalksDown saying ∷ behind
       → IsSaid saying → NamesWanted (term_state_at moment) link.term.talk.wanted → MayCome link.term message
   saying_may moment saying behind at down said wish =
       subst (λ m. MayCome link.term m) (sym (is_first moment (ToTerminal.TalksDown saying) behind at down))
       (said, subst (λ state. NamesWanted state link.term.talk.wanted) (sym (term_state link.term.display.model k.wanted moment link.term.talk at.term_talk)) wish)
 
   -- a record, while the talk goes on
-  record_may : (lu : List ℕ) (serving : Serving) (first : ToTerminal) → IsAt (view_of link) k.wanted (LinkPhase.Serves lu serving) → served_down serving ≡ first ∷ []
+  record_may : (lu : List ℕ) (serving : SessionPhase) (first : ToTerminal) → IsAt (view_of link) k.wanted (LinkPhase.InSession lu serving) → served_down serving ≡ first ∷ []
       → (IsOpen link.term.talk.talk.state → MayCome link.term first) → MayCome link.term message
   record_may lu serving first at down may =
-      subst (λ m. MayCome link.term m) (sym (is_first (LinkPhase.Serves lu serving) first [] at down))
+      subst (λ m. MayCome link.term m) (sym (is_first (LinkPhase.InSession lu serving) first [] at down))
       (may (subst IsOpen (sym at.term_talk) tt))
 
   none : (moment : LinkPhase) → IsAt (view_of link) k.wanted moment → down_at link.term.display.model moment ≡ [] → MayCome link.term message
-  none moment at down = absurd (nothing link.lost link.down message rest e (subst (UnderWay link.lost link.down) down at.goes_down))
+  none moment at down = absurd (nothing link.lost link.down message rest e (subst (IsInFlight link.lost link.down) down at.goes_down))
 
-  note_may : (lu : List ℕ) (serving : Serving) (number : ℕ) (command : CommandParts) → IsAt (view_of link) k.wanted (LinkPhase.Serves lu serving)
+  note_may : (lu : List ℕ) (serving : SessionPhase) (number : ℕ) (command : CommandParts) → IsAt (view_of link) k.wanted (LinkPhase.InSession lu serving)
       → link.term.display.size ≡ link.host.size → served_down serving ≡ ToTerminal.Note number command ∷ [] → IsNoteOf link.host.size command → MayCome link.term message
   note_may lu serving number command at same down note =
       record_may lu serving (ToTerminal.Note number command) at down
@@ -70,70 +70,70 @@ module _ (given : LowerLaws) (app : Application) (is : IsApplication app) (sizes
         size = ap (λ (c : CommandParts). c.size) note.is ∙ sym same;
       })
 
-  talk_may : (talking : Talking) → IsAt (view_of link) k.wanted (LinkPhase.Talks talking) → Fact k.wanted (local_state_of (view_of link)) (LinkPhase.Talks talking) → MayCome link.term message
-  talk_may Talking.Offering at f = saying_may (LinkPhase.Talks Talking.Offering) (Saying.Opt Do 40) [] at refl tt tt
-  talk_may Talking.AskingType at f = saying_may (LinkPhase.Talks Talking.AskingType) (Saying.Sub SendType) [] at refl tt (subst (λ (t : Term). NamesWanted Willing t.wanted) (sym at.term_talk) f.1)
-  talk_may (Talking.Granting lu) at f = saying_may (LinkPhase.Talks (Talking.Granting lu)) (Saying.Sub (TypeIs (device_for link.term.display.model) lu)) [] at refl f.1.is_lu tt
-  talk_may (Talking.Agreeing lu) at f = saying_may (LinkPhase.Talks (Talking.Agreeing lu)) (Saying.Sub FunIs) [] at refl tt tt
-  talk_may (Talking.Rejecting reason) at f = saying_may (LinkPhase.Talks (Talking.Rejecting reason)) (Saying.Sub (TypeReject reason)) [] at refl tt tt
-  talk_may Talking.Accepting at f = none (LinkPhase.Talks Talking.Accepting) at refl
-  talk_may Talking.NamingType at f = none (LinkPhase.Talks Talking.NamingType) at refl
-  talk_may (Talking.AskingFunctions lu) at f = none (LinkPhase.Talks (Talking.AskingFunctions lu)) at refl
-  talk_may (Talking.Rejected reason) at f = none (LinkPhase.Talks (Talking.Rejected reason)) at refl
+  talk_may : (talking : NegotiationPhase) → IsAt (view_of link) k.wanted (LinkPhase.Negotiating talking) → Fact k.wanted (local_state_of (view_of link)) (LinkPhase.Negotiating talking) → MayCome link.term message
+  talk_may NegotiationPhase.Offering at f = saying_may (LinkPhase.Negotiating NegotiationPhase.Offering) (NegotiationMessage.Opt Do 40) [] at refl tt tt
+  talk_may NegotiationPhase.AskingType at f = saying_may (LinkPhase.Negotiating NegotiationPhase.AskingType) (NegotiationMessage.Sub SendType) [] at refl tt (subst (λ (t : Term). NamesWanted Willing t.wanted) (sym at.term_talk) f.1)
+  talk_may (NegotiationPhase.Granting lu) at f = saying_may (LinkPhase.Negotiating (NegotiationPhase.Granting lu)) (NegotiationMessage.Sub (TypeIs (device_for link.term.display.model) lu)) [] at refl f.1.is_lu tt
+  talk_may (NegotiationPhase.Agreeing lu) at f = saying_may (LinkPhase.Negotiating (NegotiationPhase.Agreeing lu)) (NegotiationMessage.Sub FunIs) [] at refl tt tt
+  talk_may (NegotiationPhase.Rejecting reason) at f = saying_may (LinkPhase.Negotiating (NegotiationPhase.Rejecting reason)) (NegotiationMessage.Sub (TypeReject reason)) [] at refl tt tt
+  talk_may NegotiationPhase.Accepting at f = none (LinkPhase.Negotiating NegotiationPhase.Accepting) at refl
+  talk_may NegotiationPhase.NamingType at f = none (LinkPhase.Negotiating NegotiationPhase.NamingType) at refl
+  talk_may (NegotiationPhase.AskingFunctions lu) at f = none (LinkPhase.Negotiating (NegotiationPhase.AskingFunctions lu)) at refl
+  talk_may (NegotiationPhase.Rejected reason) at f = none (LinkPhase.Negotiating (NegotiationPhase.Rejected reason)) at refl
 
-  serving_may : (lu : List ℕ) (serving : Serving) → Sizes app (view_of link) (LinkPhase.Serves lu serving) → IsAt (view_of link) k.wanted (LinkPhase.Serves lu serving) → Fact k.wanted (local_state_of (view_of link)) (LinkPhase.Serves lu serving)
+  serving_may : (lu : List ℕ) (serving : SessionPhase) → Sizes app (view_of link) (LinkPhase.InSession lu serving) → IsAt (view_of link) k.wanted (LinkPhase.InSession lu serving) → Fact k.wanted (local_state_of (view_of link)) (LinkPhase.InSession lu serving)
       → MayCome link.term message
-  serving_may lu (Serving.Reading number) s at f = record_may lu (Serving.Reading number) (ToTerminal.ReadBuffer number) at refl (λ is_open. is_open)
-  serving_may lu (Serving.Painting number command wanted over) s at f =
-      record_may lu (Serving.Painting number command wanted over) (ToTerminal.Paint number wanted over) at refl
+  serving_may lu (SessionPhase.Reading number) s at f = record_may lu (SessionPhase.Reading number) (ToTerminal.ReadBuffer number) at refl (λ is_open. is_open)
+  serving_may lu (SessionPhase.Painting number command wanted over) s at f =
+      record_may lu (SessionPhase.Painting number command wanted over) (ToTerminal.Paint number wanted over) at refl
       (λ is_open. record {
         is_open = is_open;
         meets = f.meets;
-        size = has_size app link.term.display.model wanted.size sizes (subst (λ (s : Shape). IsSizeOf app link.term.display.model s) (sym f.paintable.showable.size) k.sizes.host);
+        size = has_size app link.term.display.model wanted.size sizes (subst (λ (s : ScreenSize). IsSizeOf app link.term.display.model s) (sym f.paintable.showable.size) k.sizes.host);
         now = has_size app link.term.display.model link.term.display.size sizes k.sizes.screen;
       })
-  serving_may lu (Serving.NotedLate number command) s at f = note_may lu (Serving.NotedLate number command) number command at (s.same refl) refl f.1.note
-  serving_may lu (Serving.Noting number command) s at f = note_may lu (Serving.Noting number command) number command at (s.same refl) refl f.1
-  serving_may lu (Serving.KeyNoted number command parts) s at f = note_may lu (Serving.KeyNoted number command parts) number command at (s.same refl) refl f.2.note
-  serving_may lu Serving.Deciding s at f = none (LinkPhase.Serves lu Serving.Deciding) at refl
-  serving_may lu (Serving.Reported number parts) s at f = none (LinkPhase.Serves lu (Serving.Reported number parts)) at refl
-  serving_may lu (Serving.AnsweredLate number command) s at f = none (LinkPhase.Serves lu (Serving.AnsweredLate number command)) at refl
-  serving_may lu (Serving.Answering kind number command) s at f = none (LinkPhase.Serves lu (Serving.Answering kind number command)) at refl
-  serving_may lu Serving.Operating s at f = none (LinkPhase.Serves lu Serving.Operating) at refl
-  serving_may lu (Serving.KeyAlone parts) s at f = none (LinkPhase.Serves lu (Serving.KeyAlone parts)) at refl
-  serving_may lu (Serving.KeyBehind kind number command parts) s at f = none (LinkPhase.Serves lu (Serving.KeyBehind kind number command parts)) at refl
-  serving_may lu (Serving.KeyBefore number command parts) s at f = none (LinkPhase.Serves lu (Serving.KeyBefore number command parts)) at refl
+  serving_may lu (SessionPhase.DecidingNoteSent number command) s at f = note_may lu (SessionPhase.DecidingNoteSent number command) number command at (s.same refl) refl f.1.note
+  serving_may lu (SessionPhase.Noting number command) s at f = note_may lu (SessionPhase.Noting number command) number command at (s.same refl) refl f.1
+  serving_may lu (SessionPhase.KeyCrossingNote number command parts) s at f = note_may lu (SessionPhase.KeyCrossingNote number command parts) number command at (s.same refl) refl f.2.note
+  serving_may lu SessionPhase.Deciding s at f = none (LinkPhase.InSession lu SessionPhase.Deciding) at refl
+  serving_may lu (SessionPhase.BufferReturning number parts) s at f = none (LinkPhase.InSession lu (SessionPhase.BufferReturning number parts)) at refl
+  serving_may lu (SessionPhase.DecidingNoteAnswered number command) s at f = none (LinkPhase.InSession lu (SessionPhase.DecidingNoteAnswered number command)) at refl
+  serving_may lu (SessionPhase.AwaitingWriteResponse kind number command) s at f = none (LinkPhase.InSession lu (SessionPhase.AwaitingWriteResponse kind number command)) at refl
+  serving_may lu SessionPhase.OperatorTyping s at f = none (LinkPhase.InSession lu SessionPhase.OperatorTyping) at refl
+  serving_may lu (SessionPhase.KeySent parts) s at f = none (LinkPhase.InSession lu (SessionPhase.KeySent parts)) at refl
+  serving_may lu (SessionPhase.KeySentAfterResponse kind number command parts) s at f = none (LinkPhase.InSession lu (SessionPhase.KeySentAfterResponse kind number command parts)) at refl
+  serving_may lu (SessionPhase.KeyBeforeNoteResponse number command parts) s at f = none (LinkPhase.InSession lu (SessionPhase.KeyBeforeNoteResponse number command parts)) at refl
 
   moment_may : (moment : LinkPhase) → Sizes app (view_of link) moment → IsAt (view_of link) k.wanted moment → Fact k.wanted (local_state_of (view_of link)) moment → MayCome link.term message
-  moment_may (LinkPhase.Talks talking) s at f = talk_may talking at f
-  moment_may (LinkPhase.Begins lu number command wanted over) s at f =
-      saying_may (LinkPhase.Begins lu number command wanted over) (Saying.Sub FunIs) (ToTerminal.Paint number wanted over ∷ []) at refl tt tt
-  moment_may (LinkPhase.Serves lu serving) s at f = serving_may lu serving s at f
+  moment_may (LinkPhase.Negotiating talking) s at f = talk_may talking at f
+  moment_may (LinkPhase.FirstPaint lu number command wanted over) s at f =
+      saying_may (LinkPhase.FirstPaint lu number command wanted over) (NegotiationMessage.Sub FunIs) (ToTerminal.Paint number wanted over ∷ []) at refl tt tt
+  moment_may (LinkPhase.InSession lu serving) s at f = serving_may lu serving s at f
 
   pub may_come : MayCome link.term message
   may_come = moment_may k.moment k.sizes k.at k.fact
 
 -- the talk goes on at each moment
-open_in_talk : (talking : Talking) → IsOpen (term_in_talk talking)
-open_in_talk Talking.Offering = tt
-open_in_talk Talking.AskingType = tt
-open_in_talk (Talking.Granting lu) = tt
-open_in_talk (Talking.Agreeing lu) = tt
-open_in_talk (Talking.Rejecting reason) = tt
-open_in_talk Talking.Accepting = tt
-open_in_talk Talking.NamingType = tt
-open_in_talk (Talking.AskingFunctions lu) = tt
-open_in_talk (Talking.Rejected reason) = tt
+open_in_talk : (talking : NegotiationPhase) → IsOpen (term_in_talk talking)
+open_in_talk NegotiationPhase.Offering = tt
+open_in_talk NegotiationPhase.AskingType = tt
+open_in_talk (NegotiationPhase.Granting lu) = tt
+open_in_talk (NegotiationPhase.Agreeing lu) = tt
+open_in_talk (NegotiationPhase.Rejecting reason) = tt
+open_in_talk NegotiationPhase.Accepting = tt
+open_in_talk NegotiationPhase.NamingType = tt
+open_in_talk (NegotiationPhase.AskingFunctions lu) = tt
+open_in_talk (NegotiationPhase.Rejected reason) = tt
 
 open_at : (moment : LinkPhase) → IsOpen (term_state_at moment)
-open_at (LinkPhase.Talks talking) = open_in_talk talking
-open_at (LinkPhase.Begins lu number command wanted over) = tt
-open_at (LinkPhase.Serves lu serving) = tt
+open_at (LinkPhase.Negotiating talking) = open_in_talk talking
+open_at (LinkPhase.FirstPaint lu number command wanted over) = tt
+open_at (LinkPhase.InSession lu serving) = tt
 
-pub is_open : (app : Application) (link : Link) → Kept app (view_of link) → IsOpen link.term.talk.talk.state
+pub is_open : (app : Application) (link : Link) → ConnectionInvariant app (view_of link) → IsOpen link.term.talk.talk.state
 is_open app link k = subst IsOpen (sym (term_state link.term.display.model k.wanted k.moment link.term.talk k.at.term_talk)) (open_at k.moment)
 
-all_may : LowerLaws → (app : Application) → IsApplication app → HasTheSizes app → (messages : List ToTerminal) (link : Link) → link.down ≡ messages → Kept app (view_of link)
+all_may : LowerLaws → (app : Application) → IsApplication app → HasTheSizes app → (messages : List ToTerminal) (link : Link) → link.down ≡ messages → ConnectionInvariant app (view_of link)
     → MayComeAll link.term messages × NoneCloses link.term messages
 all_may given app is sizes [] link e k = (is_open app link k, tt)
 all_may given app is sizes (message ∷ messages) link e k =

@@ -10,7 +10,7 @@ use Rattle.telnet_wire.specs.Laws.{WrongIsFinal}
 use Rattle.telnet_wire.specs.Reading.{Rest, nothing, Delivers, GoesWrong}
 use Rattle.telnet_wire.specs.Token.{text}
 use Rattle.telnet_wire.specs.declared.wire.WireFault.{WireFault}
-use Rattle.tn3270e_msg.specs.Talk.{Saying, follow, says, sayings}
+use Rattle.tn3270e_msg.specs.Talk.{NegotiationMessage, follow, says, sayings}
 use Rattle.tn3270e_msg.specs.TermTable.{Term, term_transition}
 use Rattle.tn3270e_msg.specs.declared.cause.Cause.{Cause}
 use Rattle.tn3270e_msg.specs.declared.term_talk.TermState.TheVariants.{Closed}
@@ -127,7 +127,7 @@ none_more test (x ∷ xs) ys h k = by_test (test x) h (λ (e : list_any test xs 
 
 -- ---- a terminal refuses nothing
 
-talk_refuses_none : (talk : List Saying) → list_any is_refusal (map ToHost.TalksUp talk) ≡ false
+talk_refuses_none : (talk : List NegotiationMessage) → list_any is_refusal (map ToHost.TalksUp talk) ≡ false
 talk_refuses_none [] = refl
 talk_refuses_none (saying ∷ talk) = talk_refuses_none talk
 

@@ -6,7 +6,7 @@ use Rattle.std.specs.List.{All, prefix_len}
 use Rattle.std.proofs.lemmas.List.Elements.{All-head, All-tail, All-replicate}
 use Rattle.std.proofs.lemmas.List.{length-map, length-replicate, length-set}
 use Rattle.std.proofs.Math.Nat.{mod-lt}
-use Rattle.codes3270.specs.Size.{Shape, cells_in, most_cells, alternate_of}
+use Rattle.codes3270.specs.Size.{ScreenSize, cells_in, most_cells, alternate_of}
 use Rattle.codes3270.specs.declared.attribute.Cell.{Cell}
 use Rattle.codes3270.specs.declared.attribute.Cell.TheVariants.{Char, Attr}
 use Rattle.codes3270.specs.declared.attention.Aid.TheVariants.{NoAid}
@@ -151,11 +151,11 @@ code_keeps size ReadModified wcc orders screen writes all some few is same = abs
 code_keeps size ReadModifiedAll wcc orders screen writes all some few is same = absurd (cc)
 code_keeps size EraseAllUnprotected wcc orders screen writes all some few is same = absurd (cc)
 
-command_keeps : (now alternate : Shape) (command : CommandParts) (body : List ℕ) (screen : Screen) → IsCommand now alternate command body → is_write command.code ≡ true
+command_keeps : (now alternate : ScreenSize) (command : CommandParts) (body : List ℕ) (screen : Screen) → IsCommand now alternate command body → is_write command.code ≡ true
     → 0 < cells_in command.size → cells_in command.size ≤ most_cells → IsSendable screen → (command.code ≡ Write → length screen.cells ≡ cells_in command.size)
     → CanBeSent command.size (after_command command screen)
-command_keeps now alternate command body screen spelt writes some few is same =
-    let kept = code_keeps (cells_in command.size) command.code command.wcc command.orders screen writes (command_proper command (now, alternate, body, spelt)) some few is same in
+command_keeps now alternate command body screen encoded writes some few is same =
+    let kept = code_keeps (cells_in command.size) command.code command.wcc command.orders screen writes (command_proper command (now, alternate, body, encoded)) some few is same in
     record { sendable = kept.sendable; whole = kept.cells }
 
 -- ---- a paint
@@ -164,10 +164,10 @@ paint_keeps : MeetsIsOfSize → (number : ℕ) (wanted : WantedScreen) (believed
     → MayBePainted wanted believed end → CanBeSent end.display.size end.display.screen → CanBeSent wanted.size (plainly_painted wanted end.display.screen)
 paint_keeps sized number wanted believed item end p b is =
     let writes = (and_parts (is_write p.command.code) (asked_by p.command).restore p.paints.writes).0 in
-    let some : 0 < cells_in p.command.size = subst (λ (s : Shape). 0 < cells_in s) (sym p.paints.size) (has_cells end.display.model wanted.size b.size) in
-    let few : cells_in p.command.size ≤ most_cells = subst (λ (s : Shape). cells_in s ≤ most_cells) (sym p.paints.size) (has_few_cells end.display.model wanted.size b.size) in
+    let some : 0 < cells_in p.command.size = subst (λ (s : ScreenSize). 0 < cells_in s) (sym p.paints.size) (has_cells end.display.model wanted.size b.size) in
+    let few : cells_in p.command.size ≤ most_cells = subst (λ (s : ScreenSize). cells_in s ≤ most_cells) (sym p.paints.size) (has_few_cells end.display.model wanted.size b.size) in
     subst (λ (s : Screen). CanBeSent wanted.size s) (p.paints.paints end.display.screen b.meets)
-    (subst (λ (size : Shape). CanBeSent size (after_command p.command end.display.screen)) p.paints.size
+    (subst (λ (size : ScreenSize). CanBeSent size (after_command p.command end.display.screen)) p.paints.size
     (command_keeps end.display.size (alternate_of end.display.model) p.command p.body end.display.screen (read_as_written sized number wanted believed item end p b is) writes some few is.sendable
     (cells_written_on sized number wanted believed item end p b is)))
 
@@ -175,11 +175,11 @@ paint_keeps sized number wanted believed item end p b is =
 note_keeps : (command : CommandParts) (number : ℕ) (item : WireItem) (end : TermEnd) (p : IsNoted item number command) → MayTakeNote command end
     → CanBeSent end.display.size end.display.screen → CanBeSent end.display.size (after_command command end.display.screen)
 note_keeps command number item end p may is =
-    let cells : length end.display.screen.cells ≡ cells_in command.size = is.whole ∙ ap (λ (s : Shape). cells_in s) (sym may.size) in
+    let cells : length end.display.screen.cells ≡ cells_in command.size = is.whole ∙ ap (λ (s : ScreenSize). cells_in s) (sym may.size) in
     let inside = is.sendable.cursor in
     let room = is.sendable.few in
-    subst (λ (size : Shape). CanBeSent size (after_command command end.display.screen)) may.size
-    (command_keeps command.size command.size command p.body end.display.screen (p.spelt command.size) (ap is_write may.note.code) (omega (arith, cells, inside)) (omega (arith, cells, room)) is.sendable
+    subst (λ (size : ScreenSize). CanBeSent size (after_command command end.display.screen)) may.size
+    (command_keeps command.size command.size command p.body end.display.screen (p.encoded command.size) (ap is_write may.note.code) (omega (arith, cells, inside)) (omega (arith, cells, room)) is.sendable
     (λ writes. cells))
 
 -- what the terminal shows can be sent

@@ -18,7 +18,7 @@ use Rattle.host_core.specs.Application.{Application}
 use Rattle.world3270.specs.refinement.LowerLaws.{LowerLaws}
 use Rattle.world3270.specs.model.Link.{Link, sent, term_stepped}
 use Rattle.world3270.specs.statement.Rules.{after_sending, data_by, edited, shows, with_aid}
-use Rattle.world3270.specs.refinement.Invariant.{Kept}
+use Rattle.world3270.specs.refinement.Invariant.{ConnectionInvariant}
 use Rattle.world3270.specs.model.Terminal.{is_bound, bound_to, data_of}
 use Rattle.world3270.specs.refinement.View.{View, view_of}
 use Rattle.world3270.proofs.Keys.{TypingNow, seen_as, sends, stay, types_now}
@@ -31,8 +31,8 @@ edited_link cells cursor erases link = term_stepped (shows (freed link.term.disp
 abbrev pub sent_link : Aid → Link → Link
 sent_link aid link = term_stepped (shows (record link.term.display.keyboard { lock = Wait }) (after_sending aid link.term.display) (data_by aid link.term) link.term) link.down link
 
-pub edits_kept : LowerLaws → (app : Application) (link : Link) (cells : List Cell) (cursor : ℕ) (erases : Bool) → Kept app (view_of link) → (link.term.display.keyboard.lock ≡ Wait → ⊥)
-    → KeptByKeys erases link.term.display.screen.cells cells → cursor < length cells → Kept app (view_of (edited_link cells cursor erases link))
+pub edits_kept : LowerLaws → (app : Application) (link : Link) (cells : List Cell) (cursor : ℕ) (erases : Bool) → ConnectionInvariant app (view_of link) → (link.term.display.keyboard.lock ≡ Wait → ⊥)
+    → KeptByKeys erases link.term.display.screen.cells cells → cursor < length cells → ConnectionInvariant app (view_of (edited_link cells cursor erases link))
 edits_kept given app link cells cursor erases k free held on =
     let now : TypingNow given app link k = types_now given app link k free in
     let whole : length cells ≡ cells_in link.term.display.size = held.same_length ∙ k.whole in
@@ -68,13 +68,13 @@ with_aid-keeps erased was (PfAid key) screen some held = held
 with_aid-keeps erased was (PaAid key) screen some held = held
 with_aid-keeps erased was ClearAid screen some held = ap (λ (n : ℕ). replicate n (CharCell 0)) held.same_length
 
-pub sends_kept : LowerLaws → (app : Application) (link : Link) (aid : Aid) → Kept app (view_of link) → (link.term.display.keyboard.lock ≡ Wait → ⊥) → (aid ≡ NoAid → ⊥) → Kept app (view_of (sent_link aid link))
+pub sends_kept : LowerLaws → (app : Application) (link : Link) (aid : Aid) → ConnectionInvariant app (view_of link) → (link.term.display.keyboard.lock ≡ Wait → ⊥) → (aid ≡ NoAid → ⊥) → ConnectionInvariant app (view_of (sent_link aid link))
 sends_kept given app link aid k free some =
     let now : TypingNow given app link k = types_now given app link k free in
     let here : View = view_of link in
     let screen : Screen = with_aid aid link.term.display.screen in
     let bound : is_bound link.term ≡ true = ap (λ state. is_some (bound_to state)) now.at.term_talk in
-    subst (λ b. Kept app (seen_as here (sent here.lost here.up (data_of b (Send aid) here.size screen)) screen Wait here.erased)) (sym bound)
+    subst (λ b. ConnectionInvariant app (seen_as here (sent here.lost here.up (data_of b (Send aid) here.size screen)) screen Wait here.erased)) (sym bound)
     (sends given app link k now.lu now.from now.shadow now.at now.same now.operates now.typing screen Wait here.erased aid (with_aid-whole aid link.term.display.screen ∙ k.whole)
     (with_aid-cursor aid link.term.display.screen (cells_in here.size) k.cursor) refl (with_aid-aid aid link.term.display.screen) some
     (with_aid-keeps here.erased now.operates.shown.cells aid link.term.display.screen some now.operates.held))

@@ -11,7 +11,7 @@ use Rattle.keyboard.specs.Places.{onward, backward}
 use Rattle.lu_pool.specs.HolderLaws.{IsSound}
 use Rattle.tn3270e_msg.specs.Device.{device_for}
 use Rattle.host_core.specs.declared.terminals.Terminals.TheVariants.{Any, Waiting}
-use Rattle.world3270.specs.statement.EveryTerminal.{AreByTheRules, Begins, RightOf, ReportedLink, after_moves, told_link}
+use Rattle.world3270.specs.statement.EveryTerminal.{AreByTheRules, FirstPaint, RightOf, LinkWithReport, after_moves, told_link}
 use Rattle.world3270.specs.examples.ExampleApplication.{example, example_pool, l1, l2}
 use Rattle.world3270.specs.examples.ExampleRules.{BrokenRules, KeptRules, ToldRun, WaitingRun, acts, after, agreed_with, decides_behind, does, enters, enters_twice, entered, goes_up, ignores, kept_moves, left_behind, pasted_behind, presses, relabels, renamed_seen, sends_what_was_left, shown_by, signs_on, small_greeting, told_the_newest, types_in_the_wait}
 use Rattle.keyboard.specs.declared.key.Key.TheVariants as key
@@ -39,7 +39,7 @@ relying_is_wrong = refl
 relying_decides : RightOf example l1 (after decides_behind (agreed_with Waiting l1)) → ⊥
 unfolding onward backward
 relying_decides right =
-    let t : ReportedLink = after decides_behind (agreed_with Waiting l1) in
+    let t : LinkWithReport = after decides_behind (agreed_with Waiting l1) in
     let turn : IsHostsTurn (seen_link (told_link t)) = record { host = conn_seen t.link.host; host_is = refl; terminal = end_seen 0 (told_link t).term; terminal_is = refl; turn = refl; answered = refl } in
     let first = (right.agrees turn).sees.meets.1.0 in
     unlike (ap (λ (text : List ℕ). slice_index_or text 6 0 == 0xD8) first.holds)
@@ -52,7 +52,7 @@ waiting_run = record { any = any_is_right; relying = relying_is_wrong; wrong = r
 newest_is_wrong : RightOf example l1 (told_the_newest (after enters_twice (agreed_with Any l1))) → ⊥
 unfolding onward backward
 newest_is_wrong right =
-    let t : ReportedLink = told_the_newest (after enters_twice (agreed_with Any l1)) in
+    let t : LinkWithReport = told_the_newest (after enters_twice (agreed_with Any l1)) in
     let turn : IsHostsTurn (seen_link (told_link t)) = record { host = conn_seen t.link.host; host_is = refl; terminal = end_seen 0 (told_link t).term; terminal_is = refl; turn = refl; answered = refl } in
     let second = (right.agrees turn).sees.meets.1.1.0 in
     unlike (ap (λ (text : List ℕ). slice_index_or text 1 0 == 0xC2) second.holds)
@@ -65,14 +65,14 @@ told_run = record { newest = newest_is_wrong }
 without_applying : RightOf example l1 (after (acts ∷ ignores ∷ goes_up ∷ enters) (agreed_with Any l1)) → ⊥
 unfolding onward backward
 without_applying right =
-    let t : ReportedLink = after (acts ∷ ignores ∷ goes_up ∷ enters) (agreed_with Any l1) in
+    let t : LinkWithReport = after (acts ∷ ignores ∷ goes_up ∷ enters) (agreed_with Any l1) in
     let turn : IsHostsTurn (seen_link (told_link t)) = record { host = conn_seen t.link.host; host_is = refl; terminal = end_seen 0 (told_link t).term; terminal_is = refl; turn = refl; answered = refl } in
     (right.agrees turn).sees.meets.0 refl
 
 without_edits_of_input : RightOf example l1 (after (signs_on ++ does relabels ∷ enters) (agreed_with Any l1)) → ⊥
 unfolding onward backward
 without_edits_of_input right =
-    let t : ReportedLink = after (signs_on ++ does relabels ∷ enters) (agreed_with Any l1) in
+    let t : LinkWithReport = after (signs_on ++ does relabels ∷ enters) (agreed_with Any l1) in
     let turn : IsHostsTurn (seen_link (told_link t)) = record { host = conn_seen t.link.host; host_is = refl; terminal = end_seen 0 (told_link t).term; terminal_is = refl; turn = refl; answered = refl } in
     let first = (right.agrees turn).sees.meets.1.0 in
     unlike (ap (λ (text : List ℕ). slice_index_or text 0 0 == 0xE7) first.holds)
@@ -80,7 +80,7 @@ without_edits_of_input right =
 without_sending : RightOf example l1 (after (signs_on ++ presses (key.Char 0x41) ∷ does sends_what_was_left ∷ goes_up ∷ []) (agreed_with Any l1)) → ⊥
 unfolding onward backward
 without_sending right =
-    let t : ReportedLink = after (signs_on ++ presses (key.Char 0x41) ∷ does sends_what_was_left ∷ goes_up ∷ []) (agreed_with Any l1) in
+    let t : LinkWithReport = after (signs_on ++ presses (key.Char 0x41) ∷ does sends_what_was_left ∷ goes_up ∷ []) (agreed_with Any l1) in
     let turn : IsHostsTurn (seen_link (told_link t)) = record { host = conn_seen t.link.host; host_is = refl; terminal = end_seen 0 (told_link t).term; terminal_is = refl; turn = refl; answered = refl } in
     let second = (right.agrees turn).sees.meets.1.1.0 in
     unlike (ap (λ (text : List ℕ). slice_index_or text 0 0 == 0xC1) second.holds)
@@ -93,7 +93,7 @@ broken_rules = record { applies = without_applying; edits = without_edits_of_inp
 
 -- ---- the rules are kept
 
-begins : Begins example l1 (agreed_with Any l1)
+begins : FirstPaint example l1 (agreed_with Any l1)
 begins = record {
   device = device_for M2;
   agreed = refl;

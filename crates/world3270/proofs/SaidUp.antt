@@ -6,7 +6,7 @@ use Rattle.std.specs.List.{AllByRecursion}
 use Rattle.keyboard.specs.declared.key.Key.{Key}
 use Rattle.keyboard.specs.declared.key.Pressed.{Pressed}
 use Rattle.keyboard.specs.declared.key.Pressed.TheVariants.{Done, Refused, Send}
-use Rattle.codes3270.specs.Size.{Shape}
+use Rattle.codes3270.specs.Size.{ScreenSize}
 use Rattle.datastream.specs.Screen.{Screen}
 use Rattle.lu_pool.specs.Asking.{answer_to}
 use Rattle.lu_pool.specs.declared.entry.Entry.{Entry}
@@ -86,7 +86,7 @@ took_said end (ToTerminal.ReadBuffer number) is =
 took_said end (ToTerminal.Note number command) is =
     record { wanted = once_bound_wanted (is_bound end) end _ _ is is; sends = once_bound_said (is_bound end) end _ _ tt }
 
-data_said : (bound : Bool) (answer : Pressed) (shape : Shape) (screen : Screen) → AllByRecursion IsSaidUp (data_of bound answer shape screen)
+data_said : (bound : Bool) (answer : Pressed) (shape : ScreenSize) (screen : Screen) → AllByRecursion IsSaidUp (data_of bound answer shape screen)
 data_said true (Send aid) shape screen = (tt, tt)
 data_said false (Send aid) shape screen = tt
 data_said true Done shape screen = tt

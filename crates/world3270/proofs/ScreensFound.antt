@@ -11,7 +11,7 @@ use Rattle.keyboard.specs.declared.key.Key.{Key}
 use Rattle.keyboard.specs.declared.key.Lock.{Lock}
 use Rattle.keyboard.specs.declared.key.Lock.TheVariants.{Wait}
 use Rattle.shadow.specs.Belief.{Shadow}
-use Rattle.tn3270e_msg.specs.Talk.{Saying, Talk, follow, says}
+use Rattle.tn3270e_msg.specs.Talk.{NegotiationMessage, Talk, follow, says}
 use Rattle.tn3270e_msg.specs.declared.host_talk.HostState.{HostState}
 use Rattle.tn3270e_msg.specs.declared.host_talk.HostState.TheVariants.{Offered, Asked, Asking, Named, Countered, Agreed, Closed}
 use Rattle.tn3270e_msg.specs.HostTable.{host_transition}
@@ -26,7 +26,7 @@ use Rattle.host_core.specs.Notes.{may_note, noted, noted_as}
 use Rattle.host_core.specs.Questions.{act_by, answered_by, answered_on, has_its_panel, is_asking, is_ticket, ticket_of}
 use Rattle.host_core.specs.Rejections.{lu_asked}
 use Rattle.host_core.specs.Session.{Session, Pending, is_agreed}
-use Rattle.host_core.specs.State.{Service, service_at, session_at}
+use Rattle.host_core.specs.State.{Service, state_at, session_at}
 use Rattle.host_core.specs.Takes.{Answers, asked, talked_on, took as host_took}
 use Rattle.host_core.specs.declared.question.Answer.{Answer as ApplicationAnswer}
 use Rattle.host_core.specs.declared.question.Ticket.{Ticket}
@@ -38,15 +38,15 @@ use Rattle.world3270.specs.model.ByteWorld.{ByteWorld}
 use Rattle.world3270.specs.refinement.LowerLaws.{LowerLaws}
 use Rattle.world3270.specs.model.Steps.{done, stepped_by, run}
 use Rattle.world3270.specs.model.Link.{Link, host_sent, sent, term_stepped}
-use Rattle.world3270.specs.refinement.Phases.{LinkPhase, Serving, Talking, down_at, pending_at, talk_down, talk_up, turn_at, up_at}
+use Rattle.world3270.specs.refinement.Phases.{LinkPhase, SessionPhase, NegotiationPhase, down_at, pending_at, talk_down, talk_up, turn_at, up_at}
 use Rattle.world3270.specs.model.Enabled.{is_enabled, host_acts, host_is_answered, is_link}
-use Rattle.world3270.specs.refinement.Refines.{Begin, GoesOn, IsBegin, IsTicketAt, Reached, SkipsAreThose, StepsGoOn, after}
+use Rattle.world3270.specs.refinement.Refines.{WorldSetup, GoesOn, IsWorldSetup, IsTicketAt, Reached, SameSkips, StepsAreSimulated, after}
 use Rattle.world3270.specs.statement.ScreensFound.{DecisionsAreShownOverBytes, OtherTextsAreNotShown, IsFound, PaintsFindTheScreen, decides_over}
 use Rattle.world3270.specs.statement.Observation.{SeenLink, TerminalSeen, end_seen, seen_link, terminal_seen}
 use Rattle.world3270.specs.statement.Shown.{IsPanelShown, PanelIsShownOverBytes, is_painting}
 use Rattle.world3270.specs.statement.ShownFields.{OtherTextsAreNot}
 use Rattle.world3270.specs.statement.ShownSince.{decides}
-use Rattle.world3270.specs.refinement.Invariant.{Fact, Kept, local_state_of}
+use Rattle.world3270.specs.refinement.Invariant.{Fact, ConnectionInvariant, local_state_of}
 use Rattle.world3270.specs.model.Terminal.{Display, TermStep, is_bound, key_came, note_came, once_bound, outcome_of, paint_came, read_came, took as term_took}
 use Rattle.world3270.specs.refinement.View.{View, view_of}
 use Rattle.world3270.specs.model.World.{Event, World, new_world, with_at}
@@ -95,7 +95,7 @@ AreTalkUp (ToHost.TalksUp saying ∷ rest) = AreTalkUp rest
 AreTalkUp (ToHost.Data parts ∷ rest) = ⊥
 AreTalkUp (ToHost.Response number verdict ∷ rest) = ⊥
 
-pub all_talk : (talk : List Saying) → AreTalk (map ToTerminal.TalksDown talk)
+pub all_talk : (talk : List NegotiationMessage) → AreTalk (map ToTerminal.TalksDown talk)
 all_talk [] = tt
 all_talk (saying ∷ talk) = all_talk talk
 
@@ -149,7 +149,7 @@ front_talk (ToTerminal.Paint number wanted over ∷ rest) more are = absurd are
 front_talk (ToTerminal.ReadBuffer number ∷ rest) more are = absurd are
 front_talk (ToTerminal.Note number command ∷ rest) more are = absurd are
 
-up_more : (queue : List ToHost) (talk : List Saying) → AreTalkUp queue → AreTalkUp (queue ++ map ToHost.TalksUp talk)
+up_more : (queue : List ToHost) (talk : List NegotiationMessage) → AreTalkUp queue → AreTalkUp (queue ++ map ToHost.TalksUp talk)
 up_more [] [] are = tt
 up_more [] (saying ∷ talk) are = up_more [] talk are
 up_more (ToHost.TalksUp saying ∷ rest) talk are = up_more rest talk are
@@ -202,7 +202,7 @@ talks_pending pool conn lu talk reply.Agreed = refl
 talks_pending pool conn lu talk (reply.Refused reason) = refl
 talks_pending pool conn lu talk (reply.Close cause) = refl
 
-said_pending : (pool : Answers) (conn : Session) (saying : Saying) → (host_took pool conn (ToHost.TalksUp saying)).conn.pending ≡ conn.pending
+said_pending : (pool : Answers) (conn : Session) (saying : NegotiationMessage) → (host_took pool conn (ToHost.TalksUp saying)).conn.pending ≡ conn.pending
 said_pending pool conn saying =
     let next : Talk HostState × Reply = follow Closed conn.talk (host_transition conn.talk.state (says saying)) in
     talks_pending pool conn (lu_asked (says saying)) next.0 next.1
@@ -305,36 +305,36 @@ pub record IsQuiet (lock : Lock) (down : List ToTerminal) (up : List ToHost) : T
   pub goes_down : AreTalk down
   pub goes_up : AreTalkUp up
 
-pub talk_is_quiet : (model : Model) (wanted : Option (List ℕ)) (talking : Talking) (lock : Lock) → lock ≡ Wait → IsQuiet lock (talk_down model talking) (talk_up model wanted talking)
-talk_is_quiet model wanted Talking.Offering lock is = record { waits = is; goes_down = tt; goes_up = tt }
-talk_is_quiet model wanted Talking.Accepting lock is = record { waits = is; goes_down = tt; goes_up = tt }
-talk_is_quiet model wanted Talking.AskingType lock is = record { waits = is; goes_down = tt; goes_up = tt }
-talk_is_quiet model wanted Talking.NamingType lock is = record { waits = is; goes_down = tt; goes_up = tt }
-talk_is_quiet model wanted (Talking.Granting lu) lock is = record { waits = is; goes_down = tt; goes_up = tt }
-talk_is_quiet model wanted (Talking.AskingFunctions lu) lock is = record { waits = is; goes_down = tt; goes_up = tt }
-talk_is_quiet model wanted (Talking.Agreeing lu) lock is = record { waits = is; goes_down = tt; goes_up = tt }
-talk_is_quiet model wanted (Talking.Rejecting reason) lock is = record { waits = is; goes_down = tt; goes_up = tt }
-talk_is_quiet model wanted (Talking.Rejected reason) lock is = record { waits = is; goes_down = tt; goes_up = tt }
+pub talk_is_quiet : (model : Model) (wanted : Option (List ℕ)) (talking : NegotiationPhase) (lock : Lock) → lock ≡ Wait → IsQuiet lock (talk_down model talking) (talk_up model wanted talking)
+talk_is_quiet model wanted NegotiationPhase.Offering lock is = record { waits = is; goes_down = tt; goes_up = tt }
+talk_is_quiet model wanted NegotiationPhase.Accepting lock is = record { waits = is; goes_down = tt; goes_up = tt }
+talk_is_quiet model wanted NegotiationPhase.AskingType lock is = record { waits = is; goes_down = tt; goes_up = tt }
+talk_is_quiet model wanted NegotiationPhase.NamingType lock is = record { waits = is; goes_down = tt; goes_up = tt }
+talk_is_quiet model wanted (NegotiationPhase.Granting lu) lock is = record { waits = is; goes_down = tt; goes_up = tt }
+talk_is_quiet model wanted (NegotiationPhase.AskingFunctions lu) lock is = record { waits = is; goes_down = tt; goes_up = tt }
+talk_is_quiet model wanted (NegotiationPhase.Agreeing lu) lock is = record { waits = is; goes_down = tt; goes_up = tt }
+talk_is_quiet model wanted (NegotiationPhase.Rejecting reason) lock is = record { waits = is; goes_down = tt; goes_up = tt }
+talk_is_quiet model wanted (NegotiationPhase.Rejected reason) lock is = record { waits = is; goes_down = tt; goes_up = tt }
 
 quiet_by : (wanted : Option (List ℕ)) (v : View) (moment : LinkPhase) → Fact wanted (local_state_of v) moment → turn_at moment ≡ whose.Host → pending_at moment ≡ Pending.Nothing
     → IsQuiet v.lock (down_at v.model moment) (up_at v.model wanted moment)
-quiet_by wanted v (LinkPhase.Talks talking) f t p = talk_is_quiet v.model wanted talking v.lock f.0.lock
-quiet_by wanted v (LinkPhase.Begins lu number command wants over) f t p = absurd (cc)
-quiet_by wanted v (LinkPhase.Serves lu Serving.Deciding) f t p = record { waits = f.lock; goes_down = tt; goes_up = tt }
-quiet_by wanted v (LinkPhase.Serves lu (Serving.Reading number)) f t p = absurd (cc)
-quiet_by wanted v (LinkPhase.Serves lu (Serving.Reported number parts)) f t p = absurd (cc)
-quiet_by wanted v (LinkPhase.Serves lu (Serving.NotedLate number command)) f t p = absurd (cc)
-quiet_by wanted v (LinkPhase.Serves lu (Serving.AnsweredLate number command)) f t p = absurd (cc)
-quiet_by wanted v (LinkPhase.Serves lu (Serving.Painting number command wants over)) f t p = absurd (cc)
-quiet_by wanted v (LinkPhase.Serves lu (Serving.Answering kind number command)) f t p = absurd (cc)
-quiet_by wanted v (LinkPhase.Serves lu Serving.Operating) f t p = absurd (cc)
-quiet_by wanted v (LinkPhase.Serves lu (Serving.Noting number command)) f t p = absurd (cc)
-quiet_by wanted v (LinkPhase.Serves lu (Serving.KeyAlone parts)) f t p = absurd (cc)
-quiet_by wanted v (LinkPhase.Serves lu (Serving.KeyBehind kind number command parts)) f t p = absurd (cc)
-quiet_by wanted v (LinkPhase.Serves lu (Serving.KeyNoted number command parts)) f t p = absurd (cc)
-quiet_by wanted v (LinkPhase.Serves lu (Serving.KeyBefore number command parts)) f t p = absurd (cc)
+quiet_by wanted v (LinkPhase.Negotiating talking) f t p = talk_is_quiet v.model wanted talking v.lock f.0.lock
+quiet_by wanted v (LinkPhase.FirstPaint lu number command wants over) f t p = absurd (cc)
+quiet_by wanted v (LinkPhase.InSession lu SessionPhase.Deciding) f t p = record { waits = f.lock; goes_down = tt; goes_up = tt }
+quiet_by wanted v (LinkPhase.InSession lu (SessionPhase.Reading number)) f t p = absurd (cc)
+quiet_by wanted v (LinkPhase.InSession lu (SessionPhase.BufferReturning number parts)) f t p = absurd (cc)
+quiet_by wanted v (LinkPhase.InSession lu (SessionPhase.DecidingNoteSent number command)) f t p = absurd (cc)
+quiet_by wanted v (LinkPhase.InSession lu (SessionPhase.DecidingNoteAnswered number command)) f t p = absurd (cc)
+quiet_by wanted v (LinkPhase.InSession lu (SessionPhase.Painting number command wants over)) f t p = absurd (cc)
+quiet_by wanted v (LinkPhase.InSession lu (SessionPhase.AwaitingWriteResponse kind number command)) f t p = absurd (cc)
+quiet_by wanted v (LinkPhase.InSession lu SessionPhase.OperatorTyping) f t p = absurd (cc)
+quiet_by wanted v (LinkPhase.InSession lu (SessionPhase.Noting number command)) f t p = absurd (cc)
+quiet_by wanted v (LinkPhase.InSession lu (SessionPhase.KeySent parts)) f t p = absurd (cc)
+quiet_by wanted v (LinkPhase.InSession lu (SessionPhase.KeySentAfterResponse kind number command parts)) f t p = absurd (cc)
+quiet_by wanted v (LinkPhase.InSession lu (SessionPhase.KeyCrossingNote number command parts)) f t p = absurd (cc)
+quiet_by wanted v (LinkPhase.InSession lu (SessionPhase.KeyBeforeNoteResponse number command parts)) f t p = absurd (cc)
 
-is_quiet : (app : Application) (link : Link) → Kept app (view_of link) → link.host.turn ≡ whose.Host → link.host.pending ≡ Pending.Nothing → IsQuiet link.term.display.keyboard.lock link.down link.up
+is_quiet : (app : Application) (link : Link) → ConnectionInvariant app (view_of link) → link.host.turn ≡ whose.Host → link.host.pending ≡ Pending.Nothing → IsQuiet link.term.display.keyboard.lock link.down link.up
 is_quiet app link k turns pends =
     let at = quiet_by k.wanted (view_of link) k.moment k.fact (sym k.at.turn ∙ turns) (sym k.at.pending ∙ pends) in
     record {
@@ -378,7 +378,7 @@ act_paints : (app : Application) (conn : Session) (act : Act) (queue : List ToTe
 act_paints app conn Act.Read queue paints are = absurd (let wrong : false ≡ true = paints in cc)
 act_paints app conn (Act.Show panel message keep values) queue paints are = paint_last queue _ _ _ are
 
-sent_finds : (app : Application) (link : Link) (sending : Sent) → Kept app (view_of link) → IsSent app link.host sending → is_painting sending.conn.pending ≡ true → FindsOn link (host_sent (Some sending) link)
+sent_finds : (app : Application) (link : Link) (sending : Sent) → ConnectionInvariant app (view_of link) → IsSent app link.host sending → is_painting sending.conn.pending ≡ true → FindsOn link (host_sent (Some sending) link)
 sent_finds app link sending k is paints =
     let quiet = is_quiet app link k is.turns is.pends in
     record {
@@ -404,13 +404,13 @@ sends_there app number at world new it same place made =
 abbrev Starts : Application → ℕ → Event → World → Type 0
 Starts app number it world = is_painting ((stepped_by app it world).link number).host.pending ≡ true → FindsOn (world.link number) ((stepped_by app it world).link number)
 
-starts : (app : Application) (number : ℕ) (it : Event) (world : World) (what : Option Sent) (sending : Sent) → Kept app (view_of (world.link number)) → what ≡ Some sending → IsSent app (world.link number).host sending
+starts : (app : Application) (number : ℕ) (it : Event) (world : World) (what : Option Sent) (sending : Sent) → ConnectionInvariant app (view_of (world.link number)) → what ≡ Some sending → IsSent app (world.link number).host sending
     → (stepped_by app it world).link number ≡ host_sent what (world.link number) → Starts app number it world
 starts app number it world what sending k some is made paints =
     let now : (stepped_by app it world).link number ≡ host_sent (Some sending) (world.link number) = made ∙ ap (λ (w : Option Sent). host_sent w (world.link number)) some in
     subst (FindsOn (world.link number)) (sym now) (sent_finds app (world.link number) sending k is (subst (λ (l : Link). is_painting l.host.pending ≡ true) now paints))
 
-decision_starts : (app : Application) (number : ℕ) (it : Event) (world : World) → Kept app (view_of (world.link number)) → decides_over number it ≡ true → is_enabled app it world ≡ true → Starts app number it world
+decision_starts : (app : Application) (number : ℕ) (it : Event) (world : World) → ConnectionInvariant app (view_of (world.link number)) → decides_over number it ≡ true → is_enabled app it world ≡ true → Starts app number it world
 decision_starts app number (Event.Act at) world k same place =
     let acts = subst (λ (n : ℕ). is_some (acted app (world.link n).host) ≡ true) (sym (eqb-true number at same)) (and_parts (world.link at).host_here (is_some (acted app (world.link at).host)) (and_parts (is_link at) (host_acts app (world.link at)) place).1).1 in
     let went = acts_in_turn app (world.link number).host acts in
@@ -486,7 +486,7 @@ record IsOneDecision (app : Application) (number : ℕ) (world : World) (more : 
   place : is_enabled app it world ≡ true
   one : more ≡ it ∷ []
 
-module _ (skips : SkipsAreThose) (begin : Begin) (is : IsBegin begin) (events : List Event) (number : ℕ) (old new : ByteWorld) (reached : Reached begin events old) where
+module _ (skips : SameSkips) (begin : WorldSetup) (is : IsWorldSetup begin) (events : List Event) (number : ℕ) (old new : ByteWorld) (reached : Reached begin events old) where
   one_decision : (it : ByteEvent) → decides number it ≡ true → Steps it old stepped.Done new → (goes : GoesOn begin events it old stepped.Done new)
       → IsOneDecision (application_of begin.panels) number (after begin events) goes.more
   one_decision (event.Act at) there steps goes = record {
@@ -497,8 +497,8 @@ module _ (skips : SkipsAreThose) (begin : Begin) (is : IsBegin begin) (events : 
   }
   one_decision (event.Answer at ticket said) there steps goes =
       let place = done_has_place (event.Answer at ticket said) old new steps in
-      let its = its_ticket (application_of old.host.panels) (session_at at old.host) ticket said (service_at at old.host)
-      (and_parts (is_byte_link at) (is_some (answered_by (application_of old.host.panels) (session_at at old.host) ticket said (service_at at old.host))) place).1 in
+      let its = its_ticket (application_of old.host.panels) (session_at at old.host) ticket said (state_at at old.host)
+      (and_parts (is_byte_link at) (is_some (answered_by (application_of old.host.panels) (session_at at old.host) ticket said (state_at at old.host))) place).1 in
       record { it = Event.Answer at said; decides_there = there; place = sym (skips begin events (event.Answer at ticket said) old is reached its) ∙ place; one = goes.comes_to }
   one_decision (event.Key terminal key) there steps goes = absurd (cc)
   one_decision (event.Up at count) there steps goes = absurd (cc)
@@ -512,9 +512,9 @@ module _ (skips : SkipsAreThose) (begin : Begin) (is : IsBegin begin) (events : 
   one_decision (event.RestartTerm terminal) there steps goes = absurd (cc)
   one_decision event.RestartHost there steps goes = absurd (cc)
 
-pub decisions_are_shown : LowerLaws → PanelsAreShown → StepsGoOn → SkipsAreThose → PanelIsShownOverBytes → DecisionsAreShownOverBytes
+pub decisions_are_shown : LowerLaws → PanelsAreShown → StepsAreSimulated → SameSkips → PanelIsShownOverBytes → DecisionsAreShownOverBytes
 decisions_are_shown given panels go skips shown world number it events before chosen rest behind conn host terminal is real are there steps rests chosen_is paints world_is has terminal_is =
-    let begin : Begin = is.begin in
+    let begin : WorldSetup = is.begin in
     let app : Application = application_of begin.panels in
     let is_app : IsApplication app = panels begin.panels is.is_begin.panels.otherwise is.is_begin.panels.laid_out is.is_begin.panels.apart in
     let was : World = after begin is.events in

@@ -15,11 +15,11 @@ use Rattle.world3270.specs.statement.Always.{AlwaysOf}
 use Rattle.world3270.specs.refinement.LowerLaws.{LowerLaws}
 use Rattle.world3270.specs.model.Steps.{run}
 use Rattle.world3270.specs.model.Link.{Link, cut, host_left, host_sent}
-use Rattle.world3270.specs.refinement.Phases.{LinkPhase, Serving, down_at, pending_at, talk_down, talk_up, turn_at}
-use Rattle.world3270.specs.refinement.Refines.{Begin, SkipsAreThose, StepsGoOn, after}
+use Rattle.world3270.specs.refinement.Phases.{LinkPhase, SessionPhase, down_at, pending_at, talk_down, talk_up, turn_at}
+use Rattle.world3270.specs.refinement.Refines.{WorldSetup, SameSkips, StepsAreSimulated, after}
 use Rattle.world3270.specs.statement.ScreensFound.{IsStill, TurnsKeepTheScreen, TurnsKeepTheScreenOverBytes, is_noting}
 use Rattle.world3270.specs.statement.Observation.{SeenLink, TerminalSeen, end_seen, seen_link, terminal_seen}
-use Rattle.world3270.specs.refinement.Invariant.{Fact, Kept, local_state_of}
+use Rattle.world3270.specs.refinement.Invariant.{Fact, ConnectionInvariant, local_state_of}
 use Rattle.world3270.specs.model.Terminal.{TermEnd, is_bound, once_bound, read_came, took as term_took}
 use Rattle.world3270.specs.refinement.View.{View, view_of}
 use Rattle.world3270.specs.model.World.{World, new_world}
@@ -147,23 +147,23 @@ quiet_reads lock down up quiet = record { waits = quiet.waits; goes_down = talk_
 
 reads_by : (wanted : Option (List ℕ)) (v : View) (moment : LinkPhase) → Fact wanted (local_state_of v) moment → turn_at moment ≡ whose.Host → is_noting (pending_at moment) ≡ false
     → IsReading v.lock (down_at v.model moment)
-reads_by wanted v (LinkPhase.Talks talking) f t p = quiet_reads v.lock (talk_down v.model talking) (talk_up v.model wanted talking) (talk_is_quiet v.model wanted talking v.lock f.0.lock)
-reads_by wanted v (LinkPhase.Begins lu number command wants over) f t p = absurd (cc)
-reads_by wanted v (LinkPhase.Serves lu Serving.Deciding) f t p = record { waits = f.lock; goes_down = tt }
-reads_by wanted v (LinkPhase.Serves lu (Serving.Reading number)) f t p = record { waits = f.decides.lock; goes_down = tt }
-reads_by wanted v (LinkPhase.Serves lu (Serving.Reported number parts)) f t p = record { waits = f.lock; goes_down = tt }
-reads_by wanted v (LinkPhase.Serves lu (Serving.NotedLate number command)) f t p = absurd (cc)
-reads_by wanted v (LinkPhase.Serves lu (Serving.AnsweredLate number command)) f t p = absurd (cc)
-reads_by wanted v (LinkPhase.Serves lu (Serving.Painting number command wants over)) f t p = absurd (cc)
-reads_by wanted v (LinkPhase.Serves lu (Serving.Answering kind number command)) f t p = absurd (cc)
-reads_by wanted v (LinkPhase.Serves lu Serving.Operating) f t p = absurd (cc)
-reads_by wanted v (LinkPhase.Serves lu (Serving.Noting number command)) f t p = absurd (cc)
-reads_by wanted v (LinkPhase.Serves lu (Serving.KeyAlone parts)) f t p = absurd (cc)
-reads_by wanted v (LinkPhase.Serves lu (Serving.KeyBehind kind number command parts)) f t p = absurd (cc)
-reads_by wanted v (LinkPhase.Serves lu (Serving.KeyNoted number command parts)) f t p = absurd (cc)
-reads_by wanted v (LinkPhase.Serves lu (Serving.KeyBefore number command parts)) f t p = absurd (cc)
+reads_by wanted v (LinkPhase.Negotiating talking) f t p = quiet_reads v.lock (talk_down v.model talking) (talk_up v.model wanted talking) (talk_is_quiet v.model wanted talking v.lock f.0.lock)
+reads_by wanted v (LinkPhase.FirstPaint lu number command wants over) f t p = absurd (cc)
+reads_by wanted v (LinkPhase.InSession lu SessionPhase.Deciding) f t p = record { waits = f.lock; goes_down = tt }
+reads_by wanted v (LinkPhase.InSession lu (SessionPhase.Reading number)) f t p = record { waits = f.decides.lock; goes_down = tt }
+reads_by wanted v (LinkPhase.InSession lu (SessionPhase.BufferReturning number parts)) f t p = record { waits = f.lock; goes_down = tt }
+reads_by wanted v (LinkPhase.InSession lu (SessionPhase.DecidingNoteSent number command)) f t p = absurd (cc)
+reads_by wanted v (LinkPhase.InSession lu (SessionPhase.DecidingNoteAnswered number command)) f t p = absurd (cc)
+reads_by wanted v (LinkPhase.InSession lu (SessionPhase.Painting number command wants over)) f t p = absurd (cc)
+reads_by wanted v (LinkPhase.InSession lu (SessionPhase.AwaitingWriteResponse kind number command)) f t p = absurd (cc)
+reads_by wanted v (LinkPhase.InSession lu SessionPhase.OperatorTyping) f t p = absurd (cc)
+reads_by wanted v (LinkPhase.InSession lu (SessionPhase.Noting number command)) f t p = absurd (cc)
+reads_by wanted v (LinkPhase.InSession lu (SessionPhase.KeySent parts)) f t p = absurd (cc)
+reads_by wanted v (LinkPhase.InSession lu (SessionPhase.KeySentAfterResponse kind number command parts)) f t p = absurd (cc)
+reads_by wanted v (LinkPhase.InSession lu (SessionPhase.KeyCrossingNote number command parts)) f t p = absurd (cc)
+reads_by wanted v (LinkPhase.InSession lu (SessionPhase.KeyBeforeNoteResponse number command parts)) f t p = absurd (cc)
 
-stays_now : (app : Application) (link : Link) → Kept app (view_of link) → link.host.turn ≡ whose.Host → is_noting link.host.pending ≡ false → StaysOn link link
+stays_now : (app : Application) (link : Link) → ConnectionInvariant app (view_of link) → link.host.turn ≡ whose.Host → is_noting link.host.pending ≡ false → StaysOn link link
 stays_now app link k turns unnoted =
     let at = reads_by k.wanted (view_of link) k.moment k.fact (sym k.at.turn ∙ turns) (ap is_noting (sym k.at.pending) ∙ unnoted) in
     record {
@@ -196,9 +196,9 @@ turns_keep given app serves pool models events is lists few are number more term
     (stays_now app (world.link number) (good.links number) turns unnoted) in
     still_there (world.link number) ((run app more world).link number) terminal now seen
 
-pub turns_keep_over_bytes : LowerLaws → PanelsAreShown → StepsGoOn → SkipsAreThose → TurnsKeepTheScreenOverBytes
+pub turns_keep_over_bytes : LowerLaws → PanelsAreShown → StepsAreSimulated → SameSkips → TurnsKeepTheScreenOverBytes
 turns_keep_over_bytes given panels go skips number events before world rest conn terminal is are rests before_is turns unnoted terminal_is =
-    let begin : Begin = is.begin in
+    let begin : WorldSetup = is.begin in
     let app : Application = application_of begin.panels in
     let is_app : IsApplication app = panels begin.panels is.is_begin.panels.otherwise is.is_begin.panels.laid_out is.is_begin.panels.apart in
     let was : World = after begin is.events in

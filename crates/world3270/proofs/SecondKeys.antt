@@ -17,8 +17,8 @@ use Rattle.host_core.specs.declared.turn.Turn.{Turn}
 use Rattle.host_core.specs.declared.turn.Turn.TheVariants as whose
 use Rattle.tn3270e_msg.specs.declared.cause.Cause.TheVariants.{BadInbound}
 use Rattle.world3270.specs.model.Link.{Link}
-use Rattle.world3270.specs.refinement.Phases.{Talking, Serving, LinkPhase, UnderWay, pending_at, turn_at, up_at}
-use Rattle.world3270.specs.refinement.Invariant.{Fact, Kept, LocalState, local_state_of}
+use Rattle.world3270.specs.refinement.Phases.{NegotiationPhase, SessionPhase, LinkPhase, IsInFlight, pending_at, turn_at, up_at}
+use Rattle.world3270.specs.refinement.Invariant.{Fact, ConnectionInvariant, LocalState, local_state_of}
 use Rattle.world3270.specs.refinement.View.{view_of}
 
 -- ---- where the host drops a key
@@ -64,11 +64,11 @@ pub record IsSecondKey (message : ToHost) : Type 0 where
   pub key : is_key parts.aid ≡ true
 
 -- `told`: what a terminal says that waits; `real`: what comes up
-abbrev pub Extras : Turn → Pending → (told real : List ToHost) → Type 0
-Extras turn pending told [] = told ≡ []
-Extras turn pending told (message ∷ real) =
-    ((is_dropping turn pending ≡ true) × IsSecondKey message × Extras turn pending told real)
-    ⊎ ((rest : List ToHost) × (told ≡ message ∷ rest) × Extras (turn_after message turn) (pending_after message pending) rest real)
+abbrev pub AddsSecondKeys : Turn → Pending → (told real : List ToHost) → Type 0
+AddsSecondKeys turn pending told [] = told ≡ []
+AddsSecondKeys turn pending told (message ∷ real) =
+    ((is_dropping turn pending ≡ true) × IsSecondKey message × AddsSecondKeys turn pending told real)
+    ⊎ ((rest : List ToHost) × (told ≡ message ∷ rest) × AddsSecondKeys (turn_after message turn) (pending_after message pending) rest real)
 
 -- whether the host drops a key once all this was heard
 abbrev pub drops_behind : List ToHost → Turn → Pending → Bool
@@ -77,8 +77,8 @@ drops_behind (message ∷ told) turn pending = drops_behind told (turn_after mes
 
 -- ---- a second key comes last, if it is dropped
 
-pub extra_last : (turn : Turn) (pending : Pending) (told real : List ToHost) (key : ToHost) → IsSecondKey key → drops_behind told turn pending ≡ true → Extras turn pending told real
-    → Extras turn pending told (real ++ key ∷ [])
+pub extra_last : (turn : Turn) (pending : Pending) (told real : List ToHost) (key : ToHost) → IsSecondKey key → drops_behind told turn pending ≡ true → AddsSecondKeys turn pending told real
+    → AddsSecondKeys turn pending told (real ++ key ∷ [])
 extra_last turn pending told [] key is drops x = inl (subst (λ (l : List ToHost). drops_behind l turn pending ≡ true) x drops, is, x)
 extra_last turn pending told (message ∷ real) key is drops (inl x) = inl (x.0, x.1, extra_last turn pending told real key is drops x.2)
 extra_last turn pending told (message ∷ real) key is drops (inr x) =
@@ -86,37 +86,37 @@ extra_last turn pending told (message ∷ real) key is drops (inr x) =
 
 -- ---- both say the same last
 
-pub same_last : (turn : Turn) (pending : Pending) (told real : List ToHost) (message : ToHost) → Extras turn pending told real → Extras turn pending (told ++ message ∷ []) (real ++ message ∷ [])
+pub same_last : (turn : Turn) (pending : Pending) (told real : List ToHost) (message : ToHost) → AddsSecondKeys turn pending told real → AddsSecondKeys turn pending (told ++ message ∷ []) (real ++ message ∷ [])
 same_last turn pending told [] message x = inr ([], ap (λ (l : List ToHost). l ++ message ∷ []) x, refl)
 same_last turn pending told (first ∷ real) message (inl x) = inl (x.0, x.1, same_last turn pending told real message x.2)
 same_last turn pending told (first ∷ real) message (inr x) =
     inr (x.0 ++ message ∷ [], ap (λ (l : List ToHost). l ++ message ∷ []) x.1, same_last (turn_after first turn) (pending_after first pending) x.0 real message x.2)
 
 -- both say the same, whatever it is
-pub same_more : (turn : Turn) (pending : Pending) (told real messages : List ToHost) → Extras turn pending told real → Extras turn pending (told ++ messages) (real ++ messages)
+pub same_more : (turn : Turn) (pending : Pending) (told real messages : List ToHost) → AddsSecondKeys turn pending told real → AddsSecondKeys turn pending (told ++ messages) (real ++ messages)
 same_more turn pending told real [] x =
-    subst (λ (l : List ToHost). Extras turn pending l (real ++ [])) (sym (append-nil told)) (subst (λ (l : List ToHost). Extras turn pending told l) (sym (append-nil real)) x)
+    subst (λ (l : List ToHost). AddsSecondKeys turn pending l (real ++ [])) (sym (append-nil told)) (subst (λ (l : List ToHost). AddsSecondKeys turn pending told l) (sym (append-nil real)) x)
 same_more turn pending told real (message ∷ messages) x =
-    subst (λ (l : List ToHost). Extras turn pending l (real ++ message ∷ messages)) (append_assoc told (message ∷ []) messages)
-    (subst (λ (l : List ToHost). Extras turn pending ((told ++ message ∷ []) ++ messages) l) (append_assoc real (message ∷ []) messages)
+    subst (λ (l : List ToHost). AddsSecondKeys turn pending l (real ++ message ∷ messages)) (append_assoc told (message ∷ []) messages)
+    (subst (λ (l : List ToHost). AddsSecondKeys turn pending ((told ++ message ∷ []) ++ messages) l) (append_assoc real (message ∷ []) messages)
     (same_more turn pending (told ++ message ∷ []) (real ++ message ∷ []) messages (same_last turn pending told real message x)))
 
 -- ---- the host acts, or sends a note
 
 -- where there are second keys alone, they are dropped at any moment at which the host drops keys
-pub only_extras : (turn turn_now : Turn) (pending pending_now : Pending) (real : List ToHost) → is_dropping turn_now pending_now ≡ true → Extras turn pending [] real → Extras turn_now pending_now [] real
+pub only_extras : (turn turn_now : Turn) (pending pending_now : Pending) (real : List ToHost) → is_dropping turn_now pending_now ≡ true → AddsSecondKeys turn pending [] real → AddsSecondKeys turn_now pending_now [] real
 only_extras turn turn_now pending pending_now [] drops x = refl
 only_extras turn turn_now pending pending_now (message ∷ real) drops (inl x) = inl (drops, x.1, only_extras turn turn_now pending pending_now real drops x.2)
 only_extras turn turn_now pending pending_now (message ∷ real) drops (inr x) = absurd (let some = x.1 in cc)
 
-noted_host : (number : ℕ) (command : CommandParts) (told real : List ToHost) → Extras whose.Host Pending.Nothing told real → Extras whose.Host (Pending.Noting number command) told real
+noted_host : (number : ℕ) (command : CommandParts) (told real : List ToHost) → AddsSecondKeys whose.Host Pending.Nothing told real → AddsSecondKeys whose.Host (Pending.Noting number command) told real
 noted_host number command told [] x = x
 noted_host number command told (message ∷ real) (inl x) = inl (refl, x.1, noted_host number command told real x.2)
 noted_host number command told (ToHost.Data parts ∷ real) (inr x) = inr (x.0, x.1, noted_host number command x.0 real x.2)
 noted_host number command told (ToHost.Response given verdict ∷ real) (inr x) = inr x
 noted_host number command told (ToHost.TalksUp saying ∷ real) (inr x) = inr (x.0, x.1, noted_host number command x.0 real x.2)
 
-pub noted_extras : (number : ℕ) (command : CommandParts) (told real : List ToHost) → Extras whose.Terminal Pending.Nothing told real → Extras whose.Terminal (Pending.Noting number command) told real
+pub noted_extras : (number : ℕ) (command : CommandParts) (told real : List ToHost) → AddsSecondKeys whose.Terminal Pending.Nothing told real → AddsSecondKeys whose.Terminal (Pending.Noting number command) told real
 noted_extras number command told [] x = x
 noted_extras number command told (message ∷ real) (inl x) = absurd (let clash = x.0 in cc)
 noted_extras number command told (ToHost.Data parts ∷ real) (inr x) = inr (x.0, x.1, noted_host number command x.0 real x.2)
@@ -157,38 +157,38 @@ second_key_dropped pool conn message is agrees changed drops =
 -- ---- where a terminal waits, a key that is pressed is dropped
 
 -- all that is under way is in the queue, unless the connection is lost
-all_queued : (queue messages : List ToHost) → UnderWay false queue messages → queue ≡ messages
+all_queued : (queue messages : List ToHost) → IsInFlight false queue messages → queue ≡ messages
 all_queued queue messages way = sym (append-nil queue) ∙ sym (ap (λ (vanished : List ToHost). queue ++ vanished) (way.none refl)) ∙ way.whole
 
 drops_at : (model : Model) (wanted : Option (List ℕ)) (s : LocalState) (moment : LinkPhase) → s.lock ≡ Wait → Fact wanted s moment → drops_behind (up_at model wanted moment) (turn_at moment) (pending_at moment) ≡ true
-drops_at model wanted s (LinkPhase.Talks Talking.Offering) waits f = refl
-drops_at model wanted s (LinkPhase.Talks Talking.Accepting) waits f = refl
-drops_at model wanted s (LinkPhase.Talks Talking.AskingType) waits f = refl
-drops_at model wanted s (LinkPhase.Talks Talking.NamingType) waits f = refl
-drops_at model wanted s (LinkPhase.Talks (Talking.Granting lu)) waits f = refl
-drops_at model wanted s (LinkPhase.Talks (Talking.AskingFunctions lu)) waits f = refl
-drops_at model wanted s (LinkPhase.Talks (Talking.Agreeing lu)) waits f = refl
-drops_at model wanted s (LinkPhase.Talks (Talking.Rejecting reason)) waits f = refl
-drops_at model wanted s (LinkPhase.Talks (Talking.Rejected reason)) waits f = refl
-drops_at model wanted s (LinkPhase.Begins lu number command paints over) waits f = refl
-drops_at model wanted s (LinkPhase.Serves lu Serving.Deciding) waits f = refl
-drops_at model wanted s (LinkPhase.Serves lu (Serving.Reading number)) waits f = refl
-drops_at model wanted s (LinkPhase.Serves lu (Serving.Reported number parts)) waits f = refl
-drops_at model wanted s (LinkPhase.Serves lu (Serving.NotedLate number command)) waits f = refl
-drops_at model wanted s (LinkPhase.Serves lu (Serving.AnsweredLate number command)) waits f = refl
-drops_at model wanted s (LinkPhase.Serves lu (Serving.Painting number command paints over)) waits f = refl
-drops_at model wanted s (LinkPhase.Serves lu (Serving.Answering kind number command)) waits f = absurd (f.lock waits)
-drops_at model wanted s (LinkPhase.Serves lu Serving.Operating) waits f = absurd (f.lock waits)
-drops_at model wanted s (LinkPhase.Serves lu (Serving.Noting number command)) waits f = absurd (f.0.lock waits)
-drops_at model wanted s (LinkPhase.Serves lu (Serving.KeyAlone parts)) waits f = refl
-drops_at model wanted s (LinkPhase.Serves lu (Serving.KeyBehind kind number command parts)) waits f = refl
-drops_at model wanted s (LinkPhase.Serves lu (Serving.KeyNoted number command parts)) waits f = refl
-drops_at model wanted s (LinkPhase.Serves lu (Serving.KeyBefore number command parts)) waits f = refl
+drops_at model wanted s (LinkPhase.Negotiating NegotiationPhase.Offering) waits f = refl
+drops_at model wanted s (LinkPhase.Negotiating NegotiationPhase.Accepting) waits f = refl
+drops_at model wanted s (LinkPhase.Negotiating NegotiationPhase.AskingType) waits f = refl
+drops_at model wanted s (LinkPhase.Negotiating NegotiationPhase.NamingType) waits f = refl
+drops_at model wanted s (LinkPhase.Negotiating (NegotiationPhase.Granting lu)) waits f = refl
+drops_at model wanted s (LinkPhase.Negotiating (NegotiationPhase.AskingFunctions lu)) waits f = refl
+drops_at model wanted s (LinkPhase.Negotiating (NegotiationPhase.Agreeing lu)) waits f = refl
+drops_at model wanted s (LinkPhase.Negotiating (NegotiationPhase.Rejecting reason)) waits f = refl
+drops_at model wanted s (LinkPhase.Negotiating (NegotiationPhase.Rejected reason)) waits f = refl
+drops_at model wanted s (LinkPhase.FirstPaint lu number command paints over) waits f = refl
+drops_at model wanted s (LinkPhase.InSession lu SessionPhase.Deciding) waits f = refl
+drops_at model wanted s (LinkPhase.InSession lu (SessionPhase.Reading number)) waits f = refl
+drops_at model wanted s (LinkPhase.InSession lu (SessionPhase.BufferReturning number parts)) waits f = refl
+drops_at model wanted s (LinkPhase.InSession lu (SessionPhase.DecidingNoteSent number command)) waits f = refl
+drops_at model wanted s (LinkPhase.InSession lu (SessionPhase.DecidingNoteAnswered number command)) waits f = refl
+drops_at model wanted s (LinkPhase.InSession lu (SessionPhase.Painting number command paints over)) waits f = refl
+drops_at model wanted s (LinkPhase.InSession lu (SessionPhase.AwaitingWriteResponse kind number command)) waits f = absurd (f.lock waits)
+drops_at model wanted s (LinkPhase.InSession lu SessionPhase.OperatorTyping) waits f = absurd (f.lock waits)
+drops_at model wanted s (LinkPhase.InSession lu (SessionPhase.Noting number command)) waits f = absurd (f.0.lock waits)
+drops_at model wanted s (LinkPhase.InSession lu (SessionPhase.KeySent parts)) waits f = refl
+drops_at model wanted s (LinkPhase.InSession lu (SessionPhase.KeySentAfterResponse kind number command parts)) waits f = refl
+drops_at model wanted s (LinkPhase.InSession lu (SessionPhase.KeyCrossingNote number command parts)) waits f = refl
+drops_at model wanted s (LinkPhase.InSession lu (SessionPhase.KeyBeforeNoteResponse number command parts)) waits f = refl
 
-pub waits_drop : (app : Application) (link : Link) → Kept app (view_of link) → link.lost ≡ false → link.term.display.keyboard.lock ≡ Wait → drops_behind link.up link.host.turn link.host.pending ≡ true
+pub waits_drop : (app : Application) (link : Link) → ConnectionInvariant app (view_of link) → link.lost ≡ false → link.term.display.keyboard.lock ≡ Wait → drops_behind link.up link.host.turn link.host.pending ≡ true
 waits_drop app link k whole waits =
     let queued : link.up ≡ up_at link.term.display.model k.wanted k.moment =
-    all_queued link.up (up_at link.term.display.model k.wanted k.moment) (subst (λ (lost : Bool). UnderWay lost link.up (up_at link.term.display.model k.wanted k.moment)) whole k.at.goes_up) in
+    all_queued link.up (up_at link.term.display.model k.wanted k.moment) (subst (λ (lost : Bool). IsInFlight lost link.up (up_at link.term.display.model k.wanted k.moment)) whole k.at.goes_up) in
     ap (λ (up : List ToHost). drops_behind up link.host.turn link.host.pending) queued
     ∙ ap (λ (turn : Turn). drops_behind (up_at link.term.display.model k.wanted k.moment) turn link.host.pending) k.at.turn
     ∙ ap (λ (pending : Pending). drops_behind (up_at link.term.display.model k.wanted k.moment) (turn_at k.moment) pending) k.at.pending

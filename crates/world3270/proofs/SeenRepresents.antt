@@ -9,7 +9,7 @@ use Rattle.tn3270e_msg.specs.declared.term_talk.TermState.{TermState}
 use Rattle.tn3270e_msg.specs.declared.term_talk.TermState.TheVariants.{Waiting, Willing, TypeAsked, FunctionsAsked, Agreed, Refused, Closed}
 use Rattle.term_core.specs.State.{Link as LinkValue, talk_phase, phase_of}
 use Rattle.host_core.specs.Session.{Session}
-use Rattle.host_core.specs.State.{Service, service_at}
+use Rattle.host_core.specs.State.{Service, state_at}
 use Rattle.world3270.specs.refinement.MessageLaws.{WorldLaws}
 use Rattle.world3270.specs.model.ByteWorld.{ByteWorld, is_there, slot_at, terminal_at}
 use Rattle.world3270.specs.statement.Headline.{IsLive, BoundIsGranted, IsHostsTurn, Agrees, Headline}
@@ -74,11 +74,11 @@ module _ (bytes : ByteWorld) (world : World) (stands : WorldRepresents bytes wor
   same_seen number =
       let link : Link = world.link number in
       let is : LinkRepresents (link_of number bytes) link = stands.links number in
-      let host : service_seen (service_at number bytes.host) ≡ host_seen link.host_here link.host =
-      host_part (service_at number bytes.host) link.host_here link.host (stands.none_closed number) is.host_here (λ here. (is.host here).host) in
+      let host : service_seen (state_at number bytes.host) ≡ host_seen link.host_here link.host =
+      host_part (state_at number bytes.host) link.host_here link.host (stands.none_closed number) is.host_here (λ here. (is.host here).host) in
       let terminal : attached_seen (terminal_at number bytes.slots) bytes ≡ terminal_seen link.term_here link.term =
       terminal_part number (terminal_at number bytes.slots) is in
-      ap (λ (l : Bool). linked l (service_seen (service_at number bytes.host)) (attached_seen (terminal_at number bytes.slots) bytes)) is.lost
+      ap (λ (l : Bool). linked l (service_seen (state_at number bytes.host)) (attached_seen (terminal_at number bytes.slots) bytes)) is.lost
       ∙ ap (λ (h : Option HostSeen). linked link.lost h (attached_seen (terminal_at number bytes.slots) bytes)) host
       ∙ ap (λ (t : Option TerminalSeen). linked link.lost (host_seen link.host_here link.host) t) terminal
 

@@ -6,7 +6,7 @@ use Rattle.std.specs.Map.{remove_entry, values_of}
 use Rattle.std.specs.BTreeMap.{insert_entry, is_at}
 use Rattle.panels.specs.declared.message.Message.TheVariants.{Fresh}
 use Rattle.world3270.proofs.Queues.{front, nothing}
-use Rattle.world3270.specs.refinement.Phases.{LinkPhase, Serving, Talking, UnderWay, down_at, served_down, talk_down}
+use Rattle.world3270.specs.refinement.Phases.{LinkPhase, SessionPhase, NegotiationPhase, IsInFlight, down_at, served_down, talk_down}
 use Rattle.world3270.specs.statement.Always.{AlwaysOf}
 use Rattle.codes3270.specs.declared.size.Model.TheVariants.{M2}
 use Rattle.codes3270.specs.declared.size.Model.{Model}
@@ -17,7 +17,7 @@ use Rattle.std.proofs.lemmas.Bool.{and_from}
 use Rattle.std.proofs.lemmas.List.{length-replicate}
 use Rattle.std.proofs.lemmas.List.Elements.{All-nil, All-cons, All-head, All-tail, All-map, All-replicate}
 use Rattle.std.proofs.lemmas.Map.Views.{All-values-insert_entry, All-map-remove_entry}
-use Rattle.codes3270.specs.Size.{Shape, cells_in, most_cells}
+use Rattle.codes3270.specs.Size.{ScreenSize, cells_in, most_cells}
 use Rattle.codes3270.specs.Storable.{is_storable}
 use Rattle.codes3270.specs.declared.attention.Aid.{Aid}
 use Rattle.codes3270.specs.declared.attention.Aid.TheVariants.{NoAid, Enter, Clear, Pf, Pa}
@@ -47,13 +47,13 @@ use Rattle.presentation.proofs.Storable.{storable_unmodified}
 use Rattle.shadow.specs.Queries.{belief_with}
 use Rattle.shadow.specs.Belief.{Fact, Belief, Shadow}
 use Rattle.shadow.specs.Fits.{fits}
-use Rattle.shadow.specs.Laws.{PaintIsSpelt}
+use Rattle.shadow.specs.Laws.{PaintIsEncoded}
 use Rattle.shadow.specs.Meets.{Holds, FieldMeets, Meets, told}
 use Rattle.shadow.specs.Painted.{keeps_ahead, attr_or_kept, cells_under, painted_from, plainly_painted}
 use Rattle.shadow.specs.Pairs.{Pairwise}
 use Rattle.tn3270e_msg.specs.declared.cause.Cause.{Cause}
 use Rattle.host_core.specs.Acts.{Act, Decision, Sent, text_known, learned, first_missing, is_to_be_read, check_required, once_filled_in, on_key, after_key as after_the_key, decided, decision_on, wanted_by, done, may_act, acted, when_shown}
-use Rattle.host_core.specs.Application.{Application, IsShape, IsApplication, WantsProperScreens, AreTexts}
+use Rattle.host_core.specs.Application.{Application, IsValidSize, IsApplication, WantsProperScreens, AreTexts}
 use Rattle.host_core.specs.Messages.{ToTerminal, ToHost, Verdict}
 use Rattle.host_core.specs.NoteLaws.{TakesNotes, IsProperNote}
 use Rattle.host_core.specs.Notes.{IsNoteText, note_command, noted_as, may_note, noted}
@@ -68,7 +68,7 @@ use Rattle.world3270.specs.refinement.LowerLaws.{LowerLaws}
 use Rattle.world3270.specs.model.Steps.{run}
 use Rattle.world3270.specs.model.Link.{Link, host_left_if, host_sent}
 use Rattle.world3270.specs.refinement.Sendable.{IsWellFormed, AlwaysTyped, ScreensAreSendable, CanBeSpelt, DataCanBeSpelt, PaintsAScreen, PaintsAreScreens, IsSpelt, PaintsAreSpelt, ValuesAreTexts, HasASize, ScreensHaveASize}
-use Rattle.world3270.specs.refinement.Invariant.{Kept, LocalState, ServingFact, may_differ_at, may_differ_in, local_state_of, Fact as MomentFact}
+use Rattle.world3270.specs.refinement.Invariant.{ConnectionInvariant, LocalState, ServingFact, may_differ_at, may_differ_in, local_state_of, Fact as MomentFact}
 use Rattle.world3270.specs.model.Terminal.{Display, new_display, TermEnd, TermStep, is_bound, data_of, paint_came, note_came, read_came, once_bound, took as term_took, outcome_of, after_key}
 use Rattle.world3270.specs.refinement.View.{View, view_of}
 use Rattle.lu_pool.specs.Pool.{IsPool}
@@ -84,17 +84,17 @@ use Rattle.world3270.proofs.Worlds.{run_good, new_good}
 
 -- ---- the size alone
 
-blank_length : (model : Model) (shape : Shape) → length (new_display model shape).screen.cells ≡ cells_in shape
+blank_length : (model : Model) (shape : ScreenSize) → length (new_display model shape).screen.cells ≡ cells_in shape
 blank_length model shape = length-replicate (cells_in shape) (CharCell 0)
 
 -- a screen of one row at least has a first cell
-first_cell : (shape : Shape) → IsShape shape → 0 < cells_in shape
+first_cell : (shape : ScreenSize) → IsValidSize shape → 0 < cells_in shape
 first_cell shape is = some (cells_in shape) shape.columns is.columns is.row
   where
     some : (cells columns : ℕ) → 1 < columns → columns ≤ cells → 0 < cells
     some cells columns many row = omega arith
 
-link_size : (app : Application) (link : Link) → Kept app (view_of link) → HasASize app link.term.display
+link_size : (app : Application) (link : Link) → ConnectionInvariant app (view_of link) → HasASize app link.term.display
 link_size app link k = record { size = k.sizes.screen; whole = k.whole; cursor = k.cursor }
 
 key_size : LowerLaws → (app : Application) (key : Key) (display : Display) → HasASize app display → HasASize app (after_key key display)
@@ -121,7 +121,7 @@ size_steps given app is = record {
   key_alone = λ terminal key display such h. key_size given app key display h;
 }
 
-size_in_place : (app : Application) (world : World) (place : Place) → ((number : ℕ) → Kept app (view_of (world.link number))) → InPlace (λ display. HasASize app display) place
+size_in_place : (app : Application) (world : World) (place : Place) → ((number : ℕ) → ConnectionInvariant app (view_of (world.link number))) → InPlace (λ display. HasASize app display) place
     → HasASize app (display_at world place)
 size_in_place app world (Place.At number) kept is = link_size app (world.link number) (kept number)
 size_in_place app world (Place.Alone display) kept is = is
@@ -136,58 +136,58 @@ screens_have_a_size given app serves pool models events is lists few are termina
 -- ---- a note that comes down
 
 -- a note that is the first message is of this size, and no paint is under way
-abbrev FirstFits : Shape → Bool → List ToTerminal → Type 0
+abbrev FirstFits : ScreenSize → Bool → List ToTerminal → Type 0
 FirstFits size may_differ [] = ⊤
 FirstFits size may_differ (ToTerminal.TalksDown saying ∷ messages) = ⊤
 FirstFits size may_differ (ToTerminal.Paint number wanted over ∷ messages) = ⊤
 FirstFits size may_differ (ToTerminal.ReadBuffer number ∷ messages) = ⊤
 FirstFits size may_differ (ToTerminal.Note number command ∷ messages) = (command.size ≡ size) × (may_differ ≡ false)
 
-talk_fits : (size : Shape) (model : Model) (talking : Talking) → FirstFits size false (talk_down model talking)
-talk_fits size model Talking.Offering = tt
-talk_fits size model Talking.Accepting = tt
-talk_fits size model Talking.AskingType = tt
-talk_fits size model Talking.NamingType = tt
-talk_fits size model (Talking.Granting lu) = tt
-talk_fits size model (Talking.AskingFunctions lu) = tt
-talk_fits size model (Talking.Agreeing lu) = tt
-talk_fits size model (Talking.Rejecting reason) = tt
-talk_fits size model (Talking.Rejected reason) = tt
+talk_fits : (size : ScreenSize) (model : Model) (talking : NegotiationPhase) → FirstFits size false (talk_down model talking)
+talk_fits size model NegotiationPhase.Offering = tt
+talk_fits size model NegotiationPhase.Accepting = tt
+talk_fits size model NegotiationPhase.AskingType = tt
+talk_fits size model NegotiationPhase.NamingType = tt
+talk_fits size model (NegotiationPhase.Granting lu) = tt
+talk_fits size model (NegotiationPhase.AskingFunctions lu) = tt
+talk_fits size model (NegotiationPhase.Agreeing lu) = tt
+talk_fits size model (NegotiationPhase.Rejecting reason) = tt
+talk_fits size model (NegotiationPhase.Rejected reason) = tt
 
-served_fits : (scene : LocalState) (serving : Serving) → ServingFact scene serving → FirstFits scene.size (may_differ_in serving) (served_down serving)
-served_fits scene Serving.Deciding fact = tt
-served_fits scene (Serving.Reading number) fact = tt
-served_fits scene (Serving.Reported number parts) fact = tt
-served_fits scene (Serving.NotedLate number command) fact = (ap (λ (c : CommandParts). c.size) fact.1.note.is, refl)
-served_fits scene (Serving.AnsweredLate number command) fact = tt
-served_fits scene (Serving.Painting number command wanted over) fact = tt
-served_fits scene (Serving.Answering kind number command) fact = tt
-served_fits scene Serving.Operating fact = tt
-served_fits scene (Serving.Noting number command) fact = (ap (λ (c : CommandParts). c.size) fact.1.is, refl)
-served_fits scene (Serving.KeyAlone parts) fact = tt
-served_fits scene (Serving.KeyBehind kind number command parts) fact = tt
-served_fits scene (Serving.KeyNoted number command parts) fact = (ap (λ (c : CommandParts). c.size) fact.2.note.is, refl)
-served_fits scene (Serving.KeyBefore number command parts) fact = tt
+served_fits : (scene : LocalState) (serving : SessionPhase) → ServingFact scene serving → FirstFits scene.size (may_differ_in serving) (served_down serving)
+served_fits scene SessionPhase.Deciding fact = tt
+served_fits scene (SessionPhase.Reading number) fact = tt
+served_fits scene (SessionPhase.BufferReturning number parts) fact = tt
+served_fits scene (SessionPhase.DecidingNoteSent number command) fact = (ap (λ (c : CommandParts). c.size) fact.1.note.is, refl)
+served_fits scene (SessionPhase.DecidingNoteAnswered number command) fact = tt
+served_fits scene (SessionPhase.Painting number command wanted over) fact = tt
+served_fits scene (SessionPhase.AwaitingWriteResponse kind number command) fact = tt
+served_fits scene SessionPhase.OperatorTyping fact = tt
+served_fits scene (SessionPhase.Noting number command) fact = (ap (λ (c : CommandParts). c.size) fact.1.is, refl)
+served_fits scene (SessionPhase.KeySent parts) fact = tt
+served_fits scene (SessionPhase.KeySentAfterResponse kind number command parts) fact = tt
+served_fits scene (SessionPhase.KeyCrossingNote number command parts) fact = (ap (λ (c : CommandParts). c.size) fact.2.note.is, refl)
+served_fits scene (SessionPhase.KeyBeforeNoteResponse number command parts) fact = tt
 
 first_fits : (scene : LocalState) (model : Model) (wanted : Option (List ℕ)) (moment : LinkPhase) → MomentFact wanted scene moment → FirstFits scene.size (may_differ_at moment) (down_at model moment)
-first_fits scene model wanted (LinkPhase.Talks talking) fact = talk_fits scene.size model talking
-first_fits scene model wanted (LinkPhase.Begins lu number command paints over) fact = tt
-first_fits scene model wanted (LinkPhase.Serves lu serving) fact = served_fits scene serving fact
+first_fits scene model wanted (LinkPhase.Negotiating talking) fact = talk_fits scene.size model talking
+first_fits scene model wanted (LinkPhase.FirstPaint lu number command paints over) fact = tt
+first_fits scene model wanted (LinkPhase.InSession lu serving) fact = served_fits scene serving fact
 
-comes_fitting : (size : Shape) (may_differ : Bool) (lost : Bool) (queue messages : List ToTerminal) (number : ℕ) (command : CommandParts) (rest : List ToTerminal)
-    → UnderWay lost queue messages → queue ≡ ToTerminal.Note number command ∷ rest → FirstFits size may_differ messages → (command.size ≡ size) × (may_differ ≡ false)
+comes_fitting : (size : ScreenSize) (may_differ : Bool) (lost : Bool) (queue messages : List ToTerminal) (number : ℕ) (command : CommandParts) (rest : List ToTerminal)
+    → IsInFlight lost queue messages → queue ≡ ToTerminal.Note number command ∷ rest → FirstFits size may_differ messages → (command.size ≡ size) × (may_differ ≡ false)
 comes_fitting size may_differ lost queue [] number command rest under e first = absurd (nothing lost queue (ToTerminal.Note number command) rest e under)
 comes_fitting size may_differ lost queue (message ∷ messages) number command rest under e first =
     subst (λ m. FirstFits size may_differ (m ∷ messages)) (sym (front lost queue (ToTerminal.Note number command) rest message messages e under).0) first
 
 -- the note was written for the screen that it finds
-abbrev pub NoteFits : Shape → ToTerminal → Type 0
+abbrev pub NoteFits : ScreenSize → ToTerminal → Type 0
 NoteFits shape (ToTerminal.TalksDown saying) = ⊤
 NoteFits shape (ToTerminal.Paint number wanted over) = ⊤
 NoteFits shape (ToTerminal.ReadBuffer number) = ⊤
 NoteFits shape (ToTerminal.Note number command) = command.size ≡ shape
 
-pub note_fits : (app : Application) (link : Link) (message : ToTerminal) (rest : List ToTerminal) → link.down ≡ message ∷ rest → Kept app (view_of link) → NoteFits link.term.display.size message
+pub note_fits : (app : Application) (link : Link) (message : ToTerminal) (rest : List ToTerminal) → link.down ≡ message ∷ rest → ConnectionInvariant app (view_of link) → NoteFits link.term.display.size message
 note_fits app link (ToTerminal.TalksDown saying) rest e k = tt
 note_fits app link (ToTerminal.Paint number wanted over) rest e k = tt
 note_fits app link (ToTerminal.ReadBuffer number) rest e k = tt
@@ -345,13 +345,13 @@ blank_chars : (cells : ℕ) → list_all is_char (replicate cells (CharCell 0)) 
 blank_chars zero = refl
 blank_chars (suc cells) = blank_chars cells
 
-note_spelt : LowerLaws → (shape : Shape) (text : List ℕ) → IsShape shape → IsNoteText text → IsSpeltCommand (note_command shape text)
+note_spelt : LowerLaws → (shape : ScreenSize) (text : List ℕ) → IsValidSize shape → IsNoteText text → IsSpeltCommand (note_command shape text)
 note_spelt given shape text is note =
     let blank : Screen = blank_screen (cells_in shape) in
     let over = given.notes.overwrites shape (note_command shape text) blank is (record { text = text; is_text = note; is = refl }) (blank_length M2 shape) (TakesNotes.unformatted (blank_chars (cells_in shape))) in
-    over.spelt
+    over.encoded
 
-note_texts : LowerLaws → (text : List ℕ) (conn : Session) → IsShape conn.size → IsNoteText text → AreTexts conn.values → SendsTexts (noted_as text conn)
+note_texts : LowerLaws → (text : List ℕ) (conn : Session) → IsValidSize conn.size → IsNoteText text → AreTexts conn.values → SendsTexts (noted_as text conn)
 note_texts given text conn is note texts = record {
   message = (given.notes.are_notes conn.size (note_command conn.size text) is (record { text = text; is_text = note; is = refl }), note_spelt given conn.size text is note);
   values = texts;
@@ -395,29 +395,29 @@ painted_sendable wanted screen w is = record {
 
 pub record StepSends (step : TermStep) : Type 0 where
   pub screen : IsSendable step.end.display.screen
-  pub spelt : All CanBeSpelt step.sends
+  pub encoded : All CanBeSpelt step.sends
 
 once_bound_sends : (bound : Bool) (end : TermEnd) (step : TermStep) → IsSendable end.display.screen → StepSends step → StepSends (once_bound bound step end)
 once_bound_sends true end step is sends = sends
-once_bound_sends false end step is sends = record { screen = is; spelt = All-nil CanBeSpelt }
+once_bound_sends false end step is sends = record { screen = is; encoded = All-nil CanBeSpelt }
 
 pub term_sends : SentIsRead → LowerLaws → (end : TermEnd) (message : ToTerminal) → HasProperScreen message → NoteFits end.display.size message → length end.display.screen.cells ≡ cells_in end.display.size → IsSendable end.display.screen → StepSends (term_took end message)
-term_sends read given end (ToTerminal.TalksDown saying) written fits whole is = record { screen = is; spelt = All-map CanBeSpelt ToHost.TalksUp _ (λ k d below. tt) }
+term_sends read given end (ToTerminal.TalksDown saying) written fits whole is = record { screen = is; encoded = All-map CanBeSpelt ToHost.TalksUp _ (λ k d below. tt) }
 term_sends read given end (ToTerminal.Paint number wanted over) written fits whole is =
     once_bound_sends (is_bound end) end (paint_came number wanted end) is
-    (record { screen = painted_sendable wanted end.display.screen written is; spelt = All-cons CanBeSpelt (ToHost.Response number Verdict.Positive) [] tt (All-nil CanBeSpelt) })
+    (record { screen = painted_sendable wanted end.display.screen written is; encoded = All-cons CanBeSpelt (ToHost.Response number Verdict.Positive) [] tt (All-nil CanBeSpelt) })
 term_sends read given end (ToTerminal.ReadBuffer number) written fits whole is =
     once_bound_sends (is_bound end) end (read_came end) is
-    (record { screen = is; spelt = All-cons CanBeSpelt _ [] (read_buffer end.display.screen, read.buffer end.display.size end.display.screen whole is) (All-nil CanBeSpelt) })
+    (record { screen = is; encoded = All-cons CanBeSpelt _ [] (read_buffer end.display.screen, read.buffer end.display.size end.display.screen whole is) (All-nil CanBeSpelt) })
 term_sends read given end (ToTerminal.Note number command) written fits whole is =
     once_bound_sends (is_bound end) end (note_came number command end) is
     (record {
       screen = given.notes.note_sendable command end.display.screen written.0.note
           (subst (λ (n : ℕ). All (IsProperOrder n) command.orders) (ap cells_in fits ∙ sym whole) written.0.proper) is;
-      spelt = All-cons CanBeSpelt (ToHost.Response number Verdict.Positive) [] tt (All-nil CanBeSpelt);
+      encoded = All-cons CanBeSpelt (ToHost.Response number Verdict.Positive) [] tt (All-nil CanBeSpelt);
     })
 
-key_sends : SentIsRead → (bound : Bool) (answer : Pressed) (shape : Shape) (screen : Screen) → length screen.cells ≡ cells_in shape → IsSendable screen → All CanBeSpelt (data_of bound answer shape screen)
+key_sends : SentIsRead → (bound : Bool) (answer : Pressed) (shape : ScreenSize) (screen : Screen) → length screen.cells ≡ cells_in shape → IsSendable screen → All CanBeSpelt (data_of bound answer shape screen)
 key_sends read true (Send aid) shape screen whole is = All-cons CanBeSpelt _ [] (read_modified false screen, read.modified shape screen whole is) (All-nil CanBeSpelt)
 key_sends read false (Send aid) shape screen whole is = All-nil CanBeSpelt
 key_sends read true Done shape screen whole is = All-nil CanBeSpelt
@@ -429,19 +429,19 @@ key_sends read false (Refused why) shape screen whole is = All-nil CanBeSpelt
 
 pub record CanSend (link : Link) : Type 0 where
   pub screen : IsSendable link.term.display.screen
-  pub spelt : All CanBeSpelt link.up
+  pub encoded : All CanBeSpelt link.up
   pub writes : All HasProperScreen link.down
   pub values : AreTexts link.host.values
 
 left_if : (cause : Option Cause) (link : Link) → CanSend link → CanSend (host_left_if cause link)
 left_if None link c = c
-left_if (Some cause) link c = record { screen = c.screen; spelt = c.spelt; writes = c.writes; values = c.values }
+left_if (Some cause) link c = record { screen = c.screen; encoded = c.encoded; writes = c.writes; values = c.values }
 
 sends : (link : Link) (sending : Option Sent) → CanSend link → IfSome sending SendsTexts → CanSend (host_sent sending link)
 sends link None c is = c
 sends link (Some sending) c is = record {
   screen = c.screen;
-  spelt = c.spelt;
+  encoded = c.encoded;
   writes = sent_all HasProperScreen link.lost link.down (sending.message ∷ []) c.writes (All-cons HasProperScreen sending.message [] is.message (All-nil HasProperScreen));
   values = is.values;
 }
@@ -450,7 +450,7 @@ sends link (Some sending) c is = record {
 abbrev pub LearnsTexts : Application → Session → Type 0
 LearnsTexts app conn = conn.turn ≡ whose.Host → conn.pending ≡ Pending.Nothing → AreTexts (learned conn.shadow (app.fields conn.panel) conn.values)
 
-what_is_learned : (app : Application) (link : Link) → Kept app (view_of link) → CanSend link → LearnsTexts app link.host
+what_is_learned : (app : Application) (link : Link) → ConnectionInvariant app (view_of link) → CanSend link → LearnsTexts app link.host
 what_is_learned app link k c turns pends =
     let known = knows_at app (view_of link) k turns pends in
     learned_texts link.host.shadow link.term.display.screen (app.fields link.host.panel) link.host.values known.meets c.screen.storable c.values
@@ -482,14 +482,14 @@ answers_texts app asks said are conn values learns = by_open (is_asking app conn
     by_open true open_now false = tt
     by_open false open_now has = tt
 
-pub notes_texts : LowerLaws → (text : List ℕ) (conn : Session) → IsShape conn.size → IsNoteText text → AreTexts conn.values → IfSome (noted text conn) SendsTexts
+pub notes_texts : LowerLaws → (text : List ℕ) (conn : Session) → IsValidSize conn.size → IsNoteText text → AreTexts conn.values → IfSome (noted text conn) SendsTexts
 notes_texts given text conn is note values = by_test (may_note conn.turn conn.pending (is_agreed conn.talk.state))
   where
     by_test : (b : Bool) → IfSome (if b then Some (noted_as text conn) else None) SendsTexts
     by_test true = note_texts given text conn is note values
     by_test false = tt
 
-pub blank_sendable : (model : Model) (shape : Shape) → IsShape shape → IsSendable (new_display model shape).screen
+pub blank_sendable : (model : Model) (shape : ScreenSize) → IsValidSize shape → IsSendable (new_display model shape).screen
 blank_sendable model shape is = record {
   few = subst (λ (n : ℕ). n ≤ most_cells) (sym (blank_length model shape)) is.addresses;
   cursor = subst (λ (n : ℕ). 0 < n) (sym (blank_length model shape)) (first_cell shape is);
@@ -508,14 +508,14 @@ all_typed (event ∷ events) are typed =
 
 steps : SentIsRead → LowerLaws → (app : Application) → IsApplication app → WantsProperScreens app → Steps app IsTypedEvent CanSend (λ display. IsSendable display.screen)
 steps read given app is asks = record {
-  never = λ serves. record { screen = blank_sendable M2 app.begins is.begins; spelt = All-nil CanBeSpelt; writes = All-nil HasProperScreen; values = All-nil AreCharacters };
-  begins = λ serves model terminal wanted. record { screen = blank_sendable model app.begins is.begins; spelt = All-nil CanBeSpelt; writes = All-cons HasProperScreen _ [] tt (All-nil HasProperScreen); values = All-nil AreCharacters };
+  never = λ serves. record { screen = blank_sendable M2 app.begins is.begins; encoded = All-nil CanBeSpelt; writes = All-nil HasProperScreen; values = All-nil AreCharacters };
+  begins = λ serves model terminal wanted. record { screen = blank_sendable model app.begins is.begins; encoded = All-nil CanBeSpelt; writes = All-cons HasProperScreen _ [] tt (All-nil HasProperScreen); values = All-nil AreCharacters };
   up = λ pool link message rest e k c.
       let step : HostStep = host_took pool link.host message in
       let just = just_talks pool link.host message in
       left_if step.closes _ (record {
         screen = c.screen;
-        spelt = All-tail CanBeSpelt message rest (subst (All CanBeSpelt) e c.spelt);
+        encoded = All-tail CanBeSpelt message rest (subst (All CanBeSpelt) e c.encoded);
         writes = sent_all HasProperScreen link.lost link.down step.sends c.writes (subst (All HasProperScreen) (sym just.says) (All-map HasProperScreen ToTerminal.TalksDown just.talk (λ k d below. tt)));
         values = subst AreTexts (sym just.values) c.values;
       });
@@ -529,7 +529,7 @@ steps read given app is asks = record {
       let says = term_sends read given link.term message (All-head HasProperScreen message rest down) (note_fits app link message rest e k) k.whole c.screen in
       record {
         screen = says.screen;
-        spelt = sent_all CanBeSpelt link.lost link.up (term_took link.term message).sends c.spelt says.spelt;
+        encoded = sent_all CanBeSpelt link.lost link.up (term_took link.term message).sends c.encoded says.encoded;
         writes = All-tail HasProperScreen message rest down;
         values = c.values;
       };
@@ -540,14 +540,14 @@ steps read given app is asks = record {
       let on = given.keys.on_screen display.size.columns key display.keyboard display.screen c.screen.cursor in
       record {
         screen = still;
-        spelt = sent_all CanBeSpelt link.lost link.up (data_of (is_bound link.term) outcome.answer display.size outcome.screen) c.spelt
+        encoded = sent_all CanBeSpelt link.lost link.up (data_of (is_bound link.term) outcome.answer display.size outcome.screen) c.encoded
             (key_sends read (is_bound link.term) outcome.answer display.size outcome.screen (on.0 ∙ k.whole) still);
         writes = c.writes;
         values = c.values;
       };
-  loses = λ link c. record { screen = c.screen; spelt = c.spelt; writes = c.writes; values = c.values };
-  host_leaves = λ link c. record { screen = c.screen; spelt = c.spelt; writes = c.writes; values = c.values };
-  term_leaves = λ link c. record { screen = c.screen; spelt = c.spelt; writes = c.writes; values = c.values };
+  loses = λ link c. record { screen = c.screen; encoded = c.encoded; writes = c.writes; values = c.values };
+  host_leaves = λ link c. record { screen = c.screen; encoded = c.encoded; writes = c.writes; values = c.values };
+  term_leaves = λ link c. record { screen = c.screen; encoded = c.encoded; writes = c.writes; values = c.values };
   fresh = λ model. blank_sendable model app.begins is.begins;
   alone = λ link k c. c.screen;
   key_alone = λ terminal key display such still. given.keys.sendable display.size.columns key display.keyboard display.screen such.1 still;
@@ -578,7 +578,7 @@ screens_are_sendable read given app serves pool models events is asks lists few 
 
 pub data_can_be_spelt : SentIsRead → LowerLaws → AlwaysTyped DataCanBeSpelt
 data_can_be_spelt read given app serves pool models events is asks lists few are typed number =
-    ((all_can read given app serves pool models events is asks lists few are typed).links number).spelt
+    ((all_can read given app serves pool models events is asks lists few are typed).links number).encoded
 
 -- what holds of each message that is written holds of all of them
 each_written : (P : ToTerminal → Type 0) → ((message : ToTerminal) → HasProperScreen message → P message) → (messages : List ToTerminal) → All HasProperScreen messages → All P messages
@@ -597,7 +597,7 @@ paints_are_screens read given app serves pool models events is asks lists few ar
     let all = all_can read given app serves pool models events is asks lists few are typed in
     each_written PaintsAScreen paints_a_screen ((run app events (new_world app serves pool models)).link number).down (all.links number).writes
 
-pub message_spelt : PaintIsSpelt → (message : ToTerminal) → HasProperScreen message → IsSpelt message
+pub message_spelt : PaintIsEncoded → (message : ToTerminal) → HasProperScreen message → IsSpelt message
 message_spelt law (ToTerminal.TalksDown saying) written = tt
 message_spelt law (ToTerminal.Paint number wanted over) written =
     λ now alternate sized writes. law now alternate over wanted written sized writes
@@ -607,7 +607,7 @@ message_spelt law (ToTerminal.Note number command) written = written.1
 pub paints_are_spelt : SentIsRead → LowerLaws → AlwaysTyped PaintsAreSpelt
 paints_are_spelt read given app serves pool models events is asks lists few are typed number =
     let all = all_can read given app serves pool models events is asks lists few are typed in
-    each_written IsSpelt (message_spelt given.belief.spelt) ((run app events (new_world app serves pool models)).link number).down (all.links number).writes
+    each_written IsSpelt (message_spelt given.belief.encoded) ((run app events (new_world app serves pool models)).link number).down (all.links number).writes
 
 pub values_are_texts : SentIsRead → LowerLaws → AlwaysTyped ValuesAreTexts
 values_are_texts read given app serves pool models events is asks lists few are typed number =

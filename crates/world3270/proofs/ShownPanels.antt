@@ -17,13 +17,13 @@ use Rattle.world3270.specs.model.ByteWorld.{is_there}
 use Rattle.world3270.specs.refinement.LowerLaws.{LowerLaws}
 use Rattle.world3270.specs.model.Steps.{run}
 use Rattle.world3270.specs.model.Link.{Link}
-use Rattle.world3270.specs.refinement.Phases.{Serving, LinkPhase, turn_at, pending_at}
-use Rattle.world3270.specs.refinement.Refines.{Begin, after}
+use Rattle.world3270.specs.refinement.Phases.{SessionPhase, LinkPhase, turn_at, pending_at}
+use Rattle.world3270.specs.refinement.Refines.{WorldSetup, after}
 use Rattle.world3270.specs.statement.Observation.{SeenLink, TerminalSeen}
 use Rattle.world3270.specs.statement.Showing.{ShowsItsPanel}
 use Rattle.world3270.specs.statement.Shown.{FieldsAreShown, HasShown, IsPanelShown, PanelIsShown, PanelIsShownOverBytes, is_painting}
 use Rattle.world3270.specs.statement.ShownFields.{WantsItsFields}
-use Rattle.world3270.specs.refinement.Invariant.{Fact, Kept, LocalState, local_state_of, ShownAt}
+use Rattle.world3270.specs.refinement.Invariant.{Fact, ConnectionInvariant, LocalState, local_state_of, ShownAt}
 use Rattle.world3270.specs.refinement.Representation.{conn_of, link_of}
 use Rattle.world3270.specs.refinement.Represents.{LinkRepresents}
 use Rattle.world3270.specs.refinement.View.{view_of}
@@ -36,29 +36,29 @@ use Rattle.world3270.proofs.Waits.{all_wait}
 use Rattle.world3270.proofs.Worlds.{new_good, run_good}
 
 module _ (app : Application) (waits : Bool) (host : Session) (before left now : Screen) (has : HasShown host) where
-  shown_in : (lu : List ℕ) (serving : Serving) → host.turn ≡ turn_at (LinkPhase.Serves lu serving) → is_painting (pending_at (LinkPhase.Serves lu serving)) ≡ false
-      → ShownAt app waits host before left now (LinkPhase.Serves lu serving) → ShowsItsPanel app waits host before left
-  shown_in lu Serving.Deciding turn answered shown = shown.0 (has.not_first turn)
-  shown_in lu (Serving.Reading number) turn answered shown = shown (has.not_first turn)
-  shown_in lu (Serving.Reported number parts) turn answered shown = shown (has.not_first turn)
-  shown_in lu (Serving.NotedLate number command) turn answered shown = shown.0
-  shown_in lu (Serving.AnsweredLate number command) turn answered shown = shown.0
-  shown_in lu (Serving.Painting number command wanted over) turn answered shown = absurd (cc)
-  shown_in lu (Serving.Answering kind number command) turn answered shown = shown
-  shown_in lu Serving.Operating turn answered shown = shown
-  shown_in lu (Serving.Noting number command) turn answered shown = shown
-  shown_in lu (Serving.KeyAlone parts) turn answered shown = shown
-  shown_in lu (Serving.KeyBehind kind number command parts) turn answered shown = shown
-  shown_in lu (Serving.KeyNoted number command parts) turn answered shown = shown
-  shown_in lu (Serving.KeyBefore number command parts) turn answered shown = shown
+  shown_in : (lu : List ℕ) (serving : SessionPhase) → host.turn ≡ turn_at (LinkPhase.InSession lu serving) → is_painting (pending_at (LinkPhase.InSession lu serving)) ≡ false
+      → ShownAt app waits host before left now (LinkPhase.InSession lu serving) → ShowsItsPanel app waits host before left
+  shown_in lu SessionPhase.Deciding turn answered shown = shown.0 (has.not_first turn)
+  shown_in lu (SessionPhase.Reading number) turn answered shown = shown (has.not_first turn)
+  shown_in lu (SessionPhase.BufferReturning number parts) turn answered shown = shown (has.not_first turn)
+  shown_in lu (SessionPhase.DecidingNoteSent number command) turn answered shown = shown.0
+  shown_in lu (SessionPhase.DecidingNoteAnswered number command) turn answered shown = shown.0
+  shown_in lu (SessionPhase.Painting number command wanted over) turn answered shown = absurd (cc)
+  shown_in lu (SessionPhase.AwaitingWriteResponse kind number command) turn answered shown = shown
+  shown_in lu SessionPhase.OperatorTyping turn answered shown = shown
+  shown_in lu (SessionPhase.Noting number command) turn answered shown = shown
+  shown_in lu (SessionPhase.KeySent parts) turn answered shown = shown
+  shown_in lu (SessionPhase.KeySentAfterResponse kind number command parts) turn answered shown = shown
+  shown_in lu (SessionPhase.KeyCrossingNote number command parts) turn answered shown = shown
+  shown_in lu (SessionPhase.KeyBeforeNoteResponse number command parts) turn answered shown = shown
 
   shown_at : (wanted : Option (List ℕ)) (s : LocalState) (moment : LinkPhase) → s.turn_reason ≡ host.turn_reason → host.turn ≡ turn_at moment → is_painting (pending_at moment) ≡ false → Fact wanted s moment
       → ShownAt app waits host before left now moment → ShowsItsPanel app waits host before left
-  shown_at wanted s (LinkPhase.Talks talking) same turn answered fact shown = absurd (has.not_first turn (sym same ∙ fact.0.turn_reason))
-  shown_at wanted s (LinkPhase.Begins lu number command wants over) same turn answered fact shown = absurd (cc)
-  shown_at wanted s (LinkPhase.Serves lu serving) same turn answered fact shown = shown_in lu serving turn answered shown
+  shown_at wanted s (LinkPhase.Negotiating talking) same turn answered fact shown = absurd (has.not_first turn (sym same ∙ fact.0.turn_reason))
+  shown_at wanted s (LinkPhase.FirstPaint lu number command wants over) same turn answered fact shown = absurd (cc)
+  shown_at wanted s (LinkPhase.InSession lu serving) same turn answered fact shown = shown_in lu serving turn answered shown
 
-pub shown_now : (app : Application) (link : Link) → Kept app (view_of link) → HasShown link.host → ShowsItsPanel app link.term.waits link.host link.term.display.before_restored link.term.display.last_restored
+pub shown_now : (app : Application) (link : Link) → ConnectionInvariant app (view_of link) → HasShown link.host → ShowsItsPanel app link.term.waits link.host link.term.display.before_restored link.term.display.last_restored
 shown_now app link k has =
     shown_at app link.term.waits link.host link.term.display.before_restored link.term.display.last_restored link.term.display.screen has k.wanted (local_state_of (view_of link)) k.moment refl k.at.turn (ap is_painting (sym k.at.pending) ∙ has.answered) k.fact k.shown
 
@@ -158,7 +158,7 @@ wants_its_fields known set sound = record {
 
 pub panel_is_shown_over_bytes : KnownPanels → AlwaysOf FieldsAreShown → PanelIsShownOverBytes
 panel_is_shown_over_bytes known always bytes is number rest host terminal service_is terminal_is has =
-    let begin : Begin = is.begin in
+    let begin : WorldSetup = is.begin in
     let app : Application = application_of begin.panels in
     let is_app : IsApplication app = known.application begin.panels is.is_begin.panels.otherwise is.is_begin.panels.laid_out is.is_begin.panels.apart in
     let world : World = after begin is.events in

@@ -2,7 +2,7 @@
 use Rattle.std.proofs.Common.{◌≡◌, ◌&&◌, ℕ, Bool, true, false, Option, None, Some, List, [], ◌++◌, refl, ap, sym, subst, ◌∙◌, if◌then◌else◌}
 use Rattle.std.specs.Prelude.{unwrap_or}
 use Rattle.datastream.specs.Screen.{Screen}
-use Rattle.codes3270.specs.Size.{Shape}
+use Rattle.codes3270.specs.Size.{ScreenSize}
 use Rattle.keyboard.specs.Keys.{Outcome, at_lock, lock_reset, locked_out, refused}
 use Rattle.keyboard.specs.State.{Keyboard}
 use Rattle.keyboard.specs.declared.key.Key.{Key}
@@ -17,7 +17,7 @@ use Rattle.host_core.specs.Does.{DoesAnswer, with_conn}
 use Rattle.host_core.specs.Notes.{may_note, noted, noted_as}
 use Rattle.host_core.specs.Questions.{act_by, answered_by, answered_in, answered_on, has_its_panel, is_asking, is_ticket, ticket_of, values_for}
 use Rattle.host_core.specs.Session.{Session, is_agreed, model_in}
-use Rattle.host_core.specs.State.{Connection, Service, connection_at, service_at, session_at}
+use Rattle.host_core.specs.State.{Connection, Service, connection_at, state_at, session_at}
 use Rattle.host_core.specs.Takes.{took as host_took}
 use Rattle.host_core.specs.declared.acted.Acted.{Acted}
 use Rattle.host_core.specs.declared.acted.Acted.TheVariants as acted_as
@@ -26,7 +26,7 @@ use Rattle.host_core.specs.declared.question.Ticket.{Ticket}
 use Rattle.world3270.specs.model.ByteSteps.{IsStepIf, Steps, answer_acted, is_enabled as is_enabled_over_bytes}
 use Rattle.world3270.specs.model.ByteWorld.{ByteWorld, is_there}
 use Rattle.world3270.specs.model.Link.{Link, host_sent}
-use Rattle.world3270.specs.refinement.Refines.{Begin, Reached, SkipsAreThose, StepsGoOn, after}
+use Rattle.world3270.specs.refinement.Refines.{WorldSetup, Reached, SameSkips, StepsAreSimulated, after}
 use Rattle.world3270.specs.statement.Shown.{PanelIsShownOverBytes}
 use Rattle.world3270.specs.statement.ShownSince.{AnswersAreShownOverBytes, IsAnswered, IsSamePanel, StepsKeepPanels, WaitingKeepsTheScreen}
 use Rattle.world3270.specs.refinement.Representation.{conn_of}
@@ -72,18 +72,18 @@ keeps_panel conn = record {
 }
 
 -- a connection over bytes at which the host is, and the one over messages
-pub record Means (begin : Begin) (events : List Event) (number : ℕ) (conn : Session) : Type 0 where
+pub record Means (begin : WorldSetup) (events : List Event) (number : ℕ) (conn : Session) : Type 0 where
   pub here : ((after begin events).link number).host_here ≡ true
   pub same : conn ≡ ((after begin events).link number).host
 
-pub stands_at : (begin : Begin) (events : List Event) (bytes : ByteWorld) (number : ℕ) (rest : Rest) (conn : Session) → Reached begin events bytes → service_at number bytes.host ≡ Service.Open rest conn
+pub stands_at : (begin : WorldSetup) (events : List Event) (bytes : ByteWorld) (number : ℕ) (rest : Rest) (conn : Session) → Reached begin events bytes → state_at number bytes.host ≡ Service.Open rest conn
     → Means begin events number conn
 stands_at begin events bytes number rest conn reached is =
     let stands = reached.stands.links number in
     let here : ((after begin events).link number).host_here ≡ true = sym stands.host_here ∙ ap is_there is in
     record { here = here; same = sym (ap conn_of is) ∙ (stands.host here).host }
 
-pub steps_keep : StepsGoOn → SkipsAreThose → StepsKeepPanels
+pub steps_keep : StepsAreSimulated → SameSkips → StepsKeepPanels
 steps_keep go skips event old answer new is real steps number rest behind conn later none before behind_is =
     let first = stands_at is.begin is.events old number rest conn is.reached before in
     let went = step_holds go skips is.begin is.is_begin (HasPanel conn) (keeps_panel conn) number event old answer new real steps (ap is_there before) none
@@ -131,20 +131,20 @@ taken_answer app session number ticket said rest conn old new act is went does =
     by_sent (Some sent) e acted_as.Nothing went does = absurd (cc)
     by_sent (Some sent) e acted_as.Memory went does = absurd (cc)
 
-answer_taken : (number : ℕ) (ticket : Ticket) (said : ApplicationAnswer) (old new : ByteWorld) (rest : Rest) (conn : Session) → Steps (event.Answer number ticket said) old stepped.Done new → service_at number old.host ≡ Service.Open rest conn
-    → (later : Session) × (service_at number new.host ≡ Service.Open rest later) × IsAnswered (application_of old.host.panels) conn said later
+answer_taken : (number : ℕ) (ticket : Ticket) (said : ApplicationAnswer) (old new : ByteWorld) (rest : Rest) (conn : Session) → Steps (event.Answer number ticket said) old stepped.Done new → state_at number old.host ≡ Service.Open rest conn
+    → (later : Session) × (state_at number new.host ≡ Service.Open rest later) × IsAnswered (application_of old.host.panels) conn said later
 answer_taken number ticket said old new rest conn steps is = by_place (is_enabled_over_bytes (event.Answer number ticket said) old) steps
   where
     by_place : (b : Bool) → IsStepIf b (event.Answer number ticket said) old stepped.Done new
-        → (later : Session) × (service_at number new.host ≡ Service.Open rest later) × IsAnswered (application_of old.host.panels) conn said later
+        → (later : Session) × (state_at number new.host ≡ Service.Open rest later) × IsAnswered (application_of old.host.panels) conn said later
     by_place false skipped = absurd (let wrong = skipped.0 in cc)
     by_place true on =
         let went = taken_answer (application_of old.host.panels) (session_at number old.host) number ticket said rest conn (connection_at number old.host) (connection_at number on.host) on.act is (sym on.answers) on.acts in
-        (went.0, ap (λ (w : ByteWorld). service_at number w.host) on.leaves ∙ went.1, went.2)
+        (went.0, ap (λ (w : ByteWorld). state_at number w.host) on.leaves ∙ went.1, went.2)
 
-pub answers_are_shown : StepsGoOn → SkipsAreThose → PanelIsShownOverBytes → AnswersAreShownOverBytes
+pub answers_are_shown : StepsAreSimulated → SameSkips → PanelIsShownOverBytes → AnswersAreShownOverBytes
 answers_are_shown go skips shown world number ticket said events asked taken rest behind conn host terminal is real are steps rests before behind_is terminal_is has =
-    let begin : Begin = is.begin in
+    let begin : WorldSetup = is.begin in
     let goes = go begin is.events (event.Answer number ticket said) asked stepped.Done taken is.is_begin is.reached real steps in
     let went = answer_taken number ticket said asked taken rest conn steps before in
     let first = stands_at begin (is.events ++ goes.more) taken number rest went.0 goes.reached went.1 in
@@ -167,7 +167,7 @@ answers_are_shown go skips shown world number ticket said events asked taken res
 pub record StillWaits (screen : Screen) (outcome : Outcome) : Type 0 where
   pub same : outcome.screen ≡ screen
   pub lock : outcome.keyboard.lock ≡ Wait
-  pub silent : (bound : Bool) (shape : Shape) (now : Screen) → data_of bound outcome.answer shape now ≡ []
+  pub silent : (bound : Bool) (shape : ScreenSize) (now : Screen) → data_of bound outcome.answer shape now ≡ []
 
 refuses : (keyboard : Keyboard) (screen : Screen) → keyboard.lock ≡ Wait → StillWaits screen (refused Locked keyboard screen)
 refuses keyboard screen is = record { same = refl; lock = is; silent = λ bound shape now. quiet_refused bound Locked shape now }

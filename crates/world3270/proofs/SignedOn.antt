@@ -9,7 +9,7 @@ use Rattle.shadow.specs.Queries.{field_at}
 use Rattle.shadow.specs.Belief.{Fact, Belief}
 use Rattle.tn3270e_msg.specs.Device.{device_of}
 use Rattle.tn3270e_msg.specs.HostTable.{host_transition}
-use Rattle.tn3270e_msg.specs.Talk.{RequestsFunctions, IsFunctions, follow, Saying}
+use Rattle.tn3270e_msg.specs.Talk.{RequestsFunctions, IsFunctions, follow, NegotiationMessage}
 use Rattle.tn3270e_msg.specs.TermTable.{term_transition}
 use Rattle.tn3270e_msg.specs.declared.functions.FunctionsOffer.{FunctionsOffer}
 use Rattle.tn3270e_msg.specs.declared.functions.FunctionsOffer.TheVariants.{ResponsesAlone}
@@ -51,12 +51,12 @@ agreement_taken wanted world =
 -- a request for functions has come to the host, and nothing behind it
 pub record IsRequested (world : World) : Type 0 where
   pub here : (world.link 0).host_here ≡ true
-  pub up : (world.link 0).up ≡ ToHost.TalksUp (Saying.Sub FunRequest) ∷ []
+  pub up : (world.link 0).up ≡ ToHost.TalksUp (NegotiationMessage.Sub FunRequest) ∷ []
 
 -- the agreement has come to the terminal
 pub record IsAgreed (world : World) : Type 0 where
   pub here : (world.link 0).term_here ≡ Some 0
-  pub down : (world.link 0).down ≡ ToTerminal.TalksDown (Saying.Sub FunIs) ∷ drop 1 (world.link 0).down
+  pub down : (world.link 0).down ≡ ToTerminal.TalksDown (NegotiationMessage.Sub FunIs) ∷ drop 1 (world.link 0).down
 
 requested : (app : Application) (world : World) → IsRequested world → stepped_by app (Event.Up 0) world ≡ request_taken ResponsesAlone world
 unfolding request_taken

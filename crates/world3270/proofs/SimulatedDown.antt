@@ -1,7 +1,7 @@
 -- What comes down: the waiting terminal takes a paint, and answers a Read Buffer, on the screen as it is, which is told then.
 use Rattle.std.proofs.Common.{◌≡◌, ◌<◌, ◌||◌, Bool, true, false, ℕ, Option, None, List, [], ◌∷◌, length, refl, ap, sym, subst, ◌∙◌}
 use Rattle.std.specs.Prelude.{is_some}
-use Rattle.codes3270.specs.Size.{Shape, cells_in}
+use Rattle.codes3270.specs.Size.{ScreenSize, cells_in}
 use Rattle.codes3270.specs.declared.attention.Aid.{Aid}
 use Rattle.datastream.specs.Grammar.{CommandParts}
 use Rattle.datastream.specs.InboundFields.{buffer_data}
@@ -12,15 +12,15 @@ use Rattle.keyboard.specs.State.{freed}
 use Rattle.shadow.specs.Belief.{Shadow}
 use Rattle.shadow.specs.Meets.{Meets}
 use Rattle.shadow.specs.Painted.{plainly_painted}
-use Rattle.tn3270e_msg.specs.Talk.{Saying}
+use Rattle.tn3270e_msg.specs.Talk.{NegotiationMessage}
 use Rattle.tn3270e_msg.specs.TermTable.{Term}
 use Rattle.tn3270e_msg.specs.declared.cause.Cause.{Cause}
 use Rattle.host_core.specs.Application.{Application, IsApplication, message_place}
 use Rattle.host_core.specs.Messages.{ToHost, ToTerminal, Verdict}
-use Rattle.world3270.specs.statement.EveryTerminal.{ReportedLink, paint_executed, told_if}
+use Rattle.world3270.specs.statement.EveryTerminal.{LinkWithReport, paint_executed, told_if}
 use Rattle.world3270.specs.refinement.LowerLaws.{LowerLaws}
 use Rattle.world3270.specs.model.Link.{Link, sent, term_left_if, term_stepped}
-use Rattle.world3270.specs.refinement.Invariant.{Kept}
+use Rattle.world3270.specs.refinement.Invariant.{ConnectionInvariant}
 use Rattle.world3270.specs.model.Terminal.{Display, TermEnd, TermStep, bound_to, is_bound, note_came, once_bound, paint_came, read_came, talked}
 use Rattle.world3270.specs.refinement.View.{view_of}
 use Rattle.world3270.proofs.ComesDown.{note_comes, paint_comes, read_comes}
@@ -29,11 +29,11 @@ use Rattle.world3270.proofs.Obeys.{obeys}
 use Rattle.world3270.proofs.Keys.{or_false}
 use Rattle.world3270.proofs.NotesHeld.{note_held}
 use Rattle.world3270.proofs.ReadsInput.{reads_input}
-use Rattle.world3270.proofs.SecondKeys.{Extras}
+use Rattle.world3270.proofs.SecondKeys.{AddsSecondKeys}
 use Rattle.world3270.proofs.Simulation.{Simulated, agrees_now, both_say, since_same}
 use Rattle.world3270.proofs.StillKept.{still_as_left, still_kept}
 
-module _ (given : LowerLaws) (app : Application) (is : IsApplication app) (lu : List ℕ) (t : ReportedLink) (s : Simulated app lu t) where
+module _ (given : LowerLaws) (app : Application) (is : IsApplication app) (lu : List ℕ) (t : LinkWithReport) (s : Simulated app lu t) where
   abbrev end : Link
   end = s.told
 
@@ -41,7 +41,7 @@ module _ (given : LowerLaws) (app : Application) (is : IsApplication app) (lu : 
   now = t.link
 
   -- once the message is taken
-  abbrev taken_so : Bool → ToTerminal → TermStep → List ToTerminal → ReportedLink
+  abbrev taken_so : Bool → ToTerminal → TermStep → List ToTerminal → LinkWithReport
   taken_so is_bound message step rest = told_if is_bound message t (term_stepped (once_bound is_bound step now.term) rest now)
 
   -- at a bound terminal
@@ -53,7 +53,7 @@ module _ (given : LowerLaws) (app : Application) (is : IsApplication app) (lu : 
   abbrev replied_so : Option Cause → TermEnd → List ToHost → List ToTerminal → Link
   replied_so closes term says rest = term_left_if closes (record now { down = rest; term = term; up = sent now.lost now.up says })
 
-  pub talked_still : (saying : Saying) (rest : List ToTerminal) → now.down ≡ ToTerminal.TalksDown saying ∷ rest
+  pub talked_still : (saying : NegotiationMessage) (rest : List ToTerminal) → now.down ≡ ToTerminal.TalksDown saying ∷ rest
       → Simulated app lu (told_if (is_bound now.term) (ToTerminal.TalksDown saying) t (term_stepped (talked now.term now.term.talk saying) rest now))
   talked_still saying rest e =
       let obeyed = obeys given app is end (ToTerminal.TalksDown saying) rest (sym s.simulates.down ∙ e) s.kept in
@@ -115,9 +115,9 @@ module _ (given : LowerLaws) (app : Application) (is : IsApplication app) (lu : 
       let new : Screen = plainly_painted wanted screen in
       let meets : Meets over screen = comes.fact.doubts s.any s.simulates.since.erased screen s.simulates.since.held in
       let step : TermStep = paint_came number wanted (showing screen end.term) in
-      let kept : Kept app (view_of (term_view step rest end)) =
+      let kept : ConnectionInvariant app (view_of (term_view step rest end)) =
       paints_on given app is end rest s.kept comes.lu number comes.command wanted over comes.at comes.fact comes.asked comes.left screen meets (λ waits. absurd (let wrong : false ≡ true = sym s.unsure ∙ waits in cc)) in
-      let cells : length wanted.cells ≡ cells_in wanted.size = comes.fact.paintable.showable.cells ∙ ap (λ (shape : Shape). cells_in shape) (sym comes.fact.paintable.showable.size) in
+      let cells : length wanted.cells ≡ cells_in wanted.size = comes.fact.paintable.showable.cells ∙ ap (λ (shape : ScreenSize). cells_in shape) (sym comes.fact.paintable.showable.size) in
       let goes : Simulated app lu (taken_so true (ToTerminal.Paint number wanted over) (paint_came number wanted now.term) rest) =
       record {
         told = term_view step rest end;
@@ -157,7 +157,7 @@ module _ (given : LowerLaws) (app : Application) (is : IsApplication app) (lu : 
       let row : ℕ = message_place end.term.display.size in
       let heard_as : Screen = record screen { aid = old.aid } in
       let same_shape : now.term.display.size ≡ end.term.display.size = ap (λ (d : Display). d.size) since.rest in
-      let kept : Kept app (view_of (term_view (read_of screen erased end.term) rest end)) =
+      let kept : ConnectionInvariant app (view_of (term_view (read_of screen erased end.term) rest end)) =
       reads_on app end rest s.kept comes.same comes.lu comes.number comes.at comes.fact comes.shown comes.left screen erased
       (since.held.same_length ∙ s.kept.whole)
       (subst (λ (size : ℕ). screen.cursor < size) (since.held.same_length ∙ s.kept.whole) since.cursor)
@@ -185,7 +185,7 @@ module _ (given : LowerLaws) (app : Application) (is : IsApplication app) (lu : 
           lost = s.simulates.lost;
           down = refl;
           talk = s.simulates.talk;
-          up = subst (λ (shape : Shape). Extras end.host.turn end.host.pending (sent end.lost end.up (said ∷ [])) (sent now.lost now.up (ToHost.Data (buffer_data shape screen) ∷ []))) (sym same_shape)
+          up = subst (λ (shape : ScreenSize). AddsSecondKeys end.host.turn end.host.pending (sent end.lost end.up (said ∷ [])) (sent now.lost now.up (ToHost.Data (buffer_data shape screen) ∷ []))) (sym same_shape)
               (both_say end now (said ∷ []) s.simulates.lost s.simulates.up);
           since = record {
             erased = false;
@@ -211,7 +211,7 @@ module _ (given : LowerLaws) (app : Application) (is : IsApplication app) (lu : 
       subst (λ (b : Bool). Simulated app lu (taken_so b (ToTerminal.Note number command) (note_came number command now.term) rest)) (sym (bound_now comes.bound))
       (record {
         told = term_view (note_came number command end.term) rest end;
-        kept = subst (λ (bound : Bool). Kept app (view_of (term_view (once_bound bound (note_came number command end.term) end.term) rest end))) comes.bound
+        kept = subst (λ (bound : Bool). ConnectionInvariant app (view_of (term_view (once_bound bound (note_came number command end.term) end.term) rest end))) comes.bound
             (obeys given app is end (ToTerminal.Note number command) rest down s.kept).kept;
         agreed = s.agreed;
         any = s.any;
@@ -229,7 +229,7 @@ module _ (given : LowerLaws) (app : Application) (is : IsApplication app) (lu : 
           since = record {
             erased = since.erased;
             held = note_held given given.keys.round end.host.size command since.erased end.term.display.screen now.term.display.screen
-                (shape_of_model app end.term.display.model end.host.size is s.kept.sizes.host) comes.note (s.kept.whole ∙ ap (λ (shape : Shape). cells_in shape) comes.same) comes.takes since.held;
+                (shape_of_model app end.term.display.model end.host.size is s.kept.sizes.host) comes.note (s.kept.whole ∙ ap (λ (shape : ScreenSize). cells_in shape) comes.same) comes.takes since.held;
             rest = ap (λ (d : Display). record d { screen = after_command command d.screen }) since.rest;
             erasing = since.erasing;
             same = λ free. ap (λ (d : Display). record d { screen = after_command command d.screen }) (since.same free);

@@ -17,36 +17,36 @@ use Rattle.host_core.specs.declared.turn.Turn.{Turn}
 use Rattle.host_core.specs.declared.turn.Turn.TheVariants as whose
 use Rattle.host_core.specs.declared.unheard.Unheard.{Unheard}
 use Rattle.host_core.specs.declared.unheard.Unheard.TheVariants as unheards
-use Rattle.world3270.specs.statement.EveryTerminal.{ReportedLink}
+use Rattle.world3270.specs.statement.EveryTerminal.{LinkWithReport}
 use Rattle.world3270.specs.refinement.LowerLaws.{LowerLaws}
 use Rattle.world3270.specs.model.Link.{Link, cut, host_left_if, host_sent, host_stepped, sent}
-use Rattle.world3270.specs.refinement.Phases.{IsAt, LinkPhase, Serving, Talking, UnderWay, pending_at, turn_at}
-use Rattle.world3270.specs.refinement.Invariant.{Kept}
+use Rattle.world3270.specs.refinement.Phases.{IsAt, LinkPhase, SessionPhase, NegotiationPhase, IsInFlight, pending_at, turn_at}
+use Rattle.world3270.specs.refinement.Invariant.{ConnectionInvariant}
 use Rattle.world3270.specs.refinement.View.{view_of}
 use Rattle.world3270.proofs.Acting.{acts, answers_are_shown, asking_parts, loses, may_act_when}
 use Rattle.world3270.proofs.Noting.{notes}
 use Rattle.world3270.proofs.HeardTurns.{goes_on}
 use Rattle.world3270.proofs.HostSteps.{just_talks}
 use Rattle.world3270.proofs.Queues.{nothing_sent}
-use Rattle.world3270.proofs.SecondKeys.{Extras, IsSecondKey, is_dropping, noted_extras, only_extras, pending_after, second_key_dropped, turn_after}
+use Rattle.world3270.proofs.SecondKeys.{AddsSecondKeys, IsSecondKey, is_dropping, noted_extras, only_extras, pending_after, second_key_dropped, turn_after}
 use Rattle.world3270.proofs.Simulation.{Simulated, agrees_now, still_simulated}
 use Rattle.world3270.proofs.TalkStates.{agreed_there}
 use Rattle.world3270.proofs.Up.{answers, host_view}
 
 -- ---- the host hears
 
-module _ (given : LowerLaws) (app : Application) (lu : List ℕ) (t : ReportedLink) (s : Simulated app lu t) where
+module _ (given : LowerLaws) (app : Application) (lu : List ℕ) (t : LinkWithReport) (s : Simulated app lu t) where
   abbrev told : Link
   told = s.told
 
   abbrev now : Link
   now = t.link
 
-  abbrev heard_by : Session → Option Cause → List ToTerminal → List ToHost → ReportedLink
+  abbrev heard_by : Session → Option Cause → List ToTerminal → List ToHost → LinkWithReport
   heard_by conn closes sends rest = record t { link = host_left_if closes (record now { up = rest; host = conn; down = sent now.lost now.down sends }) }
 
   -- a second key is dropped
-  drops_still : (pool : Answers) (message : ToHost) (rest : List ToHost) → is_dropping told.host.turn told.host.pending ≡ true → IsSecondKey message → Extras told.host.turn told.host.pending told.up rest
+  drops_still : (pool : Answers) (message : ToHost) (rest : List ToHost) → is_dropping told.host.turn told.host.pending ≡ true → IsSecondKey message → AddsSecondKeys told.host.turn told.host.pending told.up rest
       → Simulated app lu (record t { link = host_stepped (host_took pool now.host message) rest now })
   drops_still pool message rest drops second x =
       let host : now.host ≡ told.host = s.simulates.host in
@@ -57,7 +57,7 @@ module _ (given : LowerLaws) (app : Application) (lu : List ℕ) (t : ReportedLi
 
   -- any other message is heard of both
   hears_both : (entries : List Entry) → IsSound entries → (message : ToHost) (rest others : List ToHost) → told.up ≡ message ∷ others
-      → Extras (turn_after message told.host.turn) (pending_after message told.host.pending) others rest → Simulated app lu (record t { link = host_stepped (host_took (answer_to entries) now.host message) rest now })
+      → AddsSecondKeys (turn_after message told.host.turn) (pending_after message told.host.pending) others rest → Simulated app lu (record t { link = host_stepped (host_took (answer_to entries) now.host message) rest now })
   hears_both entries sound message rest others is x =
       let pool : Answers = answer_to entries in
       let step : HostStep = host_took pool told.host message in
@@ -67,8 +67,8 @@ module _ (given : LowerLaws) (app : Application) (lu : List ℕ) (t : ReportedLi
       (subst (λ (closes : Option Cause). Simulated app lu (heard_by step.conn closes step.sends rest)) (sym heard.open_end)
       (still_simulated app lu t s (host_view step others told) (heard_by step.conn None step.sends rest).link refl refl refl refl heard.kept goes.talk (still_any (just_talks pool told.host message).unheard) refl s.simulates.lost
       (ap (λ (lost : Bool). sent lost now.down step.sends) s.simulates.lost ∙ ap (λ (down : List ToTerminal). sent told.lost down step.sends) s.simulates.down)
-      (subst (λ (turn : Turn). Extras turn step.conn.pending others rest) (sym goes.turn)
-      (subst (λ (pending : Pending). Extras (turn_after message told.host.turn) pending others rest) (sym goes.pending) x))))
+      (subst (λ (turn : Turn). AddsSecondKeys turn step.conn.pending others rest) (sym goes.turn)
+      (subst (λ (pending : Pending). AddsSecondKeys (turn_after message told.host.turn) pending others rest) (sym goes.pending) x))))
     where
       still_any : {new : Unheard} → (new ≡ told.host.unheard) ⊎ (new ≡ unheards.Clear) → may_have_changed new ≡ true
       still_any (inl same) = ap may_have_changed same ∙ s.any
@@ -77,47 +77,47 @@ module _ (given : LowerLaws) (app : Application) (lu : List ℕ) (t : ReportedLi
   pub hears_still : (entries : List Entry) → IsSound entries → (message : ToHost) (rest : List ToHost) → now.up ≡ message ∷ rest
       → Simulated app lu (record t { link = host_stepped (host_took (answer_to entries) now.host message) rest now })
   hears_still entries sound message rest is =
-      by_extra (subst (λ (up : List ToHost). Extras told.host.turn told.host.pending told.up up) is s.simulates.up)
+      by_extra (subst (λ (up : List ToHost). AddsSecondKeys told.host.turn told.host.pending told.up up) is s.simulates.up)
     where
-      by_extra : Extras told.host.turn told.host.pending told.up (message ∷ rest) → Simulated app lu (record t { link = host_stepped (host_took (answer_to entries) now.host message) rest now })
+      by_extra : AddsSecondKeys told.host.turn told.host.pending told.up (message ∷ rest) → Simulated app lu (record t { link = host_stepped (host_took (answer_to entries) now.host message) rest now })
       by_extra (inl x) = drops_still (answer_to entries) message rest x.0 x.1 x.2
       by_extra (inr x) = hears_both entries sound message rest x.0 x.1 x.2
 
 -- ---- the host sends
 
 -- in its turn, with nothing pending, once it agreed, nothing is on the way up
-pub nothing_up : (app : Application) (link : Link) → Kept app (view_of link) → is_agreed link.host.talk.state ≡ true → link.host.turn ≡ whose.Host → link.host.pending ≡ Pending.Nothing → link.up ≡ []
+pub nothing_up : (app : Application) (link : Link) → ConnectionInvariant app (view_of link) → is_agreed link.host.talk.state ≡ true → link.host.turn ≡ whose.Host → link.host.pending ≡ Pending.Nothing → link.up ≡ []
 nothing_up app link k agrees turns pends = by_moment k.moment k.at
   where
-    quiet : UnderWay link.lost link.up [] → link.up ≡ []
+    quiet : IsInFlight link.lost link.up [] → link.up ≡ []
     quiet way = no_front link.up way.vanished way.whole
       where
         no_front : (queue vanished : List ToHost) → queue ++ vanished ≡ [] → queue ≡ []
         no_front [] vanished is = refl
         no_front (message ∷ queue) vanished is = absurd (cc)
 
-    by_talk : (talking : Talking) → IsAt (view_of link) k.wanted (LinkPhase.Talks talking) → (lu : List ℕ) × (talking ≡ Talking.Agreeing lu) → link.up ≡ []
-    by_talk talking at is = quiet (subst (λ (t : Talking). IsAt (view_of link) k.wanted (LinkPhase.Talks t)) is.1 at).goes_up
+    by_talk : (talking : NegotiationPhase) → IsAt (view_of link) k.wanted (LinkPhase.Negotiating talking) → (lu : List ℕ) × (talking ≡ NegotiationPhase.Agreeing lu) → link.up ≡ []
+    by_talk talking at is = quiet (subst (λ (t : NegotiationPhase). IsAt (view_of link) k.wanted (LinkPhase.Negotiating t)) is.1 at).goes_up
 
-    by_serving : (lu : List ℕ) (serving : Serving) → IsAt (view_of link) k.wanted (LinkPhase.Serves lu serving) → turn_at (LinkPhase.Serves lu serving) ≡ whose.Host → pending_at (LinkPhase.Serves lu serving) ≡ Pending.Nothing → link.up ≡ []
-    by_serving lu Serving.Deciding at turn pending = quiet at.goes_up
-    by_serving lu (Serving.Reading number) at turn pending = absurd (cc)
-    by_serving lu (Serving.Reported number parts) at turn pending = absurd (cc)
-    by_serving lu (Serving.NotedLate number command) at turn pending = absurd (cc)
-    by_serving lu (Serving.AnsweredLate number command) at turn pending = absurd (cc)
-    by_serving lu (Serving.Painting number command wanted over) at turn pending = absurd (cc)
-    by_serving lu (Serving.Answering kind number command) at turn pending = absurd (cc)
-    by_serving lu Serving.Operating at turn pending = absurd (cc)
-    by_serving lu (Serving.Noting number command) at turn pending = absurd (cc)
-    by_serving lu (Serving.KeyAlone parts) at turn pending = absurd (cc)
-    by_serving lu (Serving.KeyBehind kind number command parts) at turn pending = absurd (cc)
-    by_serving lu (Serving.KeyNoted number command parts) at turn pending = absurd (cc)
-    by_serving lu (Serving.KeyBefore number command parts) at turn pending = absurd (cc)
+    by_serving : (lu : List ℕ) (serving : SessionPhase) → IsAt (view_of link) k.wanted (LinkPhase.InSession lu serving) → turn_at (LinkPhase.InSession lu serving) ≡ whose.Host → pending_at (LinkPhase.InSession lu serving) ≡ Pending.Nothing → link.up ≡ []
+    by_serving lu SessionPhase.Deciding at turn pending = quiet at.goes_up
+    by_serving lu (SessionPhase.Reading number) at turn pending = absurd (cc)
+    by_serving lu (SessionPhase.BufferReturning number parts) at turn pending = absurd (cc)
+    by_serving lu (SessionPhase.DecidingNoteSent number command) at turn pending = absurd (cc)
+    by_serving lu (SessionPhase.DecidingNoteAnswered number command) at turn pending = absurd (cc)
+    by_serving lu (SessionPhase.Painting number command wanted over) at turn pending = absurd (cc)
+    by_serving lu (SessionPhase.AwaitingWriteResponse kind number command) at turn pending = absurd (cc)
+    by_serving lu SessionPhase.OperatorTyping at turn pending = absurd (cc)
+    by_serving lu (SessionPhase.Noting number command) at turn pending = absurd (cc)
+    by_serving lu (SessionPhase.KeySent parts) at turn pending = absurd (cc)
+    by_serving lu (SessionPhase.KeySentAfterResponse kind number command parts) at turn pending = absurd (cc)
+    by_serving lu (SessionPhase.KeyCrossingNote number command parts) at turn pending = absurd (cc)
+    by_serving lu (SessionPhase.KeyBeforeNoteResponse number command parts) at turn pending = absurd (cc)
 
     by_moment : (moment : LinkPhase) → IsAt (view_of link) k.wanted moment → link.up ≡ []
-    by_moment (LinkPhase.Talks talking) at = by_talk talking at (agreed_there link.term.display.model talking link.host.talk at.host_talk agrees)
-    by_moment (LinkPhase.Begins lu number command wanted over) at = absurd (let clash = sym at.turn ∙ turns in cc)
-    by_moment (LinkPhase.Serves lu serving) at = by_serving lu serving at (sym at.turn ∙ turns) (sym at.pending ∙ pends)
+    by_moment (LinkPhase.Negotiating talking) at = by_talk talking at (agreed_there link.term.display.model talking link.host.talk at.host_talk agrees)
+    by_moment (LinkPhase.FirstPaint lu number command wanted over) at = absurd (let clash = sym at.turn ∙ turns in cc)
+    by_moment (LinkPhase.InSession lu serving) at = by_serving lu serving at (sym at.turn ∙ turns) (sym at.pending ∙ pends)
 
 still_unheard : (unheard : Unheard) → may_have_changed unheard ≡ true → may_have_changed (unheard_next unheard) ≡ true
 still_unheard unheards.Nothing any = absurd (cc)
@@ -144,33 +144,33 @@ may_note_when whose.Terminal (Pending.Reading number) agreed may = absurd (cc)
 may_note_when whose.Terminal (Pending.Noting number command) agreed may = absurd (cc)
 may_note_when whose.Host pending agreed may = absurd (cc)
 
-module _ (given : LowerLaws) (app : Application) (is : IsApplication app) (lu : List ℕ) (t : ReportedLink) (s : Simulated app lu t) where
+module _ (given : LowerLaws) (app : Application) (is : IsApplication app) (lu : List ℕ) (t : LinkWithReport) (s : Simulated app lu t) where
   abbrev end : Link
   end = s.told
 
   abbrev may_act_now : Bool
   may_act_now = may_act end.host.turn end.host.pending (is_agreed end.host.talk.state)
 
-  abbrev sends_so : Option Sent → ReportedLink
+  abbrev sends_so : Option Sent → LinkWithReport
   sends_so sending = record t { link = host_sent sending t.link }
 
   -- both ends send this
-  both_send : (sending : Sent) → Kept app (view_of (host_sent (Some sending) end)) → sending.conn.talk ≡ end.host.talk → may_have_changed sending.conn.unheard ≡ true → Extras sending.conn.turn sending.conn.pending end.up t.link.up
+  both_send : (sending : Sent) → ConnectionInvariant app (view_of (host_sent (Some sending) end)) → sending.conn.talk ≡ end.host.talk → may_have_changed sending.conn.unheard ≡ true → AddsSecondKeys sending.conn.turn sending.conn.pending end.up t.link.up
       → Simulated app lu (sends_so (Some sending))
   both_send sending kept talk any up =
       still_simulated app lu t s (host_sent (Some sending) end) (host_sent (Some sending) t.link) refl refl refl refl kept talk any refl s.simulates.lost
       (ap (λ (lost : Bool). sent lost t.link.down (sending.message ∷ [])) s.simulates.lost ∙ ap (λ (down : List ToTerminal). sent end.lost down (sending.message ∷ [])) s.simulates.down) up
 
   -- an act
-  both_act : (act : Act) → may_act_now ≡ true → Kept app (view_of (host_sent (Some (done app end.host act)) end)) → Simulated app lu (sends_so (Some (done app end.host act)))
+  both_act : (act : Act) → may_act_now ≡ true → ConnectionInvariant app (view_of (host_sent (Some (done app end.host act)) end)) → Simulated app lu (sends_so (Some (done app end.host act)))
   both_act act may kept =
       let when = may_act_when end.host.turn end.host.pending (is_agreed end.host.talk.state) may in
       let none : end.up ≡ [] = nothing_up app end s.kept (agrees_now s) when.0 when.1 in
       let sending : Sent = done app end.host act in
       both_send sending kept (act_talk app end.host act) (act_unheard app end.host act s.any)
-      (subst (λ (told : List ToHost). Extras sending.conn.turn sending.conn.pending told t.link.up) (sym none)
+      (subst (λ (told : List ToHost). AddsSecondKeys sending.conn.turn sending.conn.pending told t.link.up) (sym none)
       (only_extras end.host.turn sending.conn.turn end.host.pending sending.conn.pending t.link.up (act_drops app end.host act when.0)
-      (subst (λ (told : List ToHost). Extras end.host.turn end.host.pending told t.link.up) none s.simulates.up)))
+      (subst (λ (told : List ToHost). AddsSecondKeys end.host.turn end.host.pending told t.link.up) none s.simulates.up)))
 
   pub acts_still : Simulated app lu (sends_so (acted app t.link.host))
   acts_still =
@@ -178,7 +178,7 @@ module _ (given : LowerLaws) (app : Application) (is : IsApplication app) (lu : 
       (by_may may_act_now refl (decision_on app end.host end.host.turn_reason) (acts given app is end s.kept))
     where
       by_may : (may : Bool) → may_act_now ≡ may → (decision : Decision)
-          → Kept app (view_of (host_sent (option_and_then (decided app end.host) (if may then Some decision else None)) end)) → Simulated app lu (sends_so (option_and_then (decided app end.host) (if may then Some decision else None)))
+          → ConnectionInvariant app (view_of (host_sent (option_and_then (decided app end.host) (if may then Some decision else None)) end)) → Simulated app lu (sends_so (option_and_then (decided app end.host) (if may then Some decision else None)))
       by_may true may (Decision.Do act) kept = both_act act may kept
       by_may true may Decision.Asks kept = s
       by_may false may decision kept = s
@@ -191,7 +191,7 @@ module _ (given : LowerLaws) (app : Application) (is : IsApplication app) (lu : 
       act : Act
       act = act_by app end.host said said.panel
 
-      by_open : (asked : Bool) → is_asking app end.host ≡ asked → (there : Bool) → Kept app (view_of (host_sent (if asked && there then Some (done app end.host act) else None) end))
+      by_open : (asked : Bool) → is_asking app end.host ≡ asked → (there : Bool) → ConnectionInvariant app (view_of (host_sent (if asked && there then Some (done app end.host act) else None) end))
           → Simulated app lu (sends_so (if asked && there then Some (done app end.host act) else None))
       by_open true open_now true kept = both_act act (asking_parts app end.host open_now).0 kept
       by_open true open_now false kept = s
@@ -203,15 +203,15 @@ module _ (given : LowerLaws) (app : Application) (is : IsApplication app) (lu : 
       (by_may (may_note end.host.turn end.host.pending (is_agreed end.host.talk.state)) refl (notes app text is_text end s.kept))
     where
       by_may : (may : Bool) → may_note end.host.turn end.host.pending (is_agreed end.host.talk.state) ≡ may
-          → Kept app (view_of (host_sent (if may then Some (noted_as text end.host) else None) end)) → Simulated app lu (sends_so (if may then Some (noted_as text end.host) else None))
+          → ConnectionInvariant app (view_of (host_sent (if may then Some (noted_as text end.host) else None) end)) → Simulated app lu (sends_so (if may then Some (noted_as text end.host) else None))
       by_may false may kept = s
       by_may true may kept =
           let when = may_note_when end.host.turn end.host.pending (is_agreed end.host.talk.state) may in
           let command = note_command end.host.size text in
           both_send (noted_as text end.host) kept refl s.any
-          (subst (λ (turn : Turn). Extras turn (Pending.Noting end.host.next_seq command) end.up t.link.up) (sym when.0)
+          (subst (λ (turn : Turn). AddsSecondKeys turn (Pending.Noting end.host.next_seq command) end.up t.link.up) (sym when.0)
           (noted_extras end.host.next_seq command end.up t.link.up
-          (subst (λ (turn : Turn). Extras turn Pending.Nothing end.up t.link.up) when.0 (subst (λ (pending : Pending). Extras end.host.turn pending end.up t.link.up) when.1 s.simulates.up))))
+          (subst (λ (turn : Turn). AddsSecondKeys turn Pending.Nothing end.up t.link.up) when.0 (subst (λ (pending : Pending). AddsSecondKeys end.host.turn pending end.up t.link.up) when.1 s.simulates.up))))
 
   pub loses_still : Simulated app lu (record t { link = cut t.link })
   loses_still = still_simulated app lu t s (cut end) (cut t.link) refl refl refl refl (loses app (view_of end) s.kept) refl s.any s.simulates.host refl s.simulates.down s.simulates.up

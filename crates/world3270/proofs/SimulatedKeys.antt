@@ -1,7 +1,7 @@
 -- Whatever an operator does by the rules, but Clear in the wait: the waiting terminal takes it in his turn, and nothing of it in the wait.
 use Rattle.std.proofs.Common.{◌≡◌, ◌<◌, ◌||◌, Bool, true, false, ℕ, List, [], length, refl, ap, sym, subst, ◌∙◌, if◌then◌else◌}
 use Rattle.std.specs.Prelude.{is_some}
-use Rattle.codes3270.specs.Size.{Shape}
+use Rattle.codes3270.specs.Size.{ScreenSize}
 use Rattle.codes3270.specs.declared.attention.Aid.{Aid}
 use Rattle.codes3270.specs.declared.attention.Aid.TheVariants.{NoAid, Enter, Clear, Pf, Pa}
 use Rattle.codes3270.specs.declared.attribute.Cell.{Cell}
@@ -15,7 +15,7 @@ use Rattle.keyboard.specs.declared.key.Lock.TheVariants.{Free, Wait, Error}
 use Rattle.keyboard.specs.declared.key.Pressed.TheVariants.{Send}
 use Rattle.host_core.specs.Application.{Application}
 use Rattle.host_core.specs.Messages.{ToHost}
-use Rattle.world3270.specs.statement.EveryTerminal.{ReportedLink, key_pressed, operated}
+use Rattle.world3270.specs.statement.EveryTerminal.{LinkWithReport, key_pressed, operated}
 use Rattle.world3270.specs.refinement.LowerLaws.{LowerLaws}
 use Rattle.world3270.specs.model.Link.{Link, sent, term_stepped}
 use Rattle.world3270.specs.model.Enabled.{is_queued}
@@ -24,7 +24,7 @@ use Rattle.world3270.specs.model.Terminal.{Display, TermStep, bound_to, data_of,
 use Rattle.world3270.proofs.Keys.{types_now}
 use Rattle.world3270.proofs.Queues.{nothing_sent}
 use Rattle.world3270.proofs.RuleKeys.{edited_link, edits_kept, sends_kept, sent_link, with_aid-aid, with_aid-cursor, with_aid-whole}
-use Rattle.world3270.proofs.SecondKeys.{Extras, IsSecondKey, extra_last, is_key, waits_drop}
+use Rattle.world3270.proofs.SecondKeys.{AddsSecondKeys, IsSecondKey, extra_last, is_key, waits_drop}
 use Rattle.world3270.proofs.Sent.{key_aid, key_form}
 use Rattle.world3270.proofs.Simulation.{Simulated, both_say, is_waiting, since_same}
 
@@ -47,7 +47,7 @@ or_again : (one more other : Bool) → ((one || more) || other) ≡ (one || (mor
 or_again true more other = refl
 or_again false more other = refl
 
-module _ (given : LowerLaws) (app : Application) (lu : List ℕ) (t : ReportedLink) (s : Simulated app lu t) where
+module _ (given : LowerLaws) (app : Application) (lu : List ℕ) (t : LinkWithReport) (s : Simulated app lu t) where
   abbrev told : Link
   told = s.told
 
@@ -55,12 +55,12 @@ module _ (given : LowerLaws) (app : Application) (lu : List ℕ) (t : ReportedLi
   now = t.link
 
   -- nothing is sent
-  silent_up : Extras told.host.turn told.host.pending told.up (sent now.lost now.up [])
-  silent_up = subst (λ (up : List ToHost). Extras told.host.turn told.host.pending told.up up) (sym (nothing_sent now.lost now.up)) s.simulates.up
+  silent_up : AddsSecondKeys told.host.turn told.host.pending told.up (sent now.lost now.up [])
+  silent_up = subst (λ (up : List ToHost). AddsSecondKeys told.host.turn told.host.pending told.up up) (sym (nothing_sent now.lost now.up)) s.simulates.up
 
   -- ---- in the operator's turn
 
-  abbrev typed : TermStep → ReportedLink
+  abbrev typed : TermStep → LinkWithReport
   typed step = record { link = term_stepped step now.down now; told = step.end.display; waits = is_queued step.sends }
 
   edits_typing : (told.term.display.keyboard.lock ≡ Wait → ⊥) → (keyboard : Keyboard) (cells : List Cell) (cursor : ℕ) (erases : Bool) → KeptByKeys erases now.term.display.screen.cells cells → cursor < length cells
@@ -85,7 +85,7 @@ module _ (given : LowerLaws) (app : Application) (lu : List ℕ) (t : ReportedLi
           lost = s.simulates.lost;
           down = s.simulates.down;
           talk = s.simulates.talk;
-          up = subst (λ (up : List ToHost). Extras told.host.turn told.host.pending up (sent now.lost now.up [])) (sym (nothing_sent told.lost told.up)) silent_up;
+          up = subst (λ (up : List ToHost). AddsSecondKeys told.host.turn told.host.pending up (sent now.lost now.up [])) (sym (nothing_sent told.lost told.up)) silent_up;
           since = since_same given end.term.display link.term.display (ap (λ (d : Display). record (edited cells cursor erases d) { keyboard = keyboard }) same) on;
         };
       }
@@ -117,7 +117,7 @@ module _ (given : LowerLaws) (app : Application) (lu : List ℕ) (t : ReportedLi
           lost = s.simulates.lost;
           down = s.simulates.down;
           talk = s.simulates.talk;
-          up = subst (λ (says : List ToHost). Extras told.host.turn told.host.pending (sent told.lost told.up (data_by aid told.term)) (sent now.lost now.up says)) (sym says_so)
+          up = subst (λ (says : List ToHost). AddsSecondKeys told.host.turn told.host.pending (sent told.lost told.up (data_by aid told.term)) (sent now.lost now.up says)) (sym says_so)
               (both_say told now (data_by aid told.term) s.simulates.lost s.simulates.up);
           since = since_same given end.term.display step.end.display (ap (λ (d : Display). record (after_sending aid d) { keyboard = keyboard }) same)
               (subst (λ (size : ℕ). (with_aid aid now.term.display.screen).cursor < size) (sym (with_aid-whole aid now.term.display.screen)) (with_aid-cursor aid now.term.display.screen (length now.term.display.screen.cells) s.simulates.since.cursor));
@@ -126,7 +126,7 @@ module _ (given : LowerLaws) (app : Application) (lu : List ℕ) (t : ReportedLi
 
   -- ---- in the wait
 
-  abbrev untold : TermStep → ReportedLink
+  abbrev untold : TermStep → LinkWithReport
   untold step = record { link = term_stepped step now.down now; told = t.told; waits = true }
 
   edits_waiting : told.term.display.keyboard.lock ≡ Wait → (keyboard : Keyboard) (cells : List Cell) (cursor : ℕ) (erases : Bool) → KeptByKeys erases now.term.display.screen.cells cells → cursor < length cells
@@ -168,7 +168,7 @@ module _ (given : LowerLaws) (app : Application) (lu : List ℕ) (t : ReportedLi
       → Simulated app lu (untold (shows keyboard (after_sending aid now.term.display) (data_by aid now.term) now.term))
   sends_waiting waits keyboard aid key =
       let since = s.simulates.since in
-      let shape : Shape = now.term.display.size in
+      let shape : ScreenSize = now.term.display.size in
       let screen : Screen = with_aid aid now.term.display.screen in
       record {
         told = told;
@@ -205,8 +205,8 @@ module _ (given : LowerLaws) (app : Application) (lu : List ℕ) (t : ReportedLi
         key = ap is_key (key_aid now.term.display.size (with_aid aid now.term.display.screen) ∙ with_aid-aid aid now.term.display.screen) ∙ key;
       }
 
-      by_bound : (bound lost : Bool) → now.lost ≡ lost → Extras told.host.turn told.host.pending told.up (sent lost now.up (data_of bound (Send aid) now.term.display.size (with_aid aid now.term.display.screen)))
-      by_bound false lost is = subst (λ (up : List ToHost). Extras told.host.turn told.host.pending told.up up) (sym (nothing_sent lost now.up)) s.simulates.up
+      by_bound : (bound lost : Bool) → now.lost ≡ lost → AddsSecondKeys told.host.turn told.host.pending told.up (sent lost now.up (data_of bound (Send aid) now.term.display.size (with_aid aid now.term.display.screen)))
+      by_bound false lost is = subst (λ (up : List ToHost). AddsSecondKeys told.host.turn told.host.pending told.up up) (sym (nothing_sent lost now.up)) s.simulates.up
       by_bound true true is = s.simulates.up
       by_bound true false is =
           extra_last told.host.turn told.host.pending told.up now.up (key_data aid) second
@@ -214,7 +214,7 @@ module _ (given : LowerLaws) (app : Application) (lu : List ℕ) (t : ReportedLi
 
   -- ---- both
 
-  abbrev then_it_is : Bool → TermStep → ReportedLink
+  abbrev then_it_is : Bool → TermStep → LinkWithReport
   then_it_is waits step = record { link = term_stepped step now.down now; told = if waits then t.told else step.end.display; waits = waits || is_queued step.sends }
 
   typing : (told.term.display.keyboard.lock ≡ Wait → ⊥) → (step : TermStep) → Operates now.term step → Simulated app lu (typed step)

@@ -11,14 +11,14 @@ use Rattle.host_core.specs.Session.{agreed_lu, is_agreed}
 use Rattle.host_core.specs.Takes.{may_have_changed}
 use Rattle.tn3270e_msg.specs.declared.host_talk.HostState.{HostState}
 use Rattle.tn3270e_msg.specs.declared.host_talk.HostState.TheVariants.{Offered, Asked, Asking, Named, Countered, Agreed, Closed}
-use Rattle.world3270.specs.statement.EveryTerminal.{ReportedLink}
+use Rattle.world3270.specs.statement.EveryTerminal.{LinkWithReport}
 use Rattle.world3270.specs.refinement.LowerLaws.{LowerLaws}
 use Rattle.world3270.specs.model.Link.{Link, sent}
-use Rattle.world3270.specs.refinement.Invariant.{Kept}
+use Rattle.world3270.specs.refinement.Invariant.{ConnectionInvariant}
 use Rattle.world3270.specs.model.Terminal.{Display, TermEnd}
 use Rattle.world3270.specs.refinement.View.{view_of}
 use Rattle.world3270.proofs.Keys.{or_false}
-use Rattle.world3270.proofs.SecondKeys.{Extras, same_more}
+use Rattle.world3270.proofs.SecondKeys.{AddsSecondKeys, same_more}
 
 -- What is displayed at a terminal that doesn't wait differs from what one displays that does in input alone, and only while that one waits.
 pub record Since (told now : Display) : Type 0 where
@@ -40,13 +40,13 @@ since_same given told now is cursor = record {
   cursor = cursor;
 }
 
--- `told`: the link of the terminal that waits
+-- `told`: the connection of the terminal that waits; `now`: that of a terminal that may not wait
 pub record Simulates (told now : Link) : Type 0 where
   pub host : now.host ≡ told.host
   pub lost : now.lost ≡ told.lost
   pub down : now.down ≡ told.down
   pub talk : now.term.talk ≡ told.term.talk
-  pub up : Extras told.host.turn told.host.pending told.up now.up
+  pub up : AddsSecondKeys told.host.turn told.host.pending told.up now.up
   pub since : Since told.term.display now.term.display
 
 abbrev pub is_waiting : Lock → Bool
@@ -54,10 +54,11 @@ is_waiting Wait = true
 is_waiting Free = false
 is_waiting Error = false
 
--- in a session of a host that doesn't rely on the wait
-pub record Simulated (app : Application) (lu : List ℕ) (t : ReportedLink) : Type 0 where
+-- in a session of a host that doesn't rely on the wait; `told`: the connection of a terminal that waits and is at the
+-- same point, with the screen that the host was told
+pub record Simulated (app : Application) (lu : List ℕ) (t : LinkWithReport) : Type 0 where
   pub told : Link
-  pub kept : Kept app (view_of told)
+  pub kept : ConnectionInvariant app (view_of told)
   pub agreed : agreed_lu told.host.talk.state ≡ Some lu
   pub any : may_have_changed told.host.unheard ≡ true
   pub unsure : told.term.waits ≡ false
@@ -77,13 +78,13 @@ has_agreed lu (Named device granted) is = absurd (cc)
 has_agreed lu (Countered device granted) is = absurd (cc)
 has_agreed lu (Closed cause) is = absurd (cc)
 
-pub agrees_now : {app : Application} {lu : List ℕ} {t : ReportedLink} (s : Simulated app lu t) → is_agreed s.told.host.talk.state ≡ true
+pub agrees_now : {app : Application} {lu : List ℕ} {t : LinkWithReport} (s : Simulated app lu t) → is_agreed s.told.host.talk.state ≡ true
 agrees_now {app} {lu} s = has_agreed lu s.told.host.talk.state s.agreed
 
 -- What happens at the host's end, and on the way, leaves what is displayed. `end`: the waiting terminal's link then.
-pub still_simulated : (app : Application) (lu : List ℕ) (t : ReportedLink) (s : Simulated app lu t) (end link : Link) → end.term ≡ s.told.term → link.term ≡ t.link.term → link.term_here ≡ t.link.term_here → link.host_here ≡ t.link.host_here
-    → Kept app (view_of end) → end.host.talk ≡ s.told.host.talk → may_have_changed end.host.unheard ≡ true → link.host ≡ end.host → link.lost ≡ end.lost → link.down ≡ end.down
-    → Extras end.host.turn end.host.pending end.up link.up → Simulated app lu (record t { link = link })
+pub still_simulated : (app : Application) (lu : List ℕ) (t : LinkWithReport) (s : Simulated app lu t) (end link : Link) → end.term ≡ s.told.term → link.term ≡ t.link.term → link.term_here ≡ t.link.term_here → link.host_here ≡ t.link.host_here
+    → ConnectionInvariant app (view_of end) → end.host.talk ≡ s.told.host.talk → may_have_changed end.host.unheard ≡ true → link.host ≡ end.host → link.lost ≡ end.lost → link.down ≡ end.down
+    → AddsSecondKeys end.host.turn end.host.pending end.up link.up → Simulated app lu (record t { link = link })
 still_simulated app lu t s end link end_term link_term term_here host_here kept talk any host lost down up = record {
   told = end;
   kept = kept;
@@ -105,9 +106,9 @@ still_simulated app lu t s end link end_term link_term term_here host_here kept 
 }
 
 -- both ends say this
-pub both_say : (end now : Link) (says : List ToHost) → now.lost ≡ end.lost → Extras end.host.turn end.host.pending end.up now.up → Extras end.host.turn end.host.pending (sent end.lost end.up says) (sent now.lost now.up says)
-both_say end now says lost up = subst (λ (l : Bool). Extras end.host.turn end.host.pending (sent end.lost end.up says) (sent l now.up says)) (sym lost) (by_lost end.lost)
+pub both_say : (end now : Link) (says : List ToHost) → now.lost ≡ end.lost → AddsSecondKeys end.host.turn end.host.pending end.up now.up → AddsSecondKeys end.host.turn end.host.pending (sent end.lost end.up says) (sent now.lost now.up says)
+both_say end now says lost up = subst (λ (l : Bool). AddsSecondKeys end.host.turn end.host.pending (sent end.lost end.up says) (sent l now.up says)) (sym lost) (by_lost end.lost)
   where
-    by_lost : (lost : Bool) → Extras end.host.turn end.host.pending (sent lost end.up says) (sent lost now.up says)
+    by_lost : (lost : Bool) → AddsSecondKeys end.host.turn end.host.pending (sent lost end.up says) (sent lost now.up says)
     by_lost true = up
     by_lost false = same_more end.host.turn end.host.pending end.up now.up says up

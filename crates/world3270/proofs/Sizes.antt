@@ -5,32 +5,32 @@ use Rattle.world3270.specs.statement.Always.{AlwaysOf}
 use Rattle.world3270.specs.refinement.LowerLaws.{LowerLaws}
 use Rattle.world3270.specs.model.Steps.{run}
 use Rattle.world3270.specs.model.Link.{Link}
-use Rattle.world3270.specs.refinement.Phases.{LinkPhase, Serving, pending_at}
+use Rattle.world3270.specs.refinement.Phases.{LinkPhase, SessionPhase, pending_at}
 use Rattle.world3270.specs.refinement.Sizes.{AllSizesAgree, SizesAgree, is_painting}
-use Rattle.world3270.specs.refinement.Invariant.{Kept, may_differ_at}
+use Rattle.world3270.specs.refinement.Invariant.{ConnectionInvariant, may_differ_at}
 use Rattle.world3270.specs.refinement.View.{view_of}
 use Rattle.world3270.specs.model.World.{World, new_world}
 use Rattle.world3270.proofs.Worlds.{run_good, new_good}
 
 -- where no paint waits for its answer none is under way
 steady : (moment : LinkPhase) → is_painting (pending_at moment) ≡ false → may_differ_at moment ≡ false
-steady (LinkPhase.Talks talking) none = refl
-steady (LinkPhase.Begins lu number command wanted over) none = absurd (cc)
-steady (LinkPhase.Serves lu Serving.Deciding) none = refl
-steady (LinkPhase.Serves lu (Serving.Reading number)) none = refl
-steady (LinkPhase.Serves lu (Serving.Reported number parts)) none = refl
-steady (LinkPhase.Serves lu (Serving.NotedLate number command)) none = refl
-steady (LinkPhase.Serves lu (Serving.AnsweredLate number command)) none = refl
-steady (LinkPhase.Serves lu (Serving.Painting number command wanted over)) none = absurd (cc)
-steady (LinkPhase.Serves lu (Serving.Answering kind number command)) none = refl
-steady (LinkPhase.Serves lu Serving.Operating) none = refl
-steady (LinkPhase.Serves lu (Serving.Noting number command)) none = refl
-steady (LinkPhase.Serves lu (Serving.KeyAlone parts)) none = refl
-steady (LinkPhase.Serves lu (Serving.KeyBehind kind number command parts)) none = refl
-steady (LinkPhase.Serves lu (Serving.KeyNoted number command parts)) none = refl
-steady (LinkPhase.Serves lu (Serving.KeyBefore number command parts)) none = refl
+steady (LinkPhase.Negotiating talking) none = refl
+steady (LinkPhase.FirstPaint lu number command wanted over) none = absurd (cc)
+steady (LinkPhase.InSession lu SessionPhase.Deciding) none = refl
+steady (LinkPhase.InSession lu (SessionPhase.Reading number)) none = refl
+steady (LinkPhase.InSession lu (SessionPhase.BufferReturning number parts)) none = refl
+steady (LinkPhase.InSession lu (SessionPhase.DecidingNoteSent number command)) none = refl
+steady (LinkPhase.InSession lu (SessionPhase.DecidingNoteAnswered number command)) none = refl
+steady (LinkPhase.InSession lu (SessionPhase.Painting number command wanted over)) none = absurd (cc)
+steady (LinkPhase.InSession lu (SessionPhase.AwaitingWriteResponse kind number command)) none = refl
+steady (LinkPhase.InSession lu SessionPhase.OperatorTyping) none = refl
+steady (LinkPhase.InSession lu (SessionPhase.Noting number command)) none = refl
+steady (LinkPhase.InSession lu (SessionPhase.KeySent parts)) none = refl
+steady (LinkPhase.InSession lu (SessionPhase.KeySentAfterResponse kind number command parts)) none = refl
+steady (LinkPhase.InSession lu (SessionPhase.KeyCrossingNote number command parts)) none = refl
+steady (LinkPhase.InSession lu (SessionPhase.KeyBeforeNoteResponse number command parts)) none = refl
 
-agree : (app : Application) (link : Link) → Kept app (view_of link) → SizesAgree app link
+agree : (app : Application) (link : Link) → ConnectionInvariant app (view_of link) → SizesAgree app link
 agree app link k = record {
   host = k.sizes.host;
   screen = k.sizes.screen;

@@ -6,7 +6,7 @@ use Rattle.host_core.specs.Acts.{Sent}
 use Rattle.host_core.specs.Application.{Application}
 use Rattle.host_core.specs.Does.{Does as HostDoes, DoesAnswer}
 use Rattle.host_core.specs.KeepAlive.{kept_alive, kept_alive_answer, may_keep_alive, with_nop}
-use Rattle.host_core.specs.State.{Host, Connection, Service, unused, connection_at, with_connection, most_connections, phase_of, service_at}
+use Rattle.host_core.specs.State.{Host, Connection, Service, unused, connection_at, with_connection, most_connections, phase_of, state_at}
 use Rattle.host_core.specs.declared.phase.Phase.TheVariants as phase
 use Rattle.host_core.specs.declared.acted.Acted.{Acted}
 use Rattle.host_core.specs.declared.question.Answer.{Answer as ApplicationAnswer}
@@ -114,9 +114,9 @@ free_there Service.Free e = refl
 free_there (Service.Open rest conn) e = absurd (cc)
 free_there (Service.Closed cause) e = absurd (cc)
 
-pub is_free_there : (number : ℕ) (world : ByteWorld) → is_held number world ≡ false → phase_of (service_at number world.host) ≡ phase.Free
+pub is_free_there : (number : ℕ) (world : ByteWorld) → is_held number world ≡ false → phase_of (state_at number world.host) ≡ phase.Free
 is_free_there number world e =
-    free_there (service_at number world.host) (not_either (host_there number world) (terminal_there number world) e)
+    free_there (state_at number world.host) (not_either (host_there number world) (terminal_there number world) e)
 
 -- ---- the host leaves all
 

@@ -8,7 +8,7 @@ use Rattle.tn3270e_msg.specs.Talk.{Talk}
 use Rattle.tn3270e_msg.specs.TermTable.{Term}
 use Rattle.tn3270e_msg.specs.declared.host_talk.HostState.{HostState}
 use Rattle.host_core.specs.Session.{agreed_lu, is_agreed}
-use Rattle.world3270.specs.refinement.Phases.{IsAgreed, IsHostIn, IsTermTalk, LinkPhase, Talking, term_in_talk, term_state_at}
+use Rattle.world3270.specs.refinement.Phases.{IsAgreed, IsHostIn, IsTermTalk, LinkPhase, NegotiationPhase, term_in_talk, term_state_at}
 use Rattle.world3270.specs.model.Terminal.{bound_to}
 
 -- the device that a terminal of ours asks for has its model
@@ -25,45 +25,45 @@ pub agreed_on : {model : Model} {lu : List ℕ} (talk : Talk HostState) → IsAg
 agreed_on talk a = ap agreed_lu a.state_is
 
 -- while it talks the host has agreed at one moment alone
-pub agreed_there : (model : Model) (talking : Talking) (talk : Talk HostState) → IsHostIn model talking talk → is_agreed talk.state ≡ true → (lu : List ℕ) × (talking ≡ Talking.Agreeing lu)
-agreed_there model (Talking.Agreeing lu) talk is agrees = (lu, refl)
-agreed_there model Talking.Offering talk is agrees = absurd (let wrong = sym (ap (λ (t : Talk HostState). is_agreed t.state) is) ∙ agrees in cc)
-agreed_there model Talking.Accepting talk is agrees = absurd (let wrong = sym (ap (λ (t : Talk HostState). is_agreed t.state) is) ∙ agrees in cc)
-agreed_there model Talking.AskingType talk is agrees = absurd (let wrong = sym (ap (λ (t : Talk HostState). is_agreed t.state) is) ∙ agrees in cc)
-agreed_there model Talking.NamingType talk is agrees = absurd (let wrong = sym (ap (λ (t : Talk HostState). is_agreed t.state) is) ∙ agrees in cc)
-agreed_there model (Talking.Granting lu) talk is agrees = absurd (let wrong = sym (ap (λ (t : Talk HostState). is_agreed t.state) is) ∙ agrees in cc)
-agreed_there model (Talking.AskingFunctions lu) talk is agrees = absurd (let wrong = sym (ap (λ (t : Talk HostState). is_agreed t.state) is) ∙ agrees in cc)
-agreed_there model (Talking.Rejecting reason) talk is agrees = absurd (let wrong = sym (ap (λ (t : Talk HostState). is_agreed t.state) is) ∙ agrees in cc)
-agreed_there model (Talking.Rejected reason) talk is agrees = absurd (let wrong = sym (ap (λ (t : Talk HostState). is_agreed t.state) is) ∙ agrees in cc)
+pub agreed_there : (model : Model) (talking : NegotiationPhase) (talk : Talk HostState) → IsHostIn model talking talk → is_agreed talk.state ≡ true → (lu : List ℕ) × (talking ≡ NegotiationPhase.Agreeing lu)
+agreed_there model (NegotiationPhase.Agreeing lu) talk is agrees = (lu, refl)
+agreed_there model NegotiationPhase.Offering talk is agrees = absurd (let wrong = sym (ap (λ (t : Talk HostState). is_agreed t.state) is) ∙ agrees in cc)
+agreed_there model NegotiationPhase.Accepting talk is agrees = absurd (let wrong = sym (ap (λ (t : Talk HostState). is_agreed t.state) is) ∙ agrees in cc)
+agreed_there model NegotiationPhase.AskingType talk is agrees = absurd (let wrong = sym (ap (λ (t : Talk HostState). is_agreed t.state) is) ∙ agrees in cc)
+agreed_there model NegotiationPhase.NamingType talk is agrees = absurd (let wrong = sym (ap (λ (t : Talk HostState). is_agreed t.state) is) ∙ agrees in cc)
+agreed_there model (NegotiationPhase.Granting lu) talk is agrees = absurd (let wrong = sym (ap (λ (t : Talk HostState). is_agreed t.state) is) ∙ agrees in cc)
+agreed_there model (NegotiationPhase.AskingFunctions lu) talk is agrees = absurd (let wrong = sym (ap (λ (t : Talk HostState). is_agreed t.state) is) ∙ agrees in cc)
+agreed_there model (NegotiationPhase.Rejecting reason) talk is agrees = absurd (let wrong = sym (ap (λ (t : Talk HostState). is_agreed t.state) is) ∙ agrees in cc)
+agreed_there model (NegotiationPhase.Rejected reason) talk is agrees = absurd (let wrong = sym (ap (λ (t : Talk HostState). is_agreed t.state) is) ∙ agrees in cc)
 
 -- the state of the terminal's talk
 pub term_state : (model : Model) (wanted : Option (List ℕ)) (moment : LinkPhase) (term : Term) → IsTermTalk model wanted moment term → term.talk.state ≡ term_state_at moment
-term_state model wanted (LinkPhase.Begins lu number command paints over) term is = is
-term_state model wanted (LinkPhase.Serves lu serving) term is = is
-term_state model wanted (LinkPhase.Talks talking) term is = by_talk talking is
+term_state model wanted (LinkPhase.FirstPaint lu number command paints over) term is = is
+term_state model wanted (LinkPhase.InSession lu serving) term is = is
+term_state model wanted (LinkPhase.Negotiating talking) term is = by_talk talking is
   where
-    by_talk : (talking : Talking) → IsTermTalk model wanted (LinkPhase.Talks talking) term → term.talk.state ≡ term_in_talk talking
-    by_talk (Talking.Agreeing lu) is = is
-    by_talk Talking.Offering is = ap (λ (t : Term). t.talk.state) is
-    by_talk Talking.Accepting is = ap (λ (t : Term). t.talk.state) is
-    by_talk Talking.AskingType is = ap (λ (t : Term). t.talk.state) is
-    by_talk Talking.NamingType is = ap (λ (t : Term). t.talk.state) is
-    by_talk (Talking.Granting lu) is = ap (λ (t : Term). t.talk.state) is
-    by_talk (Talking.AskingFunctions lu) is = ap (λ (t : Term). t.talk.state) is
-    by_talk (Talking.Rejecting reason) is = ap (λ (t : Term). t.talk.state) is
-    by_talk (Talking.Rejected reason) is = ap (λ (t : Term). t.talk.state) is
+    by_talk : (talking : NegotiationPhase) → IsTermTalk model wanted (LinkPhase.Negotiating talking) term → term.talk.state ≡ term_in_talk talking
+    by_talk (NegotiationPhase.Agreeing lu) is = is
+    by_talk NegotiationPhase.Offering is = ap (λ (t : Term). t.talk.state) is
+    by_talk NegotiationPhase.Accepting is = ap (λ (t : Term). t.talk.state) is
+    by_talk NegotiationPhase.AskingType is = ap (λ (t : Term). t.talk.state) is
+    by_talk NegotiationPhase.NamingType is = ap (λ (t : Term). t.talk.state) is
+    by_talk (NegotiationPhase.Granting lu) is = ap (λ (t : Term). t.talk.state) is
+    by_talk (NegotiationPhase.AskingFunctions lu) is = ap (λ (t : Term). t.talk.state) is
+    by_talk (NegotiationPhase.Rejecting reason) is = ap (λ (t : Term). t.talk.state) is
+    by_talk (NegotiationPhase.Rejected reason) is = ap (λ (t : Term). t.talk.state) is
 
 -- a terminal that is bound serves a session
-pub talking_unbound : (model : Model) (wanted : Option (List ℕ)) (talking : Talking) (term : Term) → IsTermTalk model wanted (LinkPhase.Talks talking) term → is_some (bound_to term.talk.state) ≡ true → ⊥
-talking_unbound model wanted talking term is bound = by_talk talking (sym (ap (λ state. is_some (bound_to state)) (term_state model wanted (LinkPhase.Talks talking) term is)) ∙ bound)
+pub talking_unbound : (model : Model) (wanted : Option (List ℕ)) (talking : NegotiationPhase) (term : Term) → IsTermTalk model wanted (LinkPhase.Negotiating talking) term → is_some (bound_to term.talk.state) ≡ true → ⊥
+talking_unbound model wanted talking term is bound = by_talk talking (sym (ap (λ state. is_some (bound_to state)) (term_state model wanted (LinkPhase.Negotiating talking) term is)) ∙ bound)
   where
-    by_talk : (talking : Talking) → is_some (bound_to (term_in_talk talking)) ≡ true → ⊥
-    by_talk Talking.Offering bound = absurd (cc)
-    by_talk Talking.Accepting bound = absurd (cc)
-    by_talk Talking.AskingType bound = absurd (cc)
-    by_talk Talking.NamingType bound = absurd (cc)
-    by_talk (Talking.Granting lu) bound = absurd (cc)
-    by_talk (Talking.AskingFunctions lu) bound = absurd (cc)
-    by_talk (Talking.Agreeing lu) bound = absurd (cc)
-    by_talk (Talking.Rejecting reason) bound = absurd (cc)
-    by_talk (Talking.Rejected reason) bound = absurd (cc)
+    by_talk : (talking : NegotiationPhase) → is_some (bound_to (term_in_talk talking)) ≡ true → ⊥
+    by_talk NegotiationPhase.Offering bound = absurd (cc)
+    by_talk NegotiationPhase.Accepting bound = absurd (cc)
+    by_talk NegotiationPhase.AskingType bound = absurd (cc)
+    by_talk NegotiationPhase.NamingType bound = absurd (cc)
+    by_talk (NegotiationPhase.Granting lu) bound = absurd (cc)
+    by_talk (NegotiationPhase.AskingFunctions lu) bound = absurd (cc)
+    by_talk (NegotiationPhase.Agreeing lu) bound = absurd (cc)
+    by_talk (NegotiationPhase.Rejecting reason) bound = absurd (cc)
+    by_talk (NegotiationPhase.Rejected reason) bound = absurd (cc)

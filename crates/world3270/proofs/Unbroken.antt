@@ -11,7 +11,7 @@ use Rattle.telnet_wire.specs.Reading.{nothing}
 use Rattle.tn3270e_msg.specs.Header.{negative, record_limit, type_code}
 use Rattle.tn3270e_msg.specs.declared.header.DataType.TheVariants.{Data3270, Response}
 use Rattle.tn3270e_msg.specs.declared.cause.Cause.{Cause}
-use Rattle.tn3270e_msg.specs.Talk.{Saying}
+use Rattle.tn3270e_msg.specs.Talk.{NegotiationMessage}
 use Rattle.lu_pool.specs.Asking.{answer_to}
 use Rattle.term_core.specs.Says.{response, outcome_flag}
 use Rattle.term_core.specs.declared.outcome.Outcome.{Outcome}
@@ -25,7 +25,7 @@ use Rattle.world3270.specs.model.Steps.{came_down, came_up, closed_if, done, ste
 use Rattle.world3270.specs.refinement.MessageLaws.{MessageLaws, WorldLaws}
 use Rattle.world3270.specs.model.Link.{Link, host_left_if, host_stepped, sent, term_left_if, term_stepped}
 use Rattle.world3270.specs.model.Enabled.{is_enabled}
-use Rattle.world3270.specs.refinement.Refines.{Begin, IsBegin, Reached, GoesOn, StepsGoOn, after}
+use Rattle.world3270.specs.refinement.Refines.{WorldSetup, IsWorldSetup, Reached, GoesOn, StepsAreSimulated, after}
 use Rattle.world3270.specs.refinement.Sendable.{IsWellFormed}
 use Rattle.world3270.specs.refinement.Representation.{link_of}
 use Rattle.world3270.specs.refinement.Represents.{RepresentsUp, without_nops}
@@ -133,7 +133,7 @@ down_leaves app number world none other = by_place (is_enabled app (Event.Down n
     by_place false none = same (world.link other)
 
 -- so does an event that happens again and again
-all_stay : WorldLaws → (begin : Begin) → IsBegin begin → (event : Event) → IsEvent event → IsWellFormed event → LeavesEnds (application_of begin.panels) event
+all_stay : WorldLaws → (begin : WorldSetup) → IsWorldSetup begin → (event : Event) → IsEvent event → IsWellFormed event → LeavesEnds (application_of begin.panels) event
     → (count : ℕ) (events : List Event) → AreEvents events → All IsWellFormed events → (other : ℕ)
     → Stays ((after begin events).link other) ((after begin (events ++ replicate count event)).link other)
 all_stay known begin is event real typed leaves zero events are all other =
@@ -155,7 +155,7 @@ all_stay known begin is event real typed leaves (suc count) events are all other
 -- ---- over bytes
 
 module _ (known : WorldLaws) where
-  ends_stay : (begin : Begin) (events : List Event) (old new : ByteWorld) → IsBegin begin → Reached begin events old → (event : Event) (more : List Event)
+  ends_stay : (begin : WorldSetup) (events : List Event) (old new : ByteWorld) → IsWorldSetup begin → Reached begin events old → (event : Event) (more : List Event)
       → IsEvent event → IsWellFormed event → LeavesEnds (application_of begin.panels) event → (count : ℕ) → more ≡ replicate count event → Reached begin (events ++ more) new
       → (number : ℕ) → SameEnds number old new
   ends_stay begin events old new is before event more real typed leaves count repeats reached number =
@@ -170,19 +170,19 @@ module _ (known : WorldLaws) where
       }
 
   -- bytes that come leave all at their ends
-  pub up_same : (begin : Begin) (events : List Event) (at count : ℕ) (old : ByteWorld) (answer : Stepped) (new : ByteWorld) → IsBegin begin → Reached begin events old
+  pub up_same : (begin : WorldSetup) (events : List Event) (at count : ℕ) (old : ByteWorld) (answer : Stepped) (new : ByteWorld) → IsWorldSetup begin → Reached begin events old
       → GoesOn begin events (event.Up at count) old answer new → (number : ℕ) → SameEnds number old new
   up_same begin events at count old answer new is reached goes number =
       ends_stay begin events old new is reached (Event.Up at) goes.more tt tt (up_leaves (application_of begin.panels) at) (length goes.comes_to.completed)
       goes.comes_to.one_each goes.reached number
 
-  pub down_same : (begin : Begin) (events : List Event) (at count : ℕ) (old : ByteWorld) (answer : Stepped) (new : ByteWorld) → IsBegin begin → Reached begin events old
+  pub down_same : (begin : WorldSetup) (events : List Event) (at count : ℕ) (old : ByteWorld) (answer : Stepped) (new : ByteWorld) → IsWorldSetup begin → Reached begin events old
       → GoesOn begin events (event.Down at count) old answer new → (number : ℕ) → SameEnds number old new
   down_same begin events at count old answer new is reached goes number =
       ends_stay begin events old new is reached (Event.Down at) goes.more tt tt (down_leaves (application_of begin.panels) at) (length (without_nops goes.comes_to.completed))
       goes.comes_to.one_each goes.reached number
 
-module _ (known : WorldLaws) (goes : StepsGoOn) where
+module _ (known : WorldLaws) (goes : StepsAreSimulated) where
   pub deliveries_close_nothing : DeliveriesCloseNothing
   deliveries_close_nothing (event.Up at count) old answer new is delivery steps number =
       up_same known is.begin is.events at count old answer new is.is_begin is.reached
@@ -222,8 +222,8 @@ carried_out DeviceEnd e = refl
 carried_out (Refused sense) e = absurd (cc)
 
 says_done : (sequence : ℕ) (outcome : Outcome) (message : ToHost) → RepresentsUp (response sequence outcome) message → is_refusal message ≡ false → outcome ≡ DeviceEnd
-says_done sequence outcome (ToHost.TalksUp (Saying.Opt verb code)) stands none = absurd (cc)
-says_done sequence outcome (ToHost.TalksUp (Saying.Sub sending)) stands none = absurd (cc)
+says_done sequence outcome (ToHost.TalksUp (NegotiationMessage.Opt verb code)) stands none = absurd (cc)
+says_done sequence outcome (ToHost.TalksUp (NegotiationMessage.Sub sending)) stands none = absurd (cc)
 says_done sequence outcome (ToHost.Data parts) stands none =
     let kinds : type_code Response ≡ type_code Data3270 = ap (λ (i : WireItem). first_of (bytes_of i)) stands.2 in absurd (cc)
 says_done sequence outcome (ToHost.Response number Verdict.Positive) stands none =
@@ -246,15 +246,15 @@ among sequence outcome (item ∷ before) behind (message ∷ messages) pairs non
 
 -- a negative response begins as one
 first_is : (item : WireItem) (is : IsNegativeResponse item) → first_of (bytes_of item) ≡ type_code Response
-first_is item is = ap (λ (i : WireItem). first_of (bytes_of i)) is.is_record ∙ ap first_of is.begins.spelt ∙ ap type_code is.kind
+first_is item is = ap (λ (i : WireItem). first_of (bytes_of i)) is.is_record ∙ ap first_of is.begins.encoded ∙ ap type_code is.kind
 
 third_is : (item : WireItem) (is : IsNegativeResponse item) → third_of (bytes_of item) ≡ negative
-third_is item is = ap (λ (i : WireItem). third_of (bytes_of i)) is.is_record ∙ ap third_of is.begins.spelt ∙ is.flag
+third_is item is = ap (λ (i : WireItem). third_of (bytes_of i)) is.is_record ∙ ap third_of is.begins.encoded ∙ is.flag
 
 -- no item that represents a message other than a refusal is one
 not_negative : (item : WireItem) (message : ToHost) → RepresentsUp item message → is_refusal message ≡ false → IsNotNegative item
-not_negative item (ToHost.TalksUp (Saying.Opt verb code)) stands none = λ is. absurd (let both = sym stands ∙ is.is_record in cc)
-not_negative item (ToHost.TalksUp (Saying.Sub sending)) stands none = λ is. absurd (let both = sym stands ∙ is.is_record in cc)
+not_negative item (ToHost.TalksUp (NegotiationMessage.Opt verb code)) stands none = λ is. absurd (let both = sym stands ∙ is.is_record in cc)
+not_negative item (ToHost.TalksUp (NegotiationMessage.Sub sending)) stands none = λ is. absurd (let both = sym stands ∙ is.is_record in cc)
 not_negative item (ToHost.Data parts) stands none = λ is.
     let kinds : type_code Response ≡ type_code Data3270 = sym (first_is item is) ∙ ap (λ (i : WireItem). first_of (bytes_of i)) stands.2 in absurd (cc)
 not_negative item (ToHost.Response number Verdict.Positive) stands none = λ is.
@@ -289,7 +289,7 @@ under_way_refuses_nothing known begin events bytes number is reached =
     record {
       read = stands.read;
       holds = λ there. sym (stands.host (sym stands.host_here ∙ there)).rest_is;
-      spelt = stands.up;
+      encoded = stands.up;
       carried_out = λ sequence outcome before behind among_them.
           among sequence outcome before behind ((after begin events).link number).up
           (subst (λ (items : List WireItem). Pairwise RepresentsUp items ((after begin events).link number).up) among_them stands.up.each) none;

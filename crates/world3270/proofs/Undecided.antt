@@ -11,7 +11,7 @@ use Rattle.host_core.specs.Application.{Application, application_of}
 use Rattle.host_core.specs.Messages.{ToTerminal, ToHost}
 use Rattle.host_core.specs.Notes.{noted}
 use Rattle.host_core.specs.Questions.{answered_on}
-use Rattle.host_core.specs.State.{service_at}
+use Rattle.host_core.specs.State.{state_at}
 use Rattle.host_core.specs.Takes.{Answers, HostStep, took as host_took}
 use Rattle.host_core.specs.declared.question.Answer.{Answer as ApplicationAnswer}
 use Rattle.host_core.specs.declared.question.Ticket.{Ticket}
@@ -20,7 +20,7 @@ use Rattle.world3270.specs.model.ByteWorld.{ByteWorld, is_there}
 use Rattle.world3270.specs.model.Steps.{came_down, came_up, done, stepped_by, joined, key_went, run, term_anew, term_saw, went_down}
 use Rattle.world3270.specs.model.Link.{Link, cut, host_left, host_left_if, host_sent, host_stepped, is_free, sent, term_left, term_left_if, term_stepped}
 use Rattle.world3270.specs.model.Enabled.{free_number, is_enabled}
-use Rattle.world3270.specs.refinement.Refines.{AreReal, Begin, GoesOn, IsBegin, IsReal, Reached, SkipsAreThose, StepsGoOn, after, once, once_taken}
+use Rattle.world3270.specs.refinement.Refines.{AreValidEvents, WorldSetup, GoesOn, IsWorldSetup, IsValidEvent, Reached, SameSkips, StepsAreSimulated, after, once, once_taken}
 use Rattle.world3270.specs.statement.ScreensFound.{HostRestsOver, decides_over}
 use Rattle.world3270.specs.statement.ShownSince.{DecidesNothing, HostRests}
 use Rattle.world3270.specs.refinement.Represents.{all_items, without_nops}
@@ -178,12 +178,12 @@ module _ (app : Application) (Holds : Link → Type 0) (keeps : Keeps Holds) (nu
 -- ---- one event over bytes
 
 -- it holds of the connection over messages that this one represents
-pub record HoldsAt (Holds : Link → Type 0) (number : ℕ) (begin : Begin) (bytes : ByteWorld) : Type 0 where
+pub record HoldsAt (Holds : Link → Type 0) (number : ℕ) (begin : WorldSetup) (bytes : ByteWorld) : Type 0 where
   pub events : List Event
   pub reached : Reached begin events bytes
   pub holds : Holds ((after begin events).link number)
 
-module _ (skips : SkipsAreThose) (begin : Begin) (is : IsBegin begin) (Holds : Link → Type 0) (keeps : Keeps Holds) (number : ℕ) (events : List Event) (old : ByteWorld) (answer : Stepped)
+module _ (skips : SameSkips) (begin : WorldSetup) (is : IsWorldSetup begin) (Holds : Link → Type 0) (keeps : Keeps Holds) (number : ℕ) (events : List Event) (old : ByteWorld) (answer : Stepped)
     (new : ByteWorld) (reached : Reached begin events old) (here : IsHere ((after begin events).link number)) (holds : Holds ((after begin events).link number)) where
   -- what these events leave
   abbrev Leave : List Event → Type 0
@@ -238,8 +238,8 @@ module _ (skips : SkipsAreThose) (begin : Begin) (is : IsBegin begin) (Holds : L
   leaves (event.RestartTerm terminal) none steps goes = other_holds (Event.RestartTerm terminal) refl goes.more goes.comes_to
   leaves event.RestartHost none steps goes = other_holds Event.RestartHost refl goes.more goes.comes_to
 
-module _ (go : StepsGoOn) (skips : SkipsAreThose) (begin : Begin) (is : IsBegin begin) (Holds : Link → Type 0) (keeps : Keeps Holds) (number : ℕ) where
-  pub step_holds : (it : ByteEvent) (old : ByteWorld) (answer : Stepped) (new : ByteWorld) → IsReal it → Steps it old answer new → is_there (service_at number old.host) ≡ true → DecidesNothing number it old
+module _ (go : StepsAreSimulated) (skips : SameSkips) (begin : WorldSetup) (is : IsWorldSetup begin) (Holds : Link → Type 0) (keeps : Keeps Holds) (number : ℕ) where
+  pub step_holds : (it : ByteEvent) (old : ByteWorld) (answer : Stepped) (new : ByteWorld) → IsValidEvent it → Steps it old answer new → is_there (state_at number old.host) ≡ true → DecidesNothing number it old
       → HoldsAt Holds number begin old → HoldsAt Holds number begin new
   step_holds it old answer new real steps there none at =
       let goes = go begin at.events it old answer new is at.reached real steps in
@@ -251,7 +251,7 @@ module _ (go : StepsGoOn) (skips : SkipsAreThose) (begin : Begin) (is : IsBegin 
       }
 
   -- and so after events by which the host decides nothing there
-  pub rests_hold : (events : List ByteEvent) (old new : ByteWorld) → AreReal events → HostRests number events old new → HoldsAt Holds number begin old → HoldsAt Holds number begin new
+  pub rests_hold : (events : List ByteEvent) (old new : ByteWorld) → AreValidEvents events → HostRests number events old new → HoldsAt Holds number begin old → HoldsAt Holds number begin new
   rests_hold [] old new real rests at = subst (HoldsAt Holds number begin) (sym rests) at
   rests_hold (it ∷ events) old new real rests at =
       rests_hold events rests.1 new real.1 rests.5 (step_holds it old rests.0 rests.1 real.0 rests.2 rests.3 rests.4 at)

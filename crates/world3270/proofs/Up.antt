@@ -2,7 +2,7 @@
 use Rattle.std.proofs.Common.{◌≡◌, ℕ, Bool, true, false, Option, None, Some, Result, Ok, Err, List, [], ◌∷◌, ◌++◌, refl, ap, sym, subst, ◌∙◌, IsOkAnd, IfOk}
 use Rattle.tn3270e_msg.specs.Device.{device_for}
 use Rattle.codes3270.specs.declared.size.Model.{Model}
-use Rattle.codes3270.specs.Size.{Shape, cells_in}
+use Rattle.codes3270.specs.Size.{ScreenSize, cells_in}
 use Rattle.codes3270.specs.declared.attention.Aid.{Aid}
 use Rattle.codes3270.specs.declared.attention.Aid.TheVariants.{NoAid, Enter, Clear, Pf, Pa}
 use Rattle.datastream.specs.Grammar.{CommandParts}
@@ -29,7 +29,7 @@ use Rattle.shadow.specs.declared.fault.HeardFault.TheVariants.{Contradiction}
 use Rattle.telnet_wire.specs.declared.wire.Verb.TheVariants.{Will}
 use Rattle.tn3270e_msg.specs.HostTable.{host_transition, answer_transition, request_transition, named_transition, granted}
 use Rattle.tn3270e_msg.specs.Message.{Connect}
-use Rattle.tn3270e_msg.specs.Talk.{Comes, Talk, start_at, follow, IsLuIfSome, Saying, says}
+use Rattle.tn3270e_msg.specs.Talk.{Comes, Talk, start_at, follow, IsLuIfSome, NegotiationMessage, says}
 use Rattle.tn3270e_msg.specs.TermTable.{Term}
 use Rattle.tn3270e_msg.specs.declared.host_talk.HostState.{HostState}
 use Rattle.tn3270e_msg.specs.declared.host_talk.HostState.TheVariants.{Offered, Asked, Asking, Named, Closed as HostClosed}
@@ -51,9 +51,9 @@ use Rattle.std.specs.Prelude.{All, map, unwrap_or, if◌then◌else◌}
 use Rattle.std.proofs.lemmas.List.Elements.{All-nil, All-cons}
 use Rattle.world3270.specs.refinement.LowerLaws.{LowerLaws}
 use Rattle.world3270.specs.model.Link.{Link, sent}
-use Rattle.world3270.specs.refinement.Phases.{Kind, awaiting, Talking, Serving, LinkPhase, UnderWay, IsAgreed, IsAt, IsHostTalk, IsTermTalk, host_in_talk, turn_at, pending_at, down_at, up_at, served_down, served_up}
+use Rattle.world3270.specs.refinement.Phases.{Kind, awaiting, NegotiationPhase, SessionPhase, LinkPhase, IsInFlight, IsAgreed, IsAt, IsHostTalk, IsTermTalk, host_in_talk, turn_at, pending_at, down_at, up_at, served_down, served_up}
 use Rattle.world3270.specs.statement.TurnReasons.{IsOccasion, IsCursorFor, IsOpenBy, IsOpenFor}
-use Rattle.world3270.specs.refinement.Invariant.{local_state_of, once_taken, FactsAreExact, MayBeGranted, Sees, IsPressed, WillBeHeard, IsReported, Fact, Kept, Sizes, IsTextKnown, IsKnownIfRead, IsUnread, ShownAt}
+use Rattle.world3270.specs.refinement.Invariant.{local_state_of, once_taken, FactsAreExact, MayBeGranted, Sees, IsPressed, WillBeHeard, IsReported, Fact, ConnectionInvariant, Sizes, IsTextKnown, IsKnownIfRead, IsUnread, ShownAt}
 use Rattle.world3270.specs.refinement.View.{view_of}
 use Rattle.world3270.proofs.OneOfMany.{same_number}
 use Rattle.world3270.proofs.Queues.{more, front, nothing}
@@ -73,7 +73,7 @@ pub data Grants (pool : List Entry) (old : Session) (step : HostStep) : Type 0 w
   one : (name : Option (List ℕ)) (lu : List ℕ) → step.grants ≡ Some lu → claim step.conn ≡ Some lu → answer_to pool name ≡ Ok lu → Grants pool old step
 
 pub record Answered (app : Application) (pool : List Entry) (link : Link) (rest : List ToHost) (step : HostStep) : Type 0 where
-  pub kept : Kept app (view_of (host_view step rest link))
+  pub kept : ConnectionInvariant app (view_of (host_view step rest link))
   pub open_end : step.closes ≡ None
   pub grants : Grants pool link.host step
 
@@ -85,13 +85,13 @@ record Leads (model : Model) (wanted : Option (List ℕ)) (from to : LinkPhase) 
   down : down_at model from ++ sends ≡ down_at model to
 
 leads : (link : Link) (step : HostStep) (rest : List ToHost) (wanted : Option (List ℕ)) (from to : LinkPhase) → IsAt (view_of link) wanted from → Leads link.term.display.model wanted from to step.sends
-    → IsHostTalk link.term.display.model to step.conn.talk → step.conn.turn ≡ turn_at to → step.conn.pending ≡ pending_at to → UnderWay link.lost rest (up_at link.term.display.model wanted to) → IsAt (view_of (host_view step rest link)) wanted to
+    → IsHostTalk link.term.display.model to step.conn.talk → step.conn.turn ≡ turn_at to → step.conn.pending ≡ pending_at to → IsInFlight link.lost rest (up_at link.term.display.model wanted to) → IsAt (view_of (host_view step rest link)) wanted to
 leads link step rest wanted from to at l talk turn pending left = record {
   host_talk = talk;
   term_talk = l.term link.term.talk at.term_talk;
   turn = turn;
   pending = pending;
-  goes_down = subst (UnderWay link.lost (sent link.lost link.down step.sends)) l.down (more link.lost link.down (down_at link.term.display.model from) step.sends at.goes_down);
+  goes_down = subst (IsInFlight link.lost (sent link.lost link.down step.sends)) l.down (more link.lost link.down (down_at link.term.display.model from) step.sends at.goes_down);
   goes_up = left;
 }
 
@@ -101,13 +101,13 @@ abbrev talk_step : Link → Talk HostState → List ToTerminal → Option (List 
 talk_step link next sends grants rejects = record { conn = with_talk link.host next; sends = sends; grants = grants; rejects = rejects; drops = None; breaks = None; closes = None }
 
 -- the talk moves on, by a step that is known
-talks : (app : Application) (pool : List Entry) (link : Link) (rest : List ToHost) (k : Kept app (view_of link)) (from to : Talking) (saying : Saying) (sends : List ToTerminal) (grants : Option (List ℕ)) (rejects : Option Rejection) (message : ToHost)
+talks : (app : Application) (pool : List Entry) (link : Link) (rest : List ToHost) (k : ConnectionInvariant app (view_of link)) (from to : NegotiationPhase) (saying : NegotiationMessage) (sends : List ToTerminal) (grants : Option (List ℕ)) (rejects : Option Rejection) (message : ToHost)
     → link.term.display.size ≡ link.host.size
-    → IsAt (view_of link) k.wanted (LinkPhase.Talks from) → link.host.talk ≡ host_in_talk link.term.display.model from → IsHostTalk link.term.display.model (LinkPhase.Talks to) (host_in_talk link.term.display.model to) → message ≡ ToHost.TalksUp saying
+    → IsAt (view_of link) k.wanted (LinkPhase.Negotiating from) → link.host.talk ≡ host_in_talk link.term.display.model from → IsHostTalk link.term.display.model (LinkPhase.Negotiating to) (host_in_talk link.term.display.model to) → message ≡ ToHost.TalksUp saying
     → talked (answer_to pool) link.host (host_in_talk link.term.display.model from) (says saying) ≡ talk_step link (host_in_talk link.term.display.model to) sends grants rejects
-    → Grants pool link.host (talk_step link (host_in_talk link.term.display.model to) sends grants rejects) → Leads link.term.display.model k.wanted (LinkPhase.Talks from) (LinkPhase.Talks to) sends
-    → UnderWay link.lost rest (up_at link.term.display.model k.wanted (LinkPhase.Talks to))
-    → Fact k.wanted (local_state_of (view_of link)) (LinkPhase.Talks to) → Answered app pool link rest (took (answer_to pool) link.host message)
+    → Grants pool link.host (talk_step link (host_in_talk link.term.display.model to) sends grants rejects) → Leads link.term.display.model k.wanted (LinkPhase.Negotiating from) (LinkPhase.Negotiating to) sends
+    → IsInFlight link.lost rest (up_at link.term.display.model k.wanted (LinkPhase.Negotiating to))
+    → Fact k.wanted (local_state_of (view_of link)) (LinkPhase.Negotiating to) → Answered app pool link rest (took (answer_to pool) link.host message)
 talks app pool link rest k from to saying sends grants rejects message same at talk then_talk is step g l left fact =
     subst (λ m. Answered app pool link rest (took (answer_to pool) link.host m)) (sym is)
     (subst (Answered app pool link rest) (sym (ap (λ (t : Talk HostState). talked (answer_to pool) link.host t (says saying)) talk ∙ step))
@@ -119,9 +119,9 @@ talks app pool link rest k from to saying sends grants rejects message same at t
         as_left = k.as_left;
         exact = k.exact;
         wanted = k.wanted;
-        moment = LinkPhase.Talks to;
+        moment = LinkPhase.Negotiating to;
         sizes = record { host = k.sizes.host; screen = k.sizes.screen; same = λ steady. same };
-        at = leads link (talk_step link (host_in_talk link.term.display.model to) sends grants rejects) rest k.wanted (LinkPhase.Talks from) (LinkPhase.Talks to) at l then_talk at.turn at.pending left;
+        at = leads link (talk_step link (host_in_talk link.term.display.model to) sends grants rejects) rest k.wanted (LinkPhase.Negotiating from) (LinkPhase.Negotiating to) at l then_talk at.turn at.pending left;
         fact = fact;
         shown = tt;
       };
@@ -133,8 +133,8 @@ claim_at : (conn : Session) (talk : Talk HostState) → conn.talk ≡ talk → g
 claim_at conn talk e = ap (λ (t : Talk HostState). granted t.state) (sym e)
 
 -- a terminal that asks for its type of device, and for an LU, if it wants one
-abbrev asking_type : Model → Option (List ℕ) → Saying
-asking_type model wanted = Saying.Sub (TypeRequest model wanted)
+abbrev asking_type : Model → Option (List ℕ) → NegotiationMessage
+asking_type model wanted = NegotiationMessage.Sub (TypeRequest model wanted)
 
 abbrev at_asking : Model → Talk HostState
 at_asking model = start_at (Asking (device_for model))
@@ -160,32 +160,32 @@ suits : LowerLaws → (pool : List Entry) (wanted : Option (List ℕ)) (lu : Lis
 suits given pool None lu sound is e = record { is_lu = given.pool.lus pool None lu sound e; is_wanted = tt }
 suits given pool (Some name) lu sound is e = record { is_lu = given.pool.lus pool (Some name) lu sound e; is_wanted = given.pool.asked pool name lu is e }
 
-grants_type : LowerLaws → (app : Application) (pool : List Entry) → IsSound pool → (link : Link) (rest : List ToHost) (k : Kept app (view_of link)) (message : ToHost)
+grants_type : LowerLaws → (app : Application) (pool : List Entry) → IsSound pool → (link : Link) (rest : List ToHost) (k : ConnectionInvariant app (view_of link)) (message : ToHost)
     → link.term.display.size ≡ link.host.size
-    → IsAt (view_of link) k.wanted (LinkPhase.Talks Talking.NamingType) → Fact k.wanted (local_state_of (view_of link)) (LinkPhase.Talks Talking.NamingType) → UnderWay link.lost rest []
+    → IsAt (view_of link) k.wanted (LinkPhase.Negotiating NegotiationPhase.NamingType) → Fact k.wanted (local_state_of (view_of link)) (LinkPhase.Negotiating NegotiationPhase.NamingType) → IsInFlight link.lost rest []
     → message ≡ ToHost.TalksUp (asking_type link.term.display.model k.wanted) → Answered app pool link rest (took (answer_to pool) link.host message)
 grants_type given app pool sound link rest k message same at f left e = by_answer (answer_to pool k.wanted) refl
   where
     by_answer : (answer : Result (List ℕ) Reason) → answer_to pool k.wanted ≡ answer → Answered app pool link rest (took (answer_to pool) link.host message)
     by_answer (Ok lu) a =
-        talks app pool link rest k Talking.NamingType (Talking.Granting lu) (asking_type link.term.display.model k.wanted) (ToTerminal.TalksDown (Saying.Sub (TypeIs (device_for link.term.display.model) lu)) ∷ []) (Some lu) None message same at at.host_talk refl e
+        talks app pool link rest k NegotiationPhase.NamingType (NegotiationPhase.Granting lu) (asking_type link.term.display.model k.wanted) (ToTerminal.TalksDown (NegotiationMessage.Sub (TypeIs (device_for link.term.display.model) lu)) ∷ []) (Some lu) None message same at at.host_talk refl e
         (pool_asked given (answer_to pool) link.host link.term.display.model k.wanted f.1 ∙ ap (answered_by link.host link.term.display.model k.wanted) a) (Grants.one k.wanted lu refl refl a) (record { term = λ term is. is; down = refl }) left
         (f.0, suits given pool k.wanted lu sound f.1 a)
     by_answer (Err reason) a =
-        talks app pool link rest k Talking.NamingType (Talking.Rejecting reason) (asking_type link.term.display.model k.wanted) (ToTerminal.TalksDown (Saying.Sub (TypeReject reason)) ∷ []) None
+        talks app pool link rest k NegotiationPhase.NamingType (NegotiationPhase.Rejecting reason) (asking_type link.term.display.model k.wanted) (ToTerminal.TalksDown (NegotiationMessage.Sub (TypeReject reason)) ∷ []) None
         (Some (record { lu = lu_asked (says (asking_type link.term.display.model k.wanted)); reason = reason })) message same at at.host_talk refl e
         (pool_asked given (answer_to pool) link.host link.term.display.model k.wanted f.1 ∙ ap (answered_by link.host link.term.display.model k.wanted) a) (Grants.none refl (claim_at link.host (start_at Asked) at.host_talk)) (record { term = λ term is. is; down = refl }) left
         (f.0, tt)
 
 -- ---- records
 
-module _ (app : Application) (pool : List Entry) (link : Link) (rest : List ToHost) (k : Kept app (view_of link)) where
-  agreed_at : (lu : List ℕ) (serving : Serving) → IsAt (view_of link) k.wanted (LinkPhase.Serves lu serving) → is_agreed link.host.talk.state ≡ true
+module _ (app : Application) (pool : List Entry) (link : Link) (rest : List ToHost) (k : ConnectionInvariant app (view_of link)) where
+  agreed_at : (lu : List ℕ) (serving : SessionPhase) → IsAt (view_of link) k.wanted (LinkPhase.InSession lu serving) → is_agreed link.host.talk.state ≡ true
   agreed_at lu serving at = is_agreed_on link.host.talk at.host_talk
 
-  serves : (lu : List ℕ) (from to : Serving) (conn : Session) → link.term.display.size ≡ link.host.size → IsAt (view_of link) k.wanted (LinkPhase.Serves lu from) → conn.talk ≡ link.host.talk → conn.size ≡ link.host.size → FactsAreExact conn.shadow
-      → conn.turn ≡ turn_at (LinkPhase.Serves lu to) → conn.pending ≡ pending_at (LinkPhase.Serves lu to) → served_down from ++ [] ≡ served_down to → UnderWay link.lost rest (served_up to)
-      → Fact k.wanted (local_state_of (view_of (host_view (quiet conn) rest link))) (LinkPhase.Serves lu to) → ShownAt app link.term.waits conn link.term.display.before_restored link.term.display.last_restored link.term.display.screen (LinkPhase.Serves lu to)
+  serves : (lu : List ℕ) (from to : SessionPhase) (conn : Session) → link.term.display.size ≡ link.host.size → IsAt (view_of link) k.wanted (LinkPhase.InSession lu from) → conn.talk ≡ link.host.talk → conn.size ≡ link.host.size → FactsAreExact conn.shadow
+      → conn.turn ≡ turn_at (LinkPhase.InSession lu to) → conn.pending ≡ pending_at (LinkPhase.InSession lu to) → served_down from ++ [] ≡ served_down to → IsInFlight link.lost rest (served_up to)
+      → Fact k.wanted (local_state_of (view_of (host_view (quiet conn) rest link))) (LinkPhase.InSession lu to) → ShownAt app link.term.waits conn link.term.display.before_restored link.term.display.last_restored link.term.display.screen (LinkPhase.InSession lu to)
       → Answered app pool link rest (quiet conn)
   serves lu from to conn same at talk shape exact turn pending down left fact shown = record {
     kept = record {
@@ -195,13 +195,13 @@ module _ (app : Application) (pool : List Entry) (link : Link) (rest : List ToHo
       as_left = k.as_left;
       exact = exact;
       wanted = k.wanted;
-      moment = LinkPhase.Serves lu to;
+      moment = LinkPhase.InSession lu to;
       sizes = record {
-        host = subst (λ (s : Shape). IsSizeOf app link.term.display.model s) (sym shape) k.sizes.host;
+        host = subst (λ (s : ScreenSize). IsSizeOf app link.term.display.model s) (sym shape) k.sizes.host;
         screen = k.sizes.screen;
         same = λ steady. same ∙ sym shape;
       };
-      at = leads link (quiet conn) rest k.wanted (LinkPhase.Serves lu from) (LinkPhase.Serves lu to) at (record { term = λ term is. is; down = down })
+      at = leads link (quiet conn) rest k.wanted (LinkPhase.InSession lu from) (LinkPhase.InSession lu to) at (record { term = λ term is. is; down = down })
           (subst (IsAgreed link.term.display.model lu) (sym talk) at.host_talk) turn pending left;
       fact = fact;
       shown = shown;
@@ -255,7 +255,7 @@ key_took pool conn parts aid agrees turns time form is some =
     ∙ data_took parts conn conn.pending turns time
     ∙ key_data_took parts conn aid form is some
 
-pub buffer_took : (pool : Answers) (conn : Session) (size : Shape) (screen : Screen) (number : ℕ) → is_agreed conn.talk.state ≡ true → conn.pending ≡ Pending.Reading number
+pub buffer_took : (pool : Answers) (conn : Session) (size : ScreenSize) (screen : Screen) (number : ℕ) → is_agreed conn.talk.state ≡ true → conn.pending ≡ Pending.Reading number
     → rule_broken_by (buffer_data size screen) conn ≡ None
     → took pool conn (ToHost.Data (buffer_data size screen)) ≡ believed (once_read conn.turn_reason) Pending.Nothing (buffer_data size screen).cursor conn (hears (buffer_data size screen) conn)
 buffer_took pool conn size screen number agrees pends unbroken =
@@ -269,7 +269,7 @@ none_broken : (verified : Bool) (broken : Option RuleBreak) → broken ≡ None 
 none_broken true broken e = e
 none_broken false broken e = refl
 
-pub unbroken_read : (conn : Session) (size : Shape) (screen : Screen) → rule_break conn.shadow screen.cells ≡ None → rule_broken_by (buffer_data size screen) conn ≡ None
+pub unbroken_read : (conn : Session) (size : ScreenSize) (screen : Screen) → rule_break conn.shadow screen.cells ≡ None → rule_broken_by (buffer_data size screen) conn ≡ None
 unbroken_read conn size screen unbroken =
     none_broken (is_verified conn) (rule_break conn.shadow (cells_sent (buffer_data size screen).parts)) (ap (rule_break conn.shadow) (cells_back screen.cells) ∙ unbroken)
 
@@ -328,7 +328,7 @@ read_cursor turn_reasons.Agreement place = tt
 read_cursor (turn_reasons.Key aid buffered) place = refl
 read_cursor turn_reasons.Refusal place = tt
 
-module _ (given : LowerLaws) (app : Application) (pool : List Entry) (link : Link) (rest : List ToHost) (k : Kept app (view_of link)) (same : link.term.display.size ≡ link.host.size) where
+module _ (given : LowerLaws) (app : Application) (pool : List Entry) (link : Link) (rest : List ToHost) (k : ConnectionInvariant app (view_of link)) (same : link.term.display.size ≡ link.host.size) where
   abbrev screen : Screen
   screen = link.term.display.screen
 
@@ -341,25 +341,25 @@ module _ (given : LowerLaws) (app : Application) (pool : List Entry) (link : Lin
       record link.host { shadow = shadow; turn = whose.Host; pending = pending; turn_reason = turn_reason; cursor = unwrap_or cursor link.host.cursor }
 
   -- what is heard is believed, and it is the host's turn
-  believes : (lu : List ℕ) (from to : Serving) (parts : InboundParts) (turn_reason : TurnReason) (pending : Pending) (cursor : Option ℕ) (Then : Shadow → Type 0) (r : Result Shadow HeardFault)
-      → IsAt (view_of link) k.wanted (LinkPhase.Serves lu from) → IfOk r KnownIsExact → IfOk r ProtectedIsExact → IsOkAnd r Then
-      → whose.Host ≡ turn_at (LinkPhase.Serves lu to) → pending ≡ pending_at (LinkPhase.Serves lu to) → served_down from ++ [] ≡ served_down to → UnderWay link.lost rest (served_up to)
+  believes : (lu : List ℕ) (from to : SessionPhase) (parts : InboundParts) (turn_reason : TurnReason) (pending : Pending) (cursor : Option ℕ) (Then : Shadow → Type 0) (r : Result Shadow HeardFault)
+      → IsAt (view_of link) k.wanted (LinkPhase.InSession lu from) → IfOk r KnownIsExact → IfOk r ProtectedIsExact → IsOkAnd r Then
+      → whose.Host ≡ turn_at (LinkPhase.InSession lu to) → pending ≡ pending_at (LinkPhase.InSession lu to) → served_down from ++ [] ≡ served_down to → IsInFlight link.lost rest (served_up to)
       → ((shadow : Shadow) → Then shadow
-      → Fact k.wanted (record { size = link.host.size; shadow = shadow; turn_reason = turn_reason; cursor = unwrap_or cursor link.host.cursor; unheard = link.host.unheard; lock = link.term.display.keyboard.lock; screen = screen; last_restored = link.term.display.last_restored; erased = link.term.display.erased }) (LinkPhase.Serves lu to))
-      → ((shadow : Shadow) → Then shadow → ShownAt app link.term.waits (heard_conn turn_reason pending cursor shadow) link.term.display.before_restored link.term.display.last_restored link.term.display.screen (LinkPhase.Serves lu to))
+      → Fact k.wanted (record { size = link.host.size; shadow = shadow; turn_reason = turn_reason; cursor = unwrap_or cursor link.host.cursor; unheard = link.host.unheard; lock = link.term.display.keyboard.lock; screen = screen; last_restored = link.term.display.last_restored; erased = link.term.display.erased }) (LinkPhase.InSession lu to))
+      → ((shadow : Shadow) → Then shadow → ShownAt app link.term.waits (heard_conn turn_reason pending cursor shadow) link.term.display.before_restored link.term.display.last_restored link.term.display.screen (LinkPhase.InSession lu to))
       → Answered app pool link rest (believed turn_reason pending cursor link.host r)
   believes lu from to parts turn_reason pending cursor Then (Ok shadow) at knows protects ok turn pends down left fact shown =
       serves app pool link rest k lu from to (heard_conn turn_reason pending cursor shadow) same at refl refl (record { known = knows; protected = protects }) turn pends down left (fact shadow ok) (shown shadow ok)
   believes lu from to parts turn_reason pending cursor Then (Err fault) at knows protects ok turn pends down left fact shown = absurd ok
 
   -- a key's data
-  hears_key : (lu : List ℕ) (from to : Serving) (parts : InboundParts) (message : ToHost) (Then : Shadow → Type 0) → IsAt (view_of link) k.wanted (LinkPhase.Serves lu from) → IsPressed (local_state_of (view_of link)) parts
-      → WillBeHeard link.host.size link.host.shadow parts Then → message ≡ ToHost.Data parts → turn_at (LinkPhase.Serves lu from) ≡ whose.Terminal → IsKeyTime (pending_at (LinkPhase.Serves lu from))
-      → whose.Host ≡ turn_at (LinkPhase.Serves lu to) → pending_at (LinkPhase.Serves lu from) ≡ pending_at (LinkPhase.Serves lu to) → served_down from ++ [] ≡ served_down to
-      → UnderWay link.lost rest (served_up to)
+  hears_key : (lu : List ℕ) (from to : SessionPhase) (parts : InboundParts) (message : ToHost) (Then : Shadow → Type 0) → IsAt (view_of link) k.wanted (LinkPhase.InSession lu from) → IsPressed (local_state_of (view_of link)) parts
+      → WillBeHeard link.host.size link.host.shadow parts Then → message ≡ ToHost.Data parts → turn_at (LinkPhase.InSession lu from) ≡ whose.Terminal → IsKeyTime (pending_at (LinkPhase.InSession lu from))
+      → whose.Host ≡ turn_at (LinkPhase.InSession lu to) → pending_at (LinkPhase.InSession lu from) ≡ pending_at (LinkPhase.InSession lu to) → served_down from ++ [] ≡ served_down to
+      → IsInFlight link.lost rest (served_up to)
       → ((shadow : Shadow) → Then shadow
-      → Fact k.wanted (record { size = link.host.size; shadow = shadow; turn_reason = turn_reasons.Key screen.aid false; cursor = unwrap_or parts.cursor link.host.cursor; unheard = link.host.unheard; lock = link.term.display.keyboard.lock; screen = screen; last_restored = link.term.display.last_restored; erased = link.term.display.erased }) (LinkPhase.Serves lu to))
-      → ((shadow : Shadow) → Then shadow → ShownAt app link.term.waits (heard_conn (turn_reasons.Key screen.aid false) link.host.pending parts.cursor shadow) link.term.display.before_restored link.term.display.last_restored link.term.display.screen (LinkPhase.Serves lu to))
+      → Fact k.wanted (record { size = link.host.size; shadow = shadow; turn_reason = turn_reasons.Key screen.aid false; cursor = unwrap_or parts.cursor link.host.cursor; unheard = link.host.unheard; lock = link.term.display.keyboard.lock; screen = screen; last_restored = link.term.display.last_restored; erased = link.term.display.erased }) (LinkPhase.InSession lu to))
+      → ((shadow : Shadow) → Then shadow → ShownAt app link.term.waits (heard_conn (turn_reasons.Key screen.aid false) link.host.pending parts.cursor shadow) link.term.display.before_restored link.term.display.last_restored link.term.display.screen (LinkPhase.InSession lu to))
       → Answered app pool link rest (took (answer_to pool) link.host message)
   hears_key lu from to parts message Then at p will e turns time turn pends down left fact shown =
       as_step app pool link rest k (ToHost.Data parts) message (believed (turn_reasons.Key screen.aid false) link.host.pending parts.cursor link.host (hears parts link.host)) e
@@ -368,27 +368,27 @@ module _ (given : LowerLaws) (app : Application) (pool : List Entry) (link : Lin
       (given.belief.heard_exact size link.host.shadow parts k.exact.known) (given.belief.heard_protected size link.host.shadow parts k.exact.protected) will turn (at.pending ∙ pends) down left fact shown)
 
   -- a response to a write
-  hears_response : (lu : List ℕ) (from to : Serving) (kind : Kind) (number : ℕ) (command : CommandParts) (message : ToHost) → IsAt (view_of link) k.wanted (LinkPhase.Serves lu from) → message ≡ ToHost.Response number Verdict.Positive
-      → pending_at (LinkPhase.Serves lu from) ≡ awaiting kind number command → FactsAreExact (once_taken link.host.size command link.host.shadow)
-      → turn_at (LinkPhase.Serves lu from) ≡ turn_at (LinkPhase.Serves lu to) → Pending.Nothing ≡ pending_at (LinkPhase.Serves lu to) → served_down from ++ [] ≡ served_down to
-      → UnderWay link.lost rest (served_up to) → Fact k.wanted (local_state_of (view_of (host_view (quiet (answered command link.host)) rest link))) (LinkPhase.Serves lu to)
-      → ShownAt app link.term.waits (answered command link.host) link.term.display.before_restored link.term.display.last_restored link.term.display.screen (LinkPhase.Serves lu to) → Answered app pool link rest (took (answer_to pool) link.host message)
+  hears_response : (lu : List ℕ) (from to : SessionPhase) (kind : Kind) (number : ℕ) (command : CommandParts) (message : ToHost) → IsAt (view_of link) k.wanted (LinkPhase.InSession lu from) → message ≡ ToHost.Response number Verdict.Positive
+      → pending_at (LinkPhase.InSession lu from) ≡ awaiting kind number command → FactsAreExact (once_taken link.host.size command link.host.shadow)
+      → turn_at (LinkPhase.InSession lu from) ≡ turn_at (LinkPhase.InSession lu to) → Pending.Nothing ≡ pending_at (LinkPhase.InSession lu to) → served_down from ++ [] ≡ served_down to
+      → IsInFlight link.lost rest (served_up to) → Fact k.wanted (local_state_of (view_of (host_view (quiet (answered command link.host)) rest link))) (LinkPhase.InSession lu to)
+      → ShownAt app link.term.waits (answered command link.host) link.term.display.before_restored link.term.display.last_restored link.term.display.screen (LinkPhase.InSession lu to) → Answered app pool link rest (took (answer_to pool) link.host message)
   hears_response lu from to kind number command message at e waits exact turn pends down left fact shown =
       as_step app pool link rest k (ToHost.Response number Verdict.Positive) message (quiet (answered command link.host)) e
       (response_took (answer_to pool) link.host kind number command (agreed_at app pool link rest k lu from at) (at.pending ∙ waits))
       (serves app pool link rest k lu from to (answered command link.host) same at refl refl exact (at.turn ∙ turn) pends down left fact shown)
 
   -- the whole screen, as it was asked for
-  hears_buffer : (lu : List ℕ) (number : ℕ) (parts : InboundParts) (message : ToHost) → IsAt (view_of link) k.wanted (LinkPhase.Serves lu (Serving.Reported number parts)) → IsReported (local_state_of (view_of link)) parts
-      → message ≡ ToHost.Data parts → UnderWay link.lost rest [] → ShownAt app link.term.waits link.host link.term.display.before_restored link.term.display.last_restored link.term.display.screen (LinkPhase.Serves lu (Serving.Reported number parts))
+  hears_buffer : (lu : List ℕ) (number : ℕ) (parts : InboundParts) (message : ToHost) → IsAt (view_of link) k.wanted (LinkPhase.InSession lu (SessionPhase.BufferReturning number parts)) → IsReported (local_state_of (view_of link)) parts
+      → message ≡ ToHost.Data parts → IsInFlight link.lost rest [] → ShownAt app link.term.waits link.host link.term.display.before_restored link.term.display.last_restored link.term.display.screen (LinkPhase.InSession lu (SessionPhase.BufferReturning number parts))
       → Answered app pool link rest (took (answer_to pool) link.host message)
   hears_buffer lu number parts message at f e left shown =
       let said : Screen = record screen { aid = parts.aid } in
       let read : InboundParts = buffer_data link.host.size said in
       as_step app pool link rest k (ToHost.Data read) message (believed (once_read link.host.turn_reason) Pending.Nothing read.cursor link.host (hears read link.host)) (e ∙ ap (λ p. ToHost.Data p) f.says)
-      (buffer_took (answer_to pool) link.host link.host.size said number (agreed_at app pool link rest k lu (Serving.Reported number parts) at) at.pending
+      (buffer_took (answer_to pool) link.host link.host.size said number (agreed_at app pool link rest k lu (SessionPhase.BufferReturning number parts) at) at.pending
       (unbroken_read link.host link.host.size said f.unbroken))
-      (believes lu (Serving.Reported number parts) Serving.Deciding read (once_read link.host.turn_reason) Pending.Nothing read.cursor (λ s. Sees link.host.unheard link.host.size screen s × NothingIsOpen s × All IsTextKnown (fields_of s)) (hears read link.host) at
+      (believes lu (SessionPhase.BufferReturning number parts) SessionPhase.Deciding read (once_read link.host.turn_reason) Pending.Nothing read.cursor (λ s. Sees link.host.unheard link.host.size screen s × NothingIsOpen s × All IsTextKnown (fields_of s)) (hears read link.host) at
       (given.belief.heard_exact size link.host.shadow read k.exact.known) (given.belief.heard_protected size link.host.shadow read k.exact.protected)
       (by_result (heard size link.host.shadow read) f.will
       (given.belief.heard_exact size link.host.shadow read k.exact.known) (given.belief.heard_protected size link.host.shadow read k.exact.protected) (given.belief.read_leaves size link.host.shadow read refl) (read_is_settled size link.host.shadow read refl))
@@ -403,82 +403,82 @@ module _ (given : LowerLaws) (app : Application) (pool : List Entry) (link : Lin
 
 -- ---- any message, at any moment
 
-pub answers : LowerLaws → (app : Application) (pool : List Entry) → IsSound pool → (link : Link) (message : ToHost) (rest : List ToHost) → link.up ≡ message ∷ rest → Kept app (view_of link)
+pub answers : LowerLaws → (app : Application) (pool : List Entry) → IsSound pool → (link : Link) (message : ToHost) (rest : List ToHost) → link.up ≡ message ∷ rest → ConnectionInvariant app (view_of link)
     → Answered app pool link rest (took (answer_to pool) link.host message)
 answers given app pool sound link message rest e k = by_moment k.moment k.sizes k.at k.fact k.shown
   where
     screen : Screen
     screen = link.term.display.screen
 
-    no_more : UnderWay link.lost link.up [] → Answered app pool link rest (took (answer_to pool) link.host message)
+    no_more : IsInFlight link.lost link.up [] → Answered app pool link rest (took (answer_to pool) link.host message)
     no_more way = absurd (nothing link.lost link.up message rest e way)
 
-    by_talk : (talking : Talking) → link.term.display.size ≡ link.host.size → IsAt (view_of link) k.wanted (LinkPhase.Talks talking) → Fact k.wanted (local_state_of (view_of link)) (LinkPhase.Talks talking) → Answered app pool link rest (took (answer_to pool) link.host message)
-    by_talk Talking.Accepting same at f =
+    by_talk : (talking : NegotiationPhase) → link.term.display.size ≡ link.host.size → IsAt (view_of link) k.wanted (LinkPhase.Negotiating talking) → Fact k.wanted (local_state_of (view_of link)) (LinkPhase.Negotiating talking) → Answered app pool link rest (took (answer_to pool) link.host message)
+    by_talk NegotiationPhase.Accepting same at f =
         let first = front link.lost link.up message rest _ [] e at.goes_up in
-        talks app pool link rest k Talking.Accepting Talking.AskingType (Saying.Opt Will 40) (ToTerminal.TalksDown (Saying.Sub SendType) ∷ []) None None message same at at.host_talk refl first.0 refl
+        talks app pool link rest k NegotiationPhase.Accepting NegotiationPhase.AskingType (NegotiationMessage.Opt Will 40) (ToTerminal.TalksDown (NegotiationMessage.Sub SendType) ∷ []) None None message same at at.host_talk refl first.0 refl
         (Grants.none refl (claim_at link.host (start_at Offered) at.host_talk)) (record { term = λ term is. is; down = refl }) first.1 f
-    by_talk Talking.NamingType same at f =
+    by_talk NegotiationPhase.NamingType same at f =
         let first = front link.lost link.up message rest _ [] e at.goes_up in
         grants_type given app pool sound link rest k message same at f first.1 first.0
-    by_talk (Talking.AskingFunctions lu) same at f =
+    by_talk (NegotiationPhase.AskingFunctions lu) same at f =
         let first = front link.lost link.up message rest _ [] e at.goes_up in
-        talks app pool link rest k (Talking.AskingFunctions lu) (Talking.Agreeing lu) (Saying.Sub FunRequest) (ToTerminal.TalksDown (Saying.Sub FunIs) ∷ []) None None message same at at.host_talk (record { device = device_for link.term.display.model; state_is = refl; model_is = own_model link.term.display.model }) first.0
+        talks app pool link rest k (NegotiationPhase.AskingFunctions lu) (NegotiationPhase.Agreeing lu) (NegotiationMessage.Sub FunRequest) (ToTerminal.TalksDown (NegotiationMessage.Sub FunIs) ∷ []) None None message same at at.host_talk (record { device = device_for link.term.display.model; state_is = refl; model_is = own_model link.term.display.model }) first.0
         (ap (λ w. let next = follow HostClosed (start_at (Named (device_for link.term.display.model) lu)) (host_transition (Named (device_for link.term.display.model) lu) (Comes.RequestsFunctions w)) in talked_on (answer_to pool) link.host None next.0 next.1) responses_alone)
         (Grants.none refl (claim_at link.host (start_at (Named (device_for link.term.display.model) lu)) at.host_talk)) (record { term = λ term is. ap (λ (t : Term). t.talk.state) is; down = refl }) first.1 f
-    by_talk Talking.Offering same at f = no_more at.goes_up
-    by_talk Talking.AskingType same at f = no_more at.goes_up
-    by_talk (Talking.Granting lu) same at f = no_more at.goes_up
-    by_talk (Talking.Agreeing lu) same at f = no_more at.goes_up
-    by_talk (Talking.Rejecting reason) same at f = no_more at.goes_up
-    by_talk (Talking.Rejected reason) same at f = no_more at.goes_up
+    by_talk NegotiationPhase.Offering same at f = no_more at.goes_up
+    by_talk NegotiationPhase.AskingType same at f = no_more at.goes_up
+    by_talk (NegotiationPhase.Granting lu) same at f = no_more at.goes_up
+    by_talk (NegotiationPhase.Agreeing lu) same at f = no_more at.goes_up
+    by_talk (NegotiationPhase.Rejecting reason) same at f = no_more at.goes_up
+    by_talk (NegotiationPhase.Rejected reason) same at f = no_more at.goes_up
 
-    by_serving : (lu : List ℕ) (serving : Serving) → Sizes app (view_of link) (LinkPhase.Serves lu serving) → IsAt (view_of link) k.wanted (LinkPhase.Serves lu serving) → Fact k.wanted (local_state_of (view_of link)) (LinkPhase.Serves lu serving)
-        → ShownAt app link.term.waits link.host link.term.display.before_restored link.term.display.last_restored link.term.display.screen (LinkPhase.Serves lu serving) → Answered app pool link rest (took (answer_to pool) link.host message)
-    by_serving lu (Serving.Reported number parts) s at f shown =
+    by_serving : (lu : List ℕ) (serving : SessionPhase) → Sizes app (view_of link) (LinkPhase.InSession lu serving) → IsAt (view_of link) k.wanted (LinkPhase.InSession lu serving) → Fact k.wanted (local_state_of (view_of link)) (LinkPhase.InSession lu serving)
+        → ShownAt app link.term.waits link.host link.term.display.before_restored link.term.display.last_restored link.term.display.screen (LinkPhase.InSession lu serving) → Answered app pool link rest (took (answer_to pool) link.host message)
+    by_serving lu (SessionPhase.BufferReturning number parts) s at f shown =
         let first = front link.lost link.up message rest _ [] e at.goes_up in
         hears_buffer given app pool link rest k (s.same refl) lu number parts message at f first.0 first.1 shown
-    by_serving lu (Serving.AnsweredLate number command) s at f shown =
+    by_serving lu (SessionPhase.DecidingNoteAnswered number command) s at f shown =
         let first = front link.lost link.up message rest _ [] e at.goes_up in
-        hears_response given app pool link rest k (s.same refl) lu (Serving.AnsweredLate number command) Serving.Deciding Kind.ANote number command message at first.0 refl f.sees.exact refl refl refl first.1
+        hears_response given app pool link rest k (s.same refl) lu (SessionPhase.DecidingNoteAnswered number command) SessionPhase.Deciding Kind.ANote number command message at first.0 refl f.sees.exact refl refl refl first.1
         (record { lock = f.lock; turn_reason = f.turn_reason; cursor = f.cursor; closed = f.closed; sees = f.sees })
         (λ _. shown.0, unread_settled link.host.turn_reason (once_taken link.host.size command link.host.shadow) shown.1)
-    by_serving lu (Serving.Answering kind number command) s at f shown =
+    by_serving lu (SessionPhase.AwaitingWriteResponse kind number command) s at f shown =
         let first = front link.lost link.up message rest _ [] e at.goes_up in
-        hears_response given app pool link rest k (s.same refl) lu (Serving.Answering kind number command) Serving.Operating kind number command message at first.0 refl f.exact refl refl refl first.1
+        hears_response given app pool link rest k (s.same refl) lu (SessionPhase.AwaitingWriteResponse kind number command) SessionPhase.OperatorTyping kind number command message at first.0 refl f.exact refl refl refl first.1
         (record { shown = f.shown; lock = f.lock; exact = f.exact; meets = f.meets; closed = f.closed; knows = f.knows; held = f.held; messages = f.messages; noted = f.noted })
         shown
-    by_serving lu (Serving.KeyBehind kind number command parts) s at f shown =
+    by_serving lu (SessionPhase.KeySentAfterResponse kind number command parts) s at f shown =
         let first = front link.lost link.up message rest _ _ e at.goes_up in
-        hears_response given app pool link rest k (s.same refl) lu (Serving.KeyBehind kind number command parts) (Serving.KeyAlone parts) kind number command message at first.0 refl
+        hears_response given app pool link rest k (s.same refl) lu (SessionPhase.KeySentAfterResponse kind number command parts) (SessionPhase.KeySent parts) kind number command message at first.0 refl
         f.3 refl refl refl first.1
         (record { lock = f.0.lock; form = f.0.form; size = f.0.size; pressed = f.0.pressed; cursor = f.0.cursor; some = f.0.some }, f.1, f.2)
         shown
-    by_serving lu (Serving.KeyAlone parts) s at f shown =
+    by_serving lu (SessionPhase.KeySent parts) s at f shown =
         let first = front link.lost link.up message rest _ [] e at.goes_up in
-        hears_key given app pool link rest k (s.same refl) lu (Serving.KeyAlone parts) Serving.Deciding parts message (Sees link.host.unheard link.host.size screen) at f.0 f.1 first.0 refl (IsKeyTime.nothing_waits refl) refl refl refl first.1
+        hears_key given app pool link rest k (s.same refl) lu (SessionPhase.KeySent parts) SessionPhase.Deciding parts message (Sees link.host.unheard link.host.size screen) at f.0 f.1 first.0 refl (IsKeyTime.nothing_waits refl) refl refl refl first.1
         (λ shadow sees. record { lock = f.0.lock; turn_reason = (refl, f.0.some); cursor = λ long. ap (λ (c : Option ℕ). unwrap_or c link.host.cursor) (f.0.cursor long); closed = sees.closed; sees = sees })
         (λ shadow sees. (λ _. shown, tt))
-    by_serving lu (Serving.KeyNoted number command parts) s at f shown =
+    by_serving lu (SessionPhase.KeyCrossingNote number command parts) s at f shown =
         let first = front link.lost link.up message rest _ [] e at.goes_up in
-        hears_key given app pool link rest k (s.same refl) lu (Serving.KeyNoted number command parts) (Serving.NotedLate number command) parts message (Sees link.host.unheard link.host.size screen) at f.0 f.1 first.0 refl (IsKeyTime.note_waits number command refl) refl refl refl first.1
+        hears_key given app pool link rest k (s.same refl) lu (SessionPhase.KeyCrossingNote number command parts) (SessionPhase.DecidingNoteSent number command) parts message (Sees link.host.unheard link.host.size screen) at f.0 f.1 first.0 refl (IsKeyTime.note_waits number command refl) refl refl refl first.1
         (λ shadow sees. (record { lock = f.0.lock; turn_reason = (refl, f.0.some); cursor = λ long. ap (λ (c : Option ℕ). unwrap_or c link.host.cursor) (f.0.cursor long); closed = sees.closed; sees = sees }, record { note = f.2.note; takes = f.2.takes }))
         (λ shadow sees. (shown, tt))
-    by_serving lu (Serving.KeyBefore number command parts) s at f shown =
+    by_serving lu (SessionPhase.KeyBeforeNoteResponse number command parts) s at f shown =
         let first = front link.lost link.up message rest _ _ e at.goes_up in
-        hears_key given app pool link rest k (s.same refl) lu (Serving.KeyBefore number command parts) (Serving.AnsweredLate number command) parts message (λ shadow. Sees link.host.unheard link.host.size screen (once_taken link.host.size command shadow)) at f.0 f.1 first.0 refl
+        hears_key given app pool link rest k (s.same refl) lu (SessionPhase.KeyBeforeNoteResponse number command parts) (SessionPhase.DecidingNoteAnswered number command) parts message (λ shadow. Sees link.host.unheard link.host.size screen (once_taken link.host.size command shadow)) at f.0 f.1 first.0 refl
         (IsKeyTime.note_waits number command refl) refl refl refl first.1
         (λ shadow sees. record { lock = f.0.lock; turn_reason = (refl, f.0.some); cursor = λ long. ap (λ (c : Option ℕ). unwrap_or c link.host.cursor) (f.0.cursor long); closed = sees.closed; sees = sees })
         (λ shadow sees. (shown, tt))
-    by_serving lu Serving.Deciding s at f shown = no_more at.goes_up
-    by_serving lu (Serving.Reading number) s at f shown = no_more at.goes_up
-    by_serving lu (Serving.NotedLate number command) s at f shown = no_more at.goes_up
-    by_serving lu (Serving.Painting number command wants over) s at f shown = no_more at.goes_up
-    by_serving lu Serving.Operating s at f shown = no_more at.goes_up
-    by_serving lu (Serving.Noting number command) s at f shown = no_more at.goes_up
+    by_serving lu SessionPhase.Deciding s at f shown = no_more at.goes_up
+    by_serving lu (SessionPhase.Reading number) s at f shown = no_more at.goes_up
+    by_serving lu (SessionPhase.DecidingNoteSent number command) s at f shown = no_more at.goes_up
+    by_serving lu (SessionPhase.Painting number command wants over) s at f shown = no_more at.goes_up
+    by_serving lu SessionPhase.OperatorTyping s at f shown = no_more at.goes_up
+    by_serving lu (SessionPhase.Noting number command) s at f shown = no_more at.goes_up
 
     by_moment : (moment : LinkPhase) → Sizes app (view_of link) moment → IsAt (view_of link) k.wanted moment → Fact k.wanted (local_state_of (view_of link)) moment
         → ShownAt app link.term.waits link.host link.term.display.before_restored link.term.display.last_restored link.term.display.screen moment → Answered app pool link rest (took (answer_to pool) link.host message)
-    by_moment (LinkPhase.Talks talking) s at f shown = by_talk talking (s.same refl) at f
-    by_moment (LinkPhase.Begins lu number command wants over) s at f shown = no_more at.goes_up
-    by_moment (LinkPhase.Serves lu serving) s at f shown = by_serving lu serving s at f shown
+    by_moment (LinkPhase.Negotiating talking) s at f shown = by_talk talking (s.same refl) at f
+    by_moment (LinkPhase.FirstPaint lu number command wants over) s at f shown = no_more at.goes_up
+    by_moment (LinkPhase.InSession lu serving) s at f shown = by_serving lu serving s at f shown

@@ -7,7 +7,7 @@ use Rattle.telnet_wire.specs.Reading.{Rest}
 use Rattle.host_core.specs.Bytes.{ConnectionAndPool}
 use Rattle.host_core.specs.Feeds.{connection_and_pool_at, with_connection_and_pool}
 use Rattle.host_core.specs.Session.{Session}
-use Rattle.host_core.specs.State.{Host, Service, Connection, most_connections, connection_at, service_at, unused}
+use Rattle.host_core.specs.State.{Host, Service, Connection, most_connections, connection_at, state_at, unused}
 use Rattle.world3270.specs.model.ByteSteps.{is_lost, sent_of, terminal_told, up_came}
 use Rattle.world3270.specs.model.ByteWorld.{ByteWorld, Transit, Transits, TerminalSlot, under_way, came, is_live, is_senders, is_there, unused_transits, no_slot, transits_at, slot_at, with_transits, with_host, terminal_at, host_there, host_out, out_of, down_of, up_of}
 use Rattle.world3270.specs.model.Link.{Link, sent}
@@ -305,7 +305,7 @@ module _ (number : ℕ) (counter : ConnectionAndPool) (old : ByteWorld) (was now
   abbrev way : Transits
   way = transits_at number old
 
-  service_is : service_at number after.host ≡ Service.Open t.rest t.conn
+  service_is : state_at number after.host ≡ Service.Open t.rest t.conn
   service_is = ap (λ (l : Connection). l.service) (connection_is number counter old linked lined) ∙ t.service
 
   there_is : host_there number after ≡ true
@@ -336,7 +336,7 @@ module _ (number : ℕ) (counter : ConnectionAndPool) (old : ByteWorld) (was now
   link_is : link_with at number after ≡ heard number t.rest t.conn t.more old
   link_is =
       let up : List ℕ = under_way (transits_at number after).up (out_of at after) in
-      let service : Service = service_at number after.host in
+      let service : Service = state_at number after.host in
       let down : List ℕ = sent (is_lost number old) (down_of number old) t.more in
       let queue : List ℕ = drop 1 (up_of number old) in
       ap (λ (l : Bool). of_parts l (down_of number after) up (is_there service) (conn_of service) (rest_of service) at (tracked_of at after)) lost_is

@@ -6,7 +6,7 @@ use Rattle.std.specs.Option.{option_and_then}
 use Rattle.std.specs.List.{list_any}
 use Rattle.std.proofs.lemmas.Bool.{and_parts}
 use Rattle.std.proofs.lemmas.List.{length-replicate}
-use Rattle.codes3270.specs.Size.{Shape, cells_in}
+use Rattle.codes3270.specs.Size.{ScreenSize, cells_in}
 use Rattle.codes3270.specs.declared.attribute.Cell.TheVariants.{Char}
 use Rattle.keyboard.specs.declared.key.Key.{Key}
 use Rattle.lu_pool.specs.Asking.{answer_to}
@@ -16,10 +16,10 @@ use Rattle.lu_pool.specs.Pool.{IsPool}
 use Rattle.lu_pool.specs.declared.entry.Entry.{Entry}
 use Rattle.telnet_wire.specs.declared.wire.Verb.TheVariants.{Do}
 use Rattle.shadow.proofs.HeardOthers.{no_field}
-use Rattle.tn3270e_msg.specs.Talk.{IsLuIfSome, Saying}
+use Rattle.tn3270e_msg.specs.Talk.{IsLuIfSome, NegotiationMessage}
 use Rattle.tn3270e_msg.specs.declared.cause.Cause.{Cause}
 use Rattle.host_core.specs.Acts.{Act, Decision, decided, decision_on, done as done_act, may_act, acted}
-use Rattle.host_core.specs.Application.{Application, IsShape, IsApplication, message_place}
+use Rattle.host_core.specs.Application.{Application, IsValidSize, IsApplication, message_place}
 use Rattle.host_core.specs.Messages.{ToTerminal, ToHost, Verdict}
 use Rattle.host_core.specs.Notes.{IsNoteText, may_note, noted_as, noted}
 use Rattle.host_core.specs.Session.{Session, is_agreed}
@@ -31,9 +31,9 @@ use Rattle.world3270.specs.statement.Always.{is_negative}
 use Rattle.world3270.specs.refinement.LowerLaws.{LowerLaws}
 use Rattle.world3270.specs.model.Steps.{closed_if, verdict_in, said, came_up, host_acted, host_noted, left_alone, place_after, came_down, went_down, key_went, host_parted, parted, term_saw, joined, term_anew, host_left_from, host_anew, done, stepped_by, run, RunsCompose, host_answered}
 use Rattle.world3270.specs.model.Link.{Link, begun, unused, cut, host_left, host_left_if, host_sent, term_left, term_left_if, term_stepped}
-use Rattle.world3270.specs.refinement.Phases.{Talking, LinkPhase}
+use Rattle.world3270.specs.refinement.Phases.{NegotiationPhase, LinkPhase}
 use Rattle.world3270.specs.model.Enabled.{is_enabled, free_number, is_link, comes_up, is_queued}
-use Rattle.world3270.specs.refinement.Invariant.{Kept}
+use Rattle.world3270.specs.refinement.Invariant.{ConnectionInvariant}
 use Rattle.world3270.specs.model.Terminal.{Display, TermStep, new_display, after_key, key_came, took as term_took}
 use Rattle.world3270.specs.refinement.View.{view_of}
 use Rattle.world3270.specs.model.World.{Place, World, Event, IsEvent, AreEvents, new_world, with_at, with_link, display_at}
@@ -53,7 +53,7 @@ abbrev pub Holds : List Entry → ℕ → Link → Type 0
 Holds pool number link = (lu : List ℕ) → link.host_here ≡ true → claim link.host ≡ Some lu → holder pool lu ≡ Some number
 
 pub record Good (app : Application) (pool : List Entry) (link : ℕ → Link) (causes : List Cause) (verdicts : List Verdict) : Type 0 where
-  pub links : (number : ℕ) → Kept app (view_of (link number))
+  pub links : (number : ℕ) → ConnectionInvariant app (view_of (link number))
   pub sound : IsSound pool
   pub holds : (number : ℕ) → Holds pool number (link number)
   pub uncaused : causes ≡ []
@@ -65,13 +65,13 @@ GoodWorld app world = Good app world.pool world.link world.causes world.verdicts
 -- ---- a link in the place of one with the same host
 
 record Replaces (app : Application) (old new : Link) : Type 0 where
-  kept : Kept app (view_of new)
+  kept : ConnectionInvariant app (view_of new)
   here : new.host_here ≡ true → old.host_here ≡ true
   claims : claim new.host ≡ claim old.host
 
 replaced : (app : Application) (pool : List Entry) (link : ℕ → Link) (causes : List Cause) (verdicts : List Verdict) (number : ℕ) (new : Link) → Good app pool link causes verdicts → Replaces app (link number) new → Good app pool (with_at number new link) causes verdicts
 replaced app pool link causes verdicts number new g r = record {
-  links = all_with (λ n x. Kept app (view_of x)) number new link r.kept g.links;
+  links = all_with (λ n x. ConnectionInvariant app (view_of x)) number new link r.kept g.links;
   sound = g.sound;
   holds = all_with (λ n x. Holds pool n x) number new link (λ lu here claims. g.holds number lu (r.here here) (sym r.claims ∙ claims)) g.holds;
   uncaused = g.uncaused;
@@ -84,7 +84,7 @@ replaced app pool link causes verdicts number new g r = record {
 pub granted_other : LowerLaws → (pool : List Entry) (number other : ℕ) (lu have : List ℕ) → holder pool lu ≡ None → holder pool have ≡ Some other → holder (granted_to number lu pool) have ≡ Some other
 granted_other given pool number other lu have free held = given.pool.others_stay pool number lu have (λ same. let x = ap (holder pool) same in absurd (cc)) ∙ held
 
-took_with : LowerLaws → (app : Application) (world : World) (number : ℕ) (step : HostStep) (new : Link) → GoodWorld app world → (world.link number).host_here ≡ true → Kept app (view_of new) → new.host ≡ step.conn
+took_with : LowerLaws → (app : Application) (world : World) (number : ℕ) (step : HostStep) (new : Link) → GoodWorld app world → (world.link number).host_here ≡ true → ConnectionInvariant app (view_of new) → new.host ≡ step.conn
     → Grants world.pool (world.link number).host step → Good app (granted_if number step.grants world.pool) (with_at number new world.link) world.causes world.verdicts
 took_with given app world number step new g here kept host (Grants.none ungranted same) =
     subst (λ grants. Good app (granted_if number grants world.pool) (with_at number new world.link) world.causes world.verdicts) (sym ungranted)
@@ -92,7 +92,7 @@ took_with given app world number step new g here kept host (Grants.none ungrante
 took_with given app world number step new g here kept host (Grants.one name lu gave has answer) =
     subst (λ grants. Good app (granted_if number grants world.pool) (with_at number new world.link) world.causes world.verdicts) (sym gave)
     (record {
-      links = all_with (λ n x. Kept app (view_of x)) number new world.link kept g.links;
+      links = all_with (λ n x. ConnectionInvariant app (view_of x)) number new world.link kept g.links;
       sound = given.pool.sound_granted world.pool number lu g.sound;
       holds = all_with (λ n x. Holds (granted_to number lu world.pool) n x) number new world.link held others;
       uncaused = g.uncaused;
@@ -141,7 +141,7 @@ noted_same : (text : List ℕ) (link : Link) (b : Bool) → SameEnd link (host_s
 noted_same text link true = record { claims = refl; here = refl }
 noted_same text link false = record { claims = refl; here = refl }
 
-sent_good : (app : Application) (world : World) (number : ℕ) (new : Link) → Kept app (view_of new) → SameEnd (world.link number) new → GoodWorld app world → GoodWorld app (with_link number new world)
+sent_good : (app : Application) (world : World) (number : ℕ) (new : Link) → ConnectionInvariant app (view_of new) → SameEnd (world.link number) new → GoodWorld app world → GoodWorld app (with_link number new world)
 sent_good app world number new kept same g =
     replaced app world.pool world.link world.causes world.verdicts number new g (record { kept = kept; here = λ e. sym same.here ∙ e; claims = same.claims })
 
@@ -204,7 +204,7 @@ cut_good app world number g =
 -- the host leaves a connection
 host_left_good : LowerLaws → (app : Application) (world : World) (number : ℕ) → GoodWorld app world → GoodWorld app (host_parted number world)
 host_left_good given app world number g = record {
-  links = all_with (λ n x. Kept app (view_of x)) number (host_left (world.link number)) world.link (loses app (view_of (world.link number)) (g.links number)) g.links;
+  links = all_with (λ n x. ConnectionInvariant app (view_of x)) number (host_left (world.link number)) world.link (loses app (view_of (world.link number)) (g.links number)) g.links;
   sound = given.pool.sound_back world.pool number g.sound;
   holds = λ other. by_test other (other == number) refl;
   uncaused = g.uncaused;
@@ -226,10 +226,10 @@ term_saw_good app world terminal (Place.Alone display) g = g
 
 -- ---- connections
 
-pub some_cells : (shape : Shape) → IsShape shape → 0 < cells_in shape
+pub some_cells : (shape : ScreenSize) → IsValidSize shape → 0 < cells_in shape
 some_cells shape is = let columns = is.columns in let row = is.row in omega (arith, columns, row)
 
-unused_kept : LowerLaws → (app : Application) → IsApplication app → (serves : Terminals) → Kept app (view_of (unused app serves))
+unused_kept : LowerLaws → (app : Application) → IsApplication app → (serves : Terminals) → ConnectionInvariant app (view_of (unused app serves))
 unused_kept given app is serves = record {
   whole = length-replicate (cells_in app.begins) (Char 0);
   cursor = some_cells app.begins is.begins;
@@ -237,21 +237,21 @@ unused_kept given app is serves = record {
   as_left = λ _. all_as_left (message_place app.begins) (replicate (cells_in app.begins) (Char 0));
   exact = record { known = given.belief.nothing_exact.0; protected = given.belief.nothing_exact.1 };
   wanted = None;
-  moment = LinkPhase.Talks Talking.Offering;
+  moment = LinkPhase.Negotiating NegotiationPhase.Offering;
   sizes = record { host = inl refl; screen = inl refl; same = λ steady. refl };
   at = record {
     host_talk = refl;
     term_talk = refl;
     turn = refl;
     pending = refl;
-    goes_down = record { vanished = ToTerminal.TalksDown (Saying.Opt Do 40) ∷ []; whole = refl; none = λ e. absurd (cc) };
+    goes_down = record { vanished = ToTerminal.TalksDown (NegotiationMessage.Opt Do 40) ∷ []; whole = refl; none = λ e. absurd (cc) };
     goes_up = record { vanished = []; whole = refl; none = λ _. refl };
   };
   fact = (record { shadow = refl; turn_reason = refl; lock = refl; aid = refl; no_fields = no_field (replicate (cells_in app.begins) (Char 0)) 0 (cells_in app.begins) }, tt);
   shown = tt;
 }
 
-begun_kept : LowerLaws → (app : Application) → IsApplication app → (serves : Terminals) (model : Model) (terminal : ℕ) (wanted : Option (List ℕ)) → IsLuIfSome wanted → Kept app (view_of (begun app serves model terminal wanted))
+begun_kept : LowerLaws → (app : Application) → IsApplication app → (serves : Terminals) (model : Model) (terminal : ℕ) (wanted : Option (List ℕ)) → IsLuIfSome wanted → ConnectionInvariant app (view_of (begun app serves model terminal wanted))
 begun_kept given app is serves model terminal wanted lu = record {
   whole = length-replicate (cells_in app.begins) (Char 0);
   cursor = some_cells app.begins is.begins;
@@ -259,7 +259,7 @@ begun_kept given app is serves model terminal wanted lu = record {
   as_left = λ _. all_as_left (message_place app.begins) (replicate (cells_in app.begins) (Char 0));
   exact = record { known = given.belief.nothing_exact.0; protected = given.belief.nothing_exact.1 };
   wanted = wanted;
-  moment = LinkPhase.Talks Talking.Offering;
+  moment = LinkPhase.Negotiating NegotiationPhase.Offering;
   sizes = record { host = inl refl; screen = inl refl; same = λ steady. refl };
   at = record {
     host_talk = refl;
@@ -276,7 +276,7 @@ begun_kept given app is serves model terminal wanted lu = record {
 joined_good : LowerLaws → (app : Application) → IsApplication app → (world : World) (terminal : ℕ) (model : Model) (wanted : Option (List ℕ)) → IsLuIfSome wanted → (number : Option ℕ) → GoodWorld app world → GoodWorld app (joined app terminal model wanted number world)
 joined_good given app is world terminal model wanted lu None g = g
 joined_good given app is world terminal model wanted lu (Some number) g = record {
-  links = all_with (λ n x. Kept app (view_of x)) number (begun app world.serves model terminal wanted) world.link (begun_kept given app is world.serves model terminal wanted lu) g.links;
+  links = all_with (λ n x. ConnectionInvariant app (view_of x)) number (begun app world.serves model terminal wanted) world.link (begun_kept given app is world.serves model terminal wanted lu) g.links;
   sound = g.sound;
   holds = all_with (λ n x. Holds world.pool n x) number (begun app world.serves model terminal wanted) world.link (λ have here claims. absurd (cc)) g.holds;
   uncaused = g.uncaused;
@@ -289,10 +289,10 @@ term_anew_good : (app : Application) (world : World) (terminal : ℕ) (place : P
 term_anew_good app world terminal (Place.At number) g = parted_good app world terminal number (new_display (world.link number).term.display.model app.begins) g
 term_anew_good app world terminal (Place.Alone display) g = same_links app world (with_at terminal (Place.Alone (new_display display.model app.begins)) world.place) g
 
-left_from : (app : Application) (link : Link) → Kept app (view_of link) → Kept app (view_of (host_left_from link)) × (host_left_from link).host_here ≡ false
+left_from : (app : Application) (link : Link) → ConnectionInvariant app (view_of link) → ConnectionInvariant app (view_of (host_left_from link)) × (host_left_from link).host_here ≡ false
 left_from app link k = by_here link.host_here refl
   where
-    by_here : (b : Bool) → link.host_here ≡ b → Kept app (view_of (if b then host_left link else link)) × (Link.host_here (if b then host_left link else link) ≡ false)
+    by_here : (b : Bool) → link.host_here ≡ b → ConnectionInvariant app (view_of (if b then host_left link else link)) × (Link.host_here (if b then host_left link else link) ≡ false)
     by_here true e = (loses app (view_of link) k, refl)
     by_here false e = (k, e)
 

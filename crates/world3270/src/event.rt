@@ -1,6 +1,6 @@
 //! The events that may happen to a world, and the answers to them.
 ghost use Rattle.tn3270e_msg.specs.Talk.{IsLuIfSome};
-ghost use Rattle.world3270.specs.refinement.Refines.{AreReal, IsReal};
+ghost use Rattle.world3270.specs.refinement.Refines.{AreValidEvents, IsValidEvent};
 
 use crate::note_text::NoteText;
 use host_core::{Answer, Ticket};
@@ -66,7 +66,7 @@ pub struct Ran {
 /// Law: the key of an event is a key of the keyboard, the LU's name is a name, the values of an answer are characters,
 /// and the text of a note is a note's text.
 pub(crate) fn events_are_real(event: &Event)
-    ensures { IsReal event.now }
+    ensures { IsValidEvent event.now }
 {
     match event {
         Event::Key(_, key) => keys_are_real(key),
@@ -90,7 +90,7 @@ pub(crate) fn events_are_real(event: &Event)
 
 /// Law: `events_are_real` for each of these events.
 pub(crate) fn all_events_are_real(events: &[Event])
-    ensures { AreReal events.now }
+    ensures { AreValidEvents events.now }
 {
     for event in events {
         events_are_real(event);

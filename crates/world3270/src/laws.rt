@@ -1,6 +1,6 @@
 //! Laws of worlds over messages and over bytes. Each is the contract of a function that does nothing. Proofs use them,
 //! also those of other crates; no program calls them, and the root doesn't export them.
-ghost use Rattle.world3270.specs.statement.Always.{Always, AlwaysOf, HeadlineHolds, NobodyRefuses};
+ghost use Rattle.world3270.specs.statement.Always.{Always, AlwaysOf, HeadlineHolds, NoCommandIsRejected};
 ghost use Rattle.world3270.specs.statement.Asked.{AskedIsSeen, AskedIsSeenOverBytes, FieldsAreSeen, ScreensAreAsLeft};
 ghost use Rattle.world3270.specs.statement.EveryTerminal.{EveryTerminal};
 ghost use Rattle.world3270.specs.statement.EveryTerminalBytes.{EveryTerminalOverBytes};
@@ -16,7 +16,7 @@ ghost use Rattle.world3270.specs.statement.TurnReasons.{ActsOnTheKey, KnowsTheCl
 ghost use Rattle.world3270.specs.statement.OneOutcome.{EventsAreOne, RunsAreOne, StepsAreOne};
 ghost use Rattle.world3270.specs.statement.RuleLaws.{TerminalsKeepTheRules};
 ghost use Rattle.world3270.specs.model.Places.{EndsAgree, UpIsHeld, HoldersAreHere, LinksStay, HoldersStay, PoolIsSound};
-ghost use Rattle.world3270.specs.refinement.Refines.{BeginIsReached, HeadlineIsSeen, RunsGoOn, SkipsAreThose, StepsGoOn};
+ghost use Rattle.world3270.specs.refinement.Refines.{BeginIsReached, HeadlineIsSeen, RunsAreSimulated, SameSkips, StepsAreSimulated};
 ghost use Rattle.world3270.specs.model.TrackedTerminals.{HistoryFollows};
 ghost use Rattle.world3270.specs.refinement.Sendable.{AlwaysTyped, DataCanBeSpelt, PaintsAreScreens, PaintsAreSpelt, ScreensAreSendable, ScreensHaveASize, ValuesAreTexts};
 ghost use Rattle.world3270.specs.statement.Shown.{FieldsAreShown, PanelIsShown, PanelIsShownOverBytes};
@@ -86,7 +86,7 @@ pub fn the_headline_holds()
 /// Law: after any list of events no terminal has ever rejected a command, no negative response is the
 /// reason of the host's turn, and neither end has ever closed a connection for a cause.
 pub fn nobody_refuses()
-    ensures { Always NobodyRefuses }
+    ensures { Always NoCommandIsRejected }
 {
     what_is_given();
 }
@@ -181,14 +181,14 @@ pub fn numbers_have_15_bits()
 
 /// Law: after any list of events each terminal's screen has one of the two sizes of its model. If also
 /// all keys are keys of the keyboard and the application asks for screens of our profile, each
-/// terminal's screen can be sent; data, paints and notes under way can be spelt as bytes; what is
+/// terminal's screen can be sent; data, paints and notes under way can be encoded as bytes; what is
 /// painted is a screen that can be sent; and the host's values are characters.
 pub fn screens_can_be_sent()
     ensures size { AlwaysOf ScreensHaveASize }
     ensures screens { AlwaysTyped ScreensAreSendable }
     ensures data { AlwaysTyped DataCanBeSpelt }
     ensures paints { AlwaysTyped PaintsAreScreens }
-    ensures spelt { AlwaysTyped PaintsAreSpelt }
+    ensures encoded { AlwaysTyped PaintsAreSpelt }
     ensures values { AlwaysTyped ValuesAreTexts }
 {
     what_is_given();
@@ -311,9 +311,9 @@ fn what_is_known()
 /// cause; and no response rejects a command, even one under way to a host that has left.
 pub fn bytes_follow_messages()
     ensures begin { BeginIsReached }
-    ensures steps { StepsGoOn }
-    ensures runs { RunsGoOn }
-    ensures skipped { SkipsAreThose }
+    ensures steps { StepsAreSimulated }
+    ensures runs { RunsAreSimulated }
+    ensures skipped { SameSkips }
     ensures headline { HeadlineIsSeen }
     ensures close_nothing { DeliveriesCloseNothing }
     ensures nobody_closes { NobodyCloses }

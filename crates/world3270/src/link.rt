@@ -40,7 +40,7 @@ impl Direction {
         }
     }
 
-    /// Begins: all that the sender will have to send is under way.
+    /// FirstPaint: all that the sender will have to send is under way.
     pub(crate) fn begin(&mut self)
         ensures { self.new ≡ StaysLive }
     {
@@ -166,7 +166,7 @@ impl Link {
         }
     }
 
-    /// Begins a connection.
+    /// FirstPaint a connection.
     pub(crate) fn begin(&mut self)
         ensures { self.new ≡ begun_transits }
     {

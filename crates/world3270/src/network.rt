@@ -270,7 +270,7 @@ impl Network {
         ensures { self.new ≡ terminal_gone (new_slot (model_at terminal self.old)) terminal conn self.old }
     {
         let down = self.host.out(conn).len();
-        let unsent = self.slots[terminal].leave_anew();
+        let unsent = self.slots[terminal].leave_and_restart();
         self.links[conn].terminal_leaves(down, unsent);
     }
 

@@ -1,6 +1,6 @@
 //! A terminal, with its connection and the history of its screen.
 ghost use Rattle.std.specs.Prelude.{◌≡◌, ◌<◌, ◌≤◌, drop, length, IfOk, IfSome, OnOk, OnErr, Some, None};
-ghost use Rattle.host_core.specs.State.{most_connections, phase_of, service_at, with_opened};
+ghost use Rattle.host_core.specs.State.{most_connections, phase_of, state_at, with_opened};
 ghost use Rattle.keyboard.specs.Leaves.{erases};
 ghost use Rattle.term_core.specs.Feeds.{IsAttached};
 ghost use Rattle.term_core.specs.Presses.{LacksKeyRoom, answer_to_key};
@@ -8,7 +8,7 @@ ghost use Rattle.term_core.specs.Room.{out_room};
 ghost use Rattle.term_core.specs.State.{model_of};
 ghost use Rattle.world3270.specs.model.ByteSteps.{TrackedFeeds};
 ghost use Rattle.world3270.specs.model.ByteWorld.{alone, new_slot, attached_slot, is_attached_to};
-ghost use Rattle.world3270.specs.model.InFlight.{StopsAtOnce, TookByte};
+ghost use Rattle.world3270.specs.model.InFlight.{BlocksInput, TookByte};
 ghost use Rattle.world3270.specs.model.TrackedTerminals.{restored_by, tracked_after_key};
 
 use codes3270::Model;
@@ -143,7 +143,7 @@ impl TerminalSlot {
         Ok(pressed)
     }
 
-    /// Begins connection `conn`, here and at the host; the terminal requests the LU `wanted`, if one.
+    /// FirstPaint connection `conn`, here and at the host; the terminal requests the LU `wanted`, if one.
     /// If memory is refused for its output buffer or by the host, nothing has changed.
     pub(crate) fn attach(
         &mut self,
@@ -153,7 +153,7 @@ impl TerminalSlot {
     ) -> Result<(), Memory>
         requires alone { self.old.at ≡ None }
         requires number { conn < most_connections }
-        requires free { phase_of (service_at conn host.old) ≡ Phase.Free }
+        requires free { phase_of (state_at conn host.old) ≡ Phase.Free }
         ensures attached_slot { OnOk result
             (self.new ≡ attached_slot (model_of self.old.tracked.terminal) wanted conn) }
         ensures opened { OnOk result (host.new ≡ with_opened conn host.old) }
@@ -200,7 +200,7 @@ impl TerminalSlot {
     }
 
     /// Leaves the connection, restarts, and returns the bytes that weren't sent.
-    pub(crate) fn leave_anew(&mut self) -> Vec<u8>
+    pub(crate) fn leave_and_restart(&mut self) -> Vec<u8>
         ensures unsent { result.items ≡ self.old.tracked.terminal.out }
         ensures anew { self.new ≡ new_slot (model_of self.old.tracked.terminal) }
     {
@@ -211,7 +211,7 @@ impl TerminalSlot {
 
     /// Why the terminal takes no bytes in its phase; None if it takes them.
     fn stops(&self) -> Option<Stop>
-        ensures { StopsAtOnce result self.now.tracked.terminal.link }
+        ensures { BlocksInput result self.now.tracked.terminal.link }
     {
         match self.terminal.phase() {
             TermPhase::Idle => Some(Stop::Going),

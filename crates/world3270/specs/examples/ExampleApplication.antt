@@ -5,7 +5,7 @@ use Rattle.codes3270.specs.declared.size.Model.TheVariants.{M2, M3, M4, M5}
 use Rattle.codes3270.specs.declared.size.Model.{Model}
 use Rattle.std.specs.List.{range_with_len}
 use Rattle.std.proofs.Common.{lit≤}
-use Rattle.codes3270.specs.Size.{Shape}
+use Rattle.codes3270.specs.Size.{ScreenSize}
 use Rattle.codes3270.specs.declared.attention.Aid.{Aid}
 use Rattle.codes3270.specs.declared.attention.Aid.TheVariants.{Enter, Clear, Pf}
 use Rattle.codes3270.specs.declared.attribute.Attr.{Attr as Attribute}
@@ -57,14 +57,14 @@ fields_of (suc panel) = []
 -- ---- the screens that are asked for
 
 -- two rows of 16 cells
-abbrev pub small : Shape
+abbrev pub small : ScreenSize
 small = record { rows = 2; columns = 16 }
 
 -- three, the alternate size of a model 5
-abbrev pub tall : Shape
+abbrev pub tall : ScreenSize
 tall = record { rows = 3; columns = 16 }
 
-abbrev pub alternate : Model → Shape
+abbrev pub alternate : Model → ScreenSize
 alternate M2 = small
 alternate M3 = small
 alternate M4 = small

@@ -1,7 +1,7 @@
 -- The steps of the example's runs, and records of the states that they reach. Readers and proofs need them, and nothing
 -- rests on them (our profile).
 use Rattle.std.specs.Prelude.{◌≡◌, ◌∷◌, ◌++◌, ℕ, suc, zero, Bool, List, [], map, filter_map, replicate, Option, None, Some, option_map}
-use Rattle.codes3270.specs.Size.{Shape}
+use Rattle.codes3270.specs.Size.{ScreenSize}
 use Rattle.codes3270.specs.declared.size.Model.TheVariants.{M5}
 use Rattle.codes3270.specs.declared.attention.Aid.{Aid}
 use Rattle.codes3270.specs.declared.attention.Aid.TheVariants.{NoAid}
@@ -58,7 +58,7 @@ after events = run example events (new_world example WaitingTerminals example_po
 -- connection; and the pool
 pub record End : Type 0 where
   pub place : Place
-  pub size : Shape
+  pub size : ScreenSize
   pub screen : Screen
   pub lock : Lock
   pub talk : TermState
@@ -86,7 +86,7 @@ abbrev pub l1_held : List Entry
 l1_held = entry l1 (Some 0) ∷ entry l2 None ∷ []
 
 -- the terminal is at connection 0, bound to L1, with this screen and an unlocked keyboard; nothing is under way
-abbrev pub bound_and_shows : Shape → Screen → End
+abbrev pub bound_and_shows : ScreenSize → Screen → End
 bound_and_shows size screen = record {
   place = Place.At 0;
   size = size;

@@ -20,7 +20,7 @@ use Rattle.host_core.specs.Session.{new_conn}
 use Rattle.host_core.specs.declared.question.Answer.{Answer as ApplicationAnswer}
 use Rattle.host_core.specs.declared.terminals.Terminals.{Terminals}
 use Rattle.host_core.specs.declared.terminals.Terminals.TheVariants.{Any, Waiting}
-use Rattle.world3270.specs.statement.EveryTerminal.{AreByTheRules, Begins, Move, RightOf, ReportedLink, after_moves, moved}
+use Rattle.world3270.specs.statement.EveryTerminal.{AreByTheRules, FirstPaint, Move, RightOf, LinkWithReport, after_moves, moved}
 use Rattle.world3270.specs.examples.ExampleApplication.{example, example_pool, l1, l2, small}
 use Rattle.world3270.specs.examples.ExampleQuestions.{renamed}
 use Rattle.world3270.specs.examples.ExampleScreens.{fresh_sign_on, message_seen, no_message, skipped}
@@ -32,7 +32,7 @@ use Rattle.world3270.specs.model.Terminal.{TermEnd, TermStep, new_display}
 -- ---- what happens
 
 -- A host that serves these terminals has granted L1; the terminal is bound to this LU.
-abbrev pub agreed_with : Terminals → List ℕ → ReportedLink
+abbrev pub agreed_with : Terminals → List ℕ → LinkWithReport
 agreed_with serves mine =
     let end : TermEnd = record {
       waits = false;
@@ -55,9 +55,9 @@ agreed_with serves mine =
 
 -- a step of a run, as a function of the connection's state
 abbrev pub Deed : Type 0
-Deed = ReportedLink → ReportedLink
+Deed = LinkWithReport → LinkWithReport
 
-abbrev pub after : List Deed → ReportedLink → ReportedLink
+abbrev pub after : List Deed → LinkWithReport → LinkWithReport
 after [] t = t
 after (deed ∷ deeds) t = after deeds (deed t)
 
@@ -106,7 +106,7 @@ renamed_seen = 0xC2 ∷ replicate 14 0
 abbrev pub left_behind : List ℕ
 left_behind = 0xC2 ∷ replicate 5 0 ++ 0xD8 ∷ replicate 8 0
 
-abbrev pub shown_by : ReportedLink → Screen
+abbrev pub shown_by : LinkWithReport → Screen
 shown_by t = t.link.term.display.screen
 
 -- then a PF key that leads to no panel, which is delivered to the host
@@ -128,7 +128,7 @@ enters_twice = signs_on ++ presses (key.Char 0x41) ∷ presses key.Enter ∷ goe
     ∷ presses (key.Char 0x42) ∷ presses key.Enter ∷ goes_up ∷ []
 
 -- the state with the present display as `told`
-abbrev pub told_the_newest : ReportedLink → ReportedLink
+abbrev pub told_the_newest : LinkWithReport → LinkWithReport
 told_the_newest t = record t { told = t.link.term.display }
 
 -- The host was told what the first Enter sent. `RightOf` doesn't hold with what the second one sent as `told`.
@@ -195,7 +195,7 @@ kept_moves = Move.Act ∷ Move.Down ∷ Move.Up example_pool ∷ Move.Operate en
 
 -- The theorem's premises can be met, and a terminal that meets them need not wait.
 pub record KeptRules : Type 0 where
-  pub begins : Begins example l1 (agreed_with Any l1)
+  pub begins : FirstPaint example l1 (agreed_with Any l1)
   pub kept : AreByTheRules example kept_moves (agreed_with Any l1)
   pub changed : shown_by (after_moves example kept_moves (agreed_with Any l1))
       ≢ (after_moves example kept_moves (agreed_with Any l1)).told.screen

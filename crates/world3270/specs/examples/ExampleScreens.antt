@@ -2,7 +2,7 @@
 -- profile).
 use Rattle.std.specs.Prelude.{ℕ, Bool, true, false, List, [], ◌∷◌, ◌++◌, map, replicate, ◌+◌}
 use Rattle.host_core.specs.Application.{message_place}
-use Rattle.codes3270.specs.Size.{Shape}
+use Rattle.codes3270.specs.Size.{ScreenSize}
 use Rattle.codes3270.specs.declared.attention.Aid.{Aid}
 use Rattle.codes3270.specs.declared.attention.Aid.TheVariants.{NoAid}
 use Rattle.codes3270.specs.declared.attribute.Cell.{Cell}
@@ -85,6 +85,6 @@ greeting_seen name = record {
 }
 
 -- an unformatted screen of nulls, but for a note in the last row
-abbrev pub unformatted : Shape → Aid → List ℕ → Screen
+abbrev pub unformatted : ScreenSize → Aid → List ℕ → Screen
 unformatted size aid note =
     record { cells = replicate (message_place size + 1) (Char 0) ++ map Char note; cursor = 0; aid = aid }

@@ -13,7 +13,7 @@ use Rattle.host_core.specs.Does.{Does as HostDoes, DoesAnswer, acted_by, noted_b
 use Rattle.host_core.specs.Feeds.{Feeds, connection_and_pool_at, with_connection_and_pool}
 use Rattle.host_core.specs.Questions.{answered_by}
 use Rattle.host_core.specs.KeepAlive.{kept_alive, may_keep_alive}
-use Rattle.host_core.specs.State.{Connection, Host, connection_at, service_at, with_connection, restarted, most_connections, given_up, session_at, with_opened}
+use Rattle.host_core.specs.State.{Connection, Host, connection_at, state_at, with_connection, restarted, most_connections, given_up, session_at, with_opened}
 use Rattle.host_core.specs.declared.acted.Acted.{Acted}
 use Rattle.host_core.specs.declared.acted.Acted.TheVariants as acted
 use Rattle.term_core.specs.Feeds.{StopsFor}
@@ -71,11 +71,11 @@ is_enabled (event.Up number count) world = is_link number
 is_enabled (event.Down number count) world = is_link number
     && (terminal_there number world && is_queued (take count (down_of number world)))
 is_enabled (event.Act number) world = is_link number
-    && is_some (acted_by (application_of world.host.panels) (service_at number world.host))
+    && is_some (acted_by (application_of world.host.panels) (state_at number world.host))
 is_enabled (event.Answer number ticket said) world =
     is_link number && is_some (answered_by (application_of world.host.panels) (session_at number world.host) ticket said
-    (service_at number world.host))
-is_enabled (event.Note number text) world = is_link number && is_some (noted_by text (service_at number world.host))
+    (state_at number world.host))
+is_enabled (event.Note number text) world = is_link number && is_some (noted_by text (state_at number world.host))
 is_enabled (event.KeepAlive number) world = is_link number && may_keep_alive (connection_at number world.host)
 is_enabled (event.Lose number) world = is_link number && is_up number world
 is_enabled (event.HostSees number) world = is_link number && (is_lost number world && host_there number world)
@@ -277,12 +277,12 @@ IsStep (event.Up number count) old answer new = ComesUp number (take count (up_o
 IsStep (event.Down number count) old answer new = GoesDown (terminal_at number old.slots) number
     (take count (down_of number old)) old answer new
 IsStep (event.Act number) old answer new = OnConnection
-    (HostDoes (acted_by (application_of old.host.panels) (service_at number old.host))) number old answer new
+    (HostDoes (acted_by (application_of old.host.panels) (state_at number old.host))) number old answer new
 IsStep (event.Answer number ticket said) old answer new =
     OnConnection (DoesAnswer (application_of old.host.panels) said (answered_by (application_of old.host.panels)
-    (session_at number old.host) ticket said (service_at number old.host))) number old answer new
+    (session_at number old.host) ticket said (state_at number old.host))) number old answer new
 IsStep (event.Note number text) old answer new =
-    OnConnection (HostDoes (noted_by text (service_at number old.host))) number old answer new
+    OnConnection (HostDoes (noted_by text (state_at number old.host))) number old answer new
 IsStep (event.KeepAlive number) old answer new = Is (nop_sent number old) answer new
 IsStep (event.Lose number) old answer new = Is (with_transits number (lost_transits number old) old) answer new
 IsStep (event.HostSees number) old answer new = Is (host_gone number old) answer new

@@ -3,7 +3,7 @@
 use Rattle.std.specs.Prelude.{◌==◌, ◌≤◌, ◌-◌, ℕ, Bool, true, false, List, [], Option, Some, None, is_some, drop, position, replicate, slice_index_or, slice_set, take, map}
 use Rattle.lu_pool.specs.declared.entry.Entry.{Entry}
 use Rattle.panels.specs.Panel.{Panels}
-use Rattle.host_core.specs.State.{Host, Service, connection_at, host_for, service_at, most_connections}
+use Rattle.host_core.specs.State.{Host, Service, connection_at, host_for, state_at, most_connections}
 use Rattle.host_core.specs.declared.terminals.Terminals.{Terminals}
 use Rattle.codes3270.specs.Size.{cells_in, model_2}
 use Rattle.codes3270.specs.declared.size.Model.{Model}
@@ -144,7 +144,7 @@ is_there (Service.Closed cause) = true
 
 -- whether the host holds its end of a connection
 abbrev pub host_there : ℕ → ByteWorld → Bool
-host_there number world = is_there (service_at number world.host)
+host_there number world = is_there (state_at number world.host)
 
 abbrev pub terminal_there : ℕ → ByteWorld → Bool
 terminal_there number world = is_some (terminal_at number world.slots)

@@ -22,11 +22,11 @@ IsSoundSlot None device = device.terminal.link ≡ Detached
 IsSoundSlot (Some number) device = (number < most_connections) × (out_room ≤ device.room)
 
 -- Why a terminal takes no bytes in this state; None if it takes them.
-abbrev pub StopsAtOnce : Option Stop → Link → Type 0
-StopsAtOnce None link = IsAttached link
-StopsAtOnce (Some stop.Going) link = link ≡ Detached
-StopsAtOnce (Some stop.Memory) link = ⊥
-StopsAtOnce (Some (stop.Closed cause)) link = link ≡ Closed cause
+abbrev pub BlocksInput : Option Stop → Link → Type 0
+BlocksInput None link = IsAttached link
+BlocksInput (Some stop.Going) link = link ≡ Detached
+BlocksInput (Some stop.Memory) link = ⊥
+BlocksInput (Some (stop.Closed cause)) link = link ≡ Closed cause
 
 -- A terminal is fed a byte, and stops as `Stop` says: it takes the byte, unless memory was refused.
 abbrev pub TookByte : Stop → TrackedTerminal → ℕ → TrackedTerminal → Type 0

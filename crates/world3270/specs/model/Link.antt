@@ -7,7 +7,7 @@ use Rattle.telnet_wire.specs.declared.wire.Verb.TheVariants.{Do}
 use Rattle.tn3270e_msg.specs.declared.cause.Cause.{Cause}
 use Rattle.host_core.specs.declared.terminals.Terminals.{Terminals}
 use Rattle.host_core.specs.Messages.{ToTerminal, ToHost}
-use Rattle.tn3270e_msg.specs.Talk.{Saying}
+use Rattle.tn3270e_msg.specs.Talk.{NegotiationMessage}
 use Rattle.host_core.specs.Session.{Session, new_conn}
 use Rattle.host_core.specs.Takes.{HostStep}
 use Rattle.host_core.specs.Acts.{Sent}
@@ -38,7 +38,7 @@ is_up link = not (link.lost || is_free link)
 abbrev pub begun : Application → Terminals → Model → ℕ → Option (List ℕ) → Link
 begun app serves model terminal wanted = record {
   lost = false;
-  down = ToTerminal.TalksDown (Saying.Opt Do 40) ∷ [];
+  down = ToTerminal.TalksDown (NegotiationMessage.Opt Do 40) ∷ [];
   up = [];
   host_here = true;
   host = new_conn serves app;

@@ -2,7 +2,7 @@
 -- keyboard locks are our profile).
 use Rattle.std.specs.Prelude.{◌||◌, ℕ, Bool, true, false, List, [], ◌∷◌, map, Option, Some, None, is_some}
 use Rattle.codes3270.specs.declared.size.Model.{Model}
-use Rattle.codes3270.specs.Size.{Shape, cells_in}
+use Rattle.codes3270.specs.Size.{ScreenSize, cells_in}
 use Rattle.datastream.specs.Grammar.{CommandParts}
 use Rattle.datastream.specs.InboundFields.{modified_data, buffer_data}
 use Rattle.datastream.specs.Meaning.{after_command}
@@ -16,7 +16,7 @@ use Rattle.keyboard.specs.declared.key.Key.{Key}
 use Rattle.keyboard.specs.declared.key.Pressed.{Pressed}
 use Rattle.keyboard.specs.declared.key.Pressed.TheVariants.{Done, Refused, Send}
 use Rattle.shadow.specs.Painted.{plainly_painted}
-use Rattle.tn3270e_msg.specs.Talk.{Talk, follow, Saying, says, sayings, closing}
+use Rattle.tn3270e_msg.specs.Talk.{Talk, follow, NegotiationMessage, says, sayings, closing}
 use Rattle.tn3270e_msg.specs.TermTable.{Term, term_start, term_transition}
 use Rattle.tn3270e_msg.specs.declared.cause.Cause.{Cause}
 use Rattle.tn3270e_msg.specs.declared.reply.Reply.{Reply}
@@ -29,7 +29,7 @@ use Rattle.host_core.specs.Messages.{ToTerminal, ToHost, Verdict}
 -- before the last write that restored the keyboard on the latest connection, and whether Erase Input was done since.
 pub record Display : Type 0 where
   pub model : Model
-  pub size : Shape
+  pub size : ScreenSize
   pub screen : Screen
   pub keyboard : Keyboard
   pub last_restored : Screen
@@ -37,7 +37,7 @@ pub record Display : Type 0 where
   pub erased : Bool
 
 -- a blank screen of this size, with the keyboard locked until the host's first write
-abbrev pub new_display : Model → Shape → Display
+abbrev pub new_display : Model → ScreenSize → Display
 new_display model size = record {
   model = model;
   size = size;
@@ -56,7 +56,7 @@ pub record TermEnd : Type 0 where
 
 -- the end of a terminal of this model at the begin of a connection, with a screen of this size; it will request the LU
 -- `wanted`, if one
-abbrev pub new_end : Model → Shape → Option (List ℕ) → TermEnd
+abbrev pub new_end : Model → ScreenSize → Option (List ℕ) → TermEnd
 new_end model size wanted = record { waits = true; talk = term_start model wanted; display = new_display model size }
 
 -- the LU that the terminal is bound to, if the negotiation is complete (RFC 1647, section 7)
@@ -91,7 +91,7 @@ abbrev pub replied : TermEnd → Talk TermState × Reply → TermStep
 replied end talked =
     record { end = with_talk end talked.0; sends = map ToHost.TalksUp (sayings talked.1); closes = closing talked.1 }
 
-abbrev pub talked : TermEnd → Term → Saying → TermStep
+abbrev pub talked : TermEnd → Term → NegotiationMessage → TermStep
 talked end talk saying =
     replied end (follow Closed talk.talk (term_transition talk.model talk.wanted talk.talk.state (says saying)))
 
@@ -162,7 +162,7 @@ after_key key display =
     }
 
 -- what is sent after a key: the modified fields, if the key sends and the terminal is bound; else nothing
-abbrev pub data_of : Bool → Pressed → Shape → Screen → List ToHost
+abbrev pub data_of : Bool → Pressed → ScreenSize → Screen → List ToHost
 data_of true (Send aid) size screen = ToHost.Data (modified_data Modified size screen) ∷ []
 data_of false (Send aid) size screen = []
 data_of bound Done size screen = []

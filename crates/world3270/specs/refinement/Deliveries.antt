@@ -5,7 +5,7 @@ use Rattle.std.specs.Prelude.{◌≡◌, ℕ, List, [], Option, Some, None, leng
 use Rattle.telnet_wire.specs.Items.{WireItem}
 use Rattle.telnet_wire.specs.Reading.{Rest, Delivers, nothing}
 use Rattle.tn3270e_msg.specs.Header.{record_limit}
-use Rattle.host_core.specs.State.{service_at}
+use Rattle.host_core.specs.State.{state_at}
 use Rattle.term_core.specs.State.{Link, Detached, Attached, Closed}
 use Rattle.world3270.specs.model.ByteWorld.{ByteWorld, down_of, slot_at, terminal_at}
 use Rattle.world3270.specs.refinement.Representation.{rest_of}
@@ -18,7 +18,7 @@ use Rattle.world3270.specs.declared.event.Stepped.TheVariants as stepped
 
 -- what the host's decoder holds: the bytes of an item that isn't complete
 abbrev pub host_rest : ℕ → ByteWorld → Rest
-host_rest number world = rest_of (service_at number world.host)
+host_rest number world = rest_of (state_at number world.host)
 
 abbrev pub rest_at : Link → Rest
 rest_at Detached = nothing

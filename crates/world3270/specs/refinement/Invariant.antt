@@ -1,7 +1,7 @@
 -- The invariant of the headline, for proofs: what holds of a connection at each of its moments (our profile).
 use Rattle.std.specs.Prelude.{◌≡◌, ◌<◌, ⊤, ℕ, Bool, false, List, [], length, Option, Some, None, IsTrue, IsOkAnd, true}
 use Rattle.codes3270.specs.Aid.{is_short_aid}
-use Rattle.codes3270.specs.Size.{Shape, cells_in}
+use Rattle.codes3270.specs.Size.{ScreenSize, cells_in}
 use Rattle.codes3270.specs.declared.attention.Aid.TheVariants.{NoAid, Clear}
 use Rattle.datastream.specs.Fields.{fields}
 use Rattle.datastream.specs.Grammar.{CommandParts}
@@ -35,7 +35,7 @@ use Rattle.host_core.specs.declared.unheard.Unheard.{Unheard}
 use Rattle.host_core.specs.declared.unheard.Unheard.TheVariants as unheards
 use Rattle.world3270.specs.statement.AsLeft.{ProtectedIsAsLeft}
 use Rattle.world3270.specs.statement.Headline.{SentFields}
-use Rattle.world3270.specs.refinement.Phases.{Talking, Serving, LinkPhase, IsAt}
+use Rattle.world3270.specs.refinement.Phases.{NegotiationPhase, SessionPhase, LinkPhase, IsAt}
 use Rattle.world3270.specs.statement.Showing.{WantsItsPanelOn, ShowsItsPanel}
 pub use Rattle.world3270.specs.statement.Showing.{IsTextKnown, IsKnownIfRead}
 use Rattle.world3270.specs.statement.TurnReasons.{IsOccasion, IsCursorFor, IsOpenBy, IsOpenFor, IsCleared}
@@ -46,7 +46,7 @@ use Rattle.world3270.specs.refinement.View.{View}
 -- address that it believes, and what may have changed without its knowledge; at the terminal, the keyboard lock, the
 -- screen and its history
 pub record LocalState : Type 0 where
-  pub size : Shape
+  pub size : ScreenSize
   pub shadow : Shadow
   pub turn_reason : TurnReason
   pub cursor : ℕ
@@ -70,7 +70,7 @@ local_state_of v = record {
 }
 
 -- the belief after a write is taken
-abbrev pub once_taken : Shape → CommandParts → Shadow → Shadow
+abbrev pub once_taken : ScreenSize → CommandParts → Shadow → Shadow
 once_taken size command shadow = taken (cells_in size) command shadow
 
 -- Holds if a field of which all characters are known is known exactly, and so is each protected field.
@@ -131,7 +131,7 @@ pub record Operates (shadow : Shadow) (s : LocalState) : Type 0 where
   pub noted : NotedSince (message_place s.size) s.last_restored.cells shown.cells
 
 -- Holds if the host knows the screen.
-pub record Sees (unheard : Unheard) (size : Shape) (screen : Screen) (shadow : Shadow) : Type 0 where
+pub record Sees (unheard : Unheard) (size : ScreenSize) (screen : Screen) (shadow : Shadow) : Type 0 where
   pub exact : FactsAreExact shadow
   pub closed : IfRelies unheard (IsOpenBy screen.aid false shadow)
   pub cleared : screen.aid ≡ Clear → IsCleared size shadow
@@ -149,7 +149,7 @@ pub record IsPressed (s : LocalState) (parts : InboundParts) : Type 0 where
   pub some : s.screen.aid ≡ NoAid → ⊥
 
 -- The host will accept the key's data, and then `Then` holds of its belief.
-abbrev pub WillBeHeard : Shape → Shadow → InboundParts → (Shadow → Type 0) → Type 0
+abbrev pub WillBeHeard : ScreenSize → Shadow → InboundParts → (Shadow → Type 0) → Type 0
 WillBeHeard size shadow parts Then = IsOkAnd (heard (cells_in size) shadow parts) Then
 
 abbrev pub WillSee : LocalState → Shadow → InboundParts → Type 0
@@ -185,38 +185,39 @@ pub record MayBeNoted (s : LocalState) (command : CommandParts) : Type 0 where
 
 -- ---- the table: what is known at each moment
 
-abbrev pub TalkFact : Option (List ℕ) → Talking → Type 0
-TalkFact wanted Talking.Offering = IsLuIfSome wanted
-TalkFact wanted Talking.Accepting = IsLuIfSome wanted
-TalkFact wanted Talking.AskingType = IsLuIfSome wanted
-TalkFact wanted Talking.NamingType = IsLuIfSome wanted
-TalkFact wanted (Talking.Granting lu) = MayBeGranted wanted lu
+abbrev pub TalkFact : Option (List ℕ) → NegotiationPhase → Type 0
+TalkFact wanted NegotiationPhase.Offering = IsLuIfSome wanted
+TalkFact wanted NegotiationPhase.Accepting = IsLuIfSome wanted
+TalkFact wanted NegotiationPhase.AskingType = IsLuIfSome wanted
+TalkFact wanted NegotiationPhase.NamingType = IsLuIfSome wanted
+TalkFact wanted (NegotiationPhase.Granting lu) = MayBeGranted wanted lu
 TalkFact wanted _ = ⊤
 
-abbrev pub ServingFact : LocalState → Serving → Type 0
-ServingFact s Serving.Deciding = Decides s s.shadow
-ServingFact s (Serving.Reading number) = IsRead s
-ServingFact s (Serving.Reported number parts) = IsReported s parts
-ServingFact s (Serving.NotedLate number command) = Decides s s.shadow × MayBeNoted s command
-ServingFact s (Serving.AnsweredLate number command) = Decides s (once_taken s.size command s.shadow)
-ServingFact s (Serving.Painting number command wanted over) = IsPainted s command wanted over
-ServingFact s (Serving.Answering kind number command) = Operates (once_taken s.size command s.shadow) s
-ServingFact s Serving.Operating = Operates s.shadow s
-ServingFact s (Serving.Noting number command) = Operates s.shadow s × IsNoteOf s.size command
-ServingFact s (Serving.KeyAlone parts) = IsPressed s parts × WillSee s s.shadow parts × TakesNotes s.size s.screen.cells
-ServingFact s (Serving.KeyBehind kind number command parts) =
+abbrev pub ServingFact : LocalState → SessionPhase → Type 0
+ServingFact s SessionPhase.Deciding = Decides s s.shadow
+ServingFact s (SessionPhase.Reading number) = IsRead s
+ServingFact s (SessionPhase.BufferReturning number parts) = IsReported s parts
+ServingFact s (SessionPhase.DecidingNoteSent number command) = Decides s s.shadow × MayBeNoted s command
+ServingFact s (SessionPhase.DecidingNoteAnswered number command) = Decides s (once_taken s.size command s.shadow)
+ServingFact s (SessionPhase.Painting number command wanted over) = IsPainted s command wanted over
+ServingFact s (SessionPhase.AwaitingWriteResponse kind number command) = Operates (once_taken s.size command s.shadow) s
+ServingFact s SessionPhase.OperatorTyping = Operates s.shadow s
+ServingFact s (SessionPhase.Noting number command) = Operates s.shadow s × IsNoteOf s.size command
+ServingFact s (SessionPhase.KeySent parts) = IsPressed s parts × WillSee s s.shadow parts
+    × TakesNotes s.size s.screen.cells
+ServingFact s (SessionPhase.KeySentAfterResponse kind number command parts) =
     IsPressed s parts × WillSee s (once_taken s.size command s.shadow) parts × TakesNotes s.size s.screen.cells
     × FactsAreExact (once_taken s.size command s.shadow)
-ServingFact s (Serving.KeyNoted number command parts) = IsPressed s parts × WillSee s s.shadow parts
+ServingFact s (SessionPhase.KeyCrossingNote number command parts) = IsPressed s parts × WillSee s s.shadow parts
     × MayBeNoted s command
-ServingFact s (Serving.KeyBefore number command parts) =
+ServingFact s (SessionPhase.KeyBeforeNoteResponse number command parts) =
     IsPressed s parts
     × WillBeHeard s.size s.shadow parts (λ shadow. Sees s.unheard s.size s.screen (once_taken s.size command shadow))
 
 abbrev pub Fact : Option (List ℕ) → LocalState → LinkPhase → Type 0
-Fact wanted s (LinkPhase.Talks talking) = IsNew s × TalkFact wanted talking
-Fact wanted s (LinkPhase.Begins lu number command paints over) = IsPainted s command paints over
-Fact wanted s (LinkPhase.Serves lu serving) = ServingFact s serving
+Fact wanted s (LinkPhase.Negotiating talking) = IsNew s × TalkFact wanted talking
+Fact wanted s (LinkPhase.FirstPaint lu number command paints over) = IsPainted s command paints over
+Fact wanted s (LinkPhase.InSession lu serving) = ServingFact s serving
 
 -- ---- what is shown at each moment
 
@@ -233,36 +234,39 @@ IsUnread (turn_reasons.Key aid false) = ⊤
 IsUnread turn_reasons.Refusal = ⊤
 
 -- `left`: the screen that the host's last restoring write left; `before`: the one that it found; `now`: the present one
-abbrev pub ShownIn : Application → Bool → Session → (before left now : Screen) → Serving → Type 0
-ShownIn app waits host before left now Serving.Deciding = HasShownItsPanel app waits host before left
+abbrev pub ShownIn : Application → Bool → Session → (before left now : Screen) → SessionPhase → Type 0
+ShownIn app waits host before left now SessionPhase.Deciding = HasShownItsPanel app waits host before left
     × IsKnownIfRead host.turn_reason host.shadow
-ShownIn app waits host before left now (Serving.Reading number) = HasShownItsPanel app waits host before left
-ShownIn app waits host before left now (Serving.Reported number parts) = HasShownItsPanel app waits host before left
-ShownIn app waits host before left now (Serving.NotedLate number command) = ShowsItsPanel app waits host before left
+ShownIn app waits host before left now (SessionPhase.Reading number) = HasShownItsPanel app waits host before left
+ShownIn app waits host before left now (SessionPhase.BufferReturning number parts) =
+    HasShownItsPanel app waits host before left
+ShownIn app waits host before left now (SessionPhase.DecidingNoteSent number command) =
+    ShowsItsPanel app waits host before left
     × IsUnread host.turn_reason
-ShownIn app waits host before left now (Serving.AnsweredLate number command) = ShowsItsPanel app waits host before left
+ShownIn app waits host before left now (SessionPhase.DecidingNoteAnswered number command) =
+    ShowsItsPanel app waits host before left
     × IsUnread host.turn_reason
-ShownIn app waits host before left now (Serving.Painting number command wanted over) =
+ShownIn app waits host before left now (SessionPhase.Painting number command wanted over) =
     WantsItsPanelOn app waits host over wanted now
 ShownIn app waits host before left now _ = ShowsItsPanel app waits host before left
 
 abbrev pub ShownAt : Application → Bool → Session → (before left now : Screen) → LinkPhase → Type 0
-ShownAt app waits host before left now (LinkPhase.Talks talking) = ⊤
-ShownAt app waits host before left now (LinkPhase.Begins lu number command wanted over) =
+ShownAt app waits host before left now (LinkPhase.Negotiating talking) = ⊤
+ShownAt app waits host before left now (LinkPhase.FirstPaint lu number command wanted over) =
     WantsItsPanelOn app waits host over wanted now
-ShownAt app waits host before left now (LinkPhase.Serves lu serving) = ShownIn app waits host before left now serving
+ShownAt app waits host before left now (LinkPhase.InSession lu serving) = ShownIn app waits host before left now serving
 
 -- ---- sizes
 
 -- whether a paint is under way: until the terminal takes it, its screen may have another size than the host's
-abbrev pub may_differ_in : Serving → Bool
-may_differ_in (Serving.Painting number command wanted over) = true
+abbrev pub may_differ_in : SessionPhase → Bool
+may_differ_in (SessionPhase.Painting number command wanted over) = true
 may_differ_in _ = false
 
 abbrev pub may_differ_at : LinkPhase → Bool
-may_differ_at (LinkPhase.Talks talking) = false
-may_differ_at (LinkPhase.Begins lu number command wanted over) = true
-may_differ_at (LinkPhase.Serves lu serving) = may_differ_in serving
+may_differ_at (LinkPhase.Negotiating talking) = false
+may_differ_at (LinkPhase.FirstPaint lu number command wanted over) = true
+may_differ_at (LinkPhase.InSession lu serving) = may_differ_in serving
 
 -- Holds if the size that the host set last and the size of the screen are sizes that the terminal may have, and equal
 -- unless a paint is under way.
@@ -272,7 +276,7 @@ pub record Sizes (app : Application) (v : View) (moment : LinkPhase) : Type 0 wh
   pub same : may_differ_at moment ≡ false → v.size ≡ v.host.size
 
 -- The invariant: a connection is at some moment, and these facts hold at it.
-pub record Kept (app : Application) (v : View) : Type 0 where
+pub record ConnectionInvariant (app : Application) (v : View) : Type 0 where
   pub whole : length v.screen.cells ≡ cells_in v.size
   pub cursor : v.screen.cursor < cells_in v.size
   pub unreturned : (v.screen.aid ≡ Clear → ⊥) → UnmodifiedIsKept v.erased v.last_restored.cells v.screen.cells

@@ -6,7 +6,7 @@ use Rattle.keyboard.specs.Laws.{KeysKeep, KeysStayOnTheScreen}
 use Rattle.keyboard.specs.Sendable.{KeysKeepSendable}
 use Rattle.shadow.specs.Doubt.{DoubtAllowsInput, DoubtAllowsTheScreen, DoubtStaysExact, DoubtStaysProtected}
 use Rattle.shadow.specs.Exactness.{NothingIsExact, HeardStaysExact, HeardStaysProtected, TakenStaysExact, PaintedIsExact, ProtectedIsSeen, ReturnedIsTold}
-use Rattle.shadow.specs.Laws.{HearsModified, HearsBuffer, PaintIsSpelt, PaintIsTaken, PaintedIsKnown, WantedIsPainted, WrittenIsTaken}
+use Rattle.shadow.specs.Laws.{HearsModified, HearsBuffer, PaintIsEncoded, PaintIsTaken, PaintedIsKnown, WantedIsPainted, WrittenIsTaken}
 use Rattle.shadow.specs.Notes.{PlacedStaysKnown, NoteStaysListed, NoteStaysTold, NoteStaysExact, NoteOpensNothing}
 use Rattle.shadow.specs.RuleBreaks.{RulesAreNotBroken}
 use Rattle.shadow.specs.TextUnknown.{ClearIsHeard, LongOpensNothing, ReadLeavesNothingOpen, PaintOpensNothing}
@@ -20,7 +20,7 @@ pub record BeliefLaws : Type 0 where
   pub hears : HearsModified
   pub reads : HearsBuffer
   pub unbroken : RulesAreNotBroken
-  pub spelt : PaintIsSpelt
+  pub encoded : PaintIsEncoded
   pub painted : WantedIsPainted
   pub taken : PaintIsTaken
   pub known : PaintedIsKnown

@@ -4,7 +4,7 @@ use Rattle.host_core.specs.Laws.{PanelsAreShown, PanelsAskForScreens}
 use Rattle.shadow.specs.Laws.{PaintIsBounded}
 use Rattle.telnet_wire.specs.Laws.{DeliveriesCompose, DeliveryGoesOn, NothingIsRest, OneDelivery, ReadingNothing, WrongIsFinal}
 use Rattle.tn3270e_msg.specs.Laws.{OneHeader, FaultIsNoHeader}
-use Rattle.world3270.specs.statement.Always.{Always, HeadlineHolds, NobodyRefuses, AlwaysOf}
+use Rattle.world3270.specs.statement.Always.{Always, HeadlineHolds, NoCommandIsRejected, AlwaysOf}
 use Rattle.world3270.specs.statement.Forms.{FormsAreAwaited}
 use Rattle.world3270.specs.refinement.LowerLaws.{LowerLaws}
 use Rattle.world3270.specs.statement.Numbers.{NumbersFit}
@@ -19,7 +19,7 @@ pub record WorldLaws : Type 0 where
   pub application : PanelsAreShown
   pub screens : PanelsAskForScreens
   pub headline : Always HeadlineHolds
-  pub nobody_refuses : Always NobodyRefuses
+  pub nobody_refuses : Always NoCommandIsRejected
   pub agree : Always EndsAgree
   pub up_held : Always UpIsHeld
   pub forms : Always FormsAreAwaited
@@ -27,7 +27,7 @@ pub record WorldLaws : Type 0 where
   pub may : AlwaysOf WhatComesMayCome
   pub sendable : AlwaysTyped ScreensAreSendable
   pub paints : AlwaysTyped PaintsAreScreens
-  pub spelt : AlwaysTyped PaintsAreSpelt
+  pub encoded : AlwaysTyped PaintsAreSpelt
 
 -- the laws of connections over bytes, and of how bytes are read
 pub record LinkLaws : Type 0 where

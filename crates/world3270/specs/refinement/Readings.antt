@@ -56,11 +56,11 @@ AreReadAs bytes messages = BytesRepresent without_commands IsReadAs nothing byte
 -- ---- what may come next
 
 -- Holds if no character or attribute precedes the first address, as in data from a formatted screen.
-abbrev pub HasNoLead : List Part → Type 0
-HasNoLead [] = ⊤
-HasNoLead (At address ∷ parts) = ⊤
-HasNoLead (Char char ∷ parts) = ⊥
-HasNoLead (Attr attr ∷ parts) = ⊥
+abbrev pub HasNoLeadingText : List Part → Type 0
+HasNoLeadingText [] = ⊤
+HasNoLeadingText (At address ∷ parts) = ⊤
+HasNoLeadingText (Char char ∷ parts) = ⊥
+HasNoLeadingText (Attr attr ∷ parts) = ⊥
 
 -- Holds if the data may be a second key's, while a paint or a Read Buffer is pending: it fits the screen by whose size
 -- the host reads it, and can't be mistaken for the answer to the Read Buffer.
@@ -69,10 +69,10 @@ pub record IsSecondKeyIn (conn : Session) (parts : InboundParts) : Type 0 where
   pub form : parts.form ≡ Modified
   pub size : cells_in parts.size ≤ cells_in (second_key_size conn conn.pending)
   pub some : 0 < cells_in conn.size
-  pub no_lead : form_awaited conn.pending ≡ Buffer → HasNoLead parts.parts
+  pub no_lead : form_awaited conn.pending ≡ Buffer → HasNoLeadingText parts.parts
 
 -- Holds if the host may be sent this message now: LUs are named; data is as it awaits it, or is a second key's.
-abbrev pub MayComeUp : Session → ToHost → Type 0
-MayComeUp conn (ToHost.TalksUp saying) = IsSaid saying
-MayComeUp conn (ToHost.Data parts) = IsAwaitedBy conn parts ⊎ IsSecondKeyIn conn parts
-MayComeUp conn (ToHost.Response number verdict) = ⊤
+abbrev pub MayBeSent : Session → ToHost → Type 0
+MayBeSent conn (ToHost.TalksUp saying) = IsSaid saying
+MayBeSent conn (ToHost.Data parts) = IsAwaitedBy conn parts ⊎ IsSecondKeyIn conn parts
+MayBeSent conn (ToHost.Response number verdict) = ⊤

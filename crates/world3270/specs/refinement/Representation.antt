@@ -6,7 +6,7 @@ use Rattle.codes3270.specs.declared.size.Model.TheVariants.{M2}
 use Rattle.telnet_wire.specs.Reading.{Rest, nothing}
 use Rattle.host_core.specs.declared.terminals.Terminals.TheVariants.{Waiting as WaitingTerminals}
 use Rattle.host_core.specs.Session.{Session, new_conn}
-use Rattle.host_core.specs.State.{Service, Connection, connection_at, service_at, most_connections}
+use Rattle.host_core.specs.State.{Service, Connection, connection_at, state_at, most_connections}
 use Rattle.term_core.specs.State.{Detached}
 use Rattle.world3270.specs.model.ByteSteps.{is_lost}
 use Rattle.world3270.specs.model.ByteWorld.{ByteWorld, Transit, TerminalSlot, under_way, is_live, is_there, new_tracked, transits_at, slot_at, host_there, terminal_at, host_out, out_of, down_of}
@@ -47,8 +47,8 @@ link_with here number world = record {
   down = down_of number world;
   up = under_way (transits_at number world).up (out_of here world);
   host_here = host_there number world;
-  host = conn_of (service_at number world.host);
-  host_rest = rest_of (service_at number world.host);
+  host = conn_of (state_at number world.host);
+  host_rest = rest_of (state_at number world.host);
   term_here = here;
   tracked = tracked_of here world;
 }
@@ -106,7 +106,7 @@ pub record WorldRepresents (bytes : ByteWorld) (world : World) : Type 0 where
   pub terminals : length bytes.slots ≡ world.terminals
   pub pool : bytes.host.pool ≡ world.pool
   pub serves : bytes.host.terminals ≡ world.serves
-  pub none_closed : (number : ℕ) → IsNotClosed (service_at number bytes.host)
+  pub none_closed : (number : ℕ) → IsNotClosed (state_at number bytes.host)
   pub settled : (number : ℕ) → IsSettled (connection_at number bytes.host)
   pub flows : (number : ℕ) → AreTransits (terminal_at number bytes.slots) number bytes
   pub links : (number : ℕ) → LinkRepresents (link_of number bytes) (world.link number)

@@ -5,7 +5,7 @@ use Rattle.std.specs.Prelude.{◌≡◌, ◌≢◌, ◌<◌, ◌^◌, ◌==◌, 
 use Rattle.datastream.specs.declared.command_code.CommandCode.TheVariants.{Write}
 use Rattle.presentation.specs.Sizes.{SizedScreen}
 use Rattle.world3270.specs.refinement.Sendable.{IsSpeltFor}
-use Rattle.codes3270.specs.Size.{Shape, cells_in}
+use Rattle.codes3270.specs.Size.{ScreenSize, cells_in}
 use Rattle.datastream.specs.Grammar.{CommandParts, IsCommand}
 use Rattle.datastream.specs.InboundText.{IsInbound}
 use Rattle.datastream.specs.Meaning.{after_command}
@@ -50,7 +50,7 @@ pub record IsPaint (item : WireItem) (number : ℕ) (wanted : WantedScreen) (bel
   pub command : CommandParts
   pub is_record : item ≡ Record bytes
   pub begins : Begins bytes (command_header always_response number) body
-  pub spelt : IsSpeltFor wanted command body
+  pub encoded : IsSpeltFor wanted command body
   pub paints : Paints command wanted believed
 
 -- Holds if the item is a record with ERROR-RESPONSE and Read Buffer.
@@ -59,7 +59,7 @@ pub record IsRead (item : WireItem) (number : ℕ) : Type 0 where
   pub body : List ℕ
   pub is_record : item ≡ Record bytes
   pub begins : Begins bytes (command_header error_response number) body
-  pub spelt : (now alternate : Shape) → IsCommand now alternate (read_buffer_command now) body
+  pub encoded : (now alternate : ScreenSize) → IsCommand now alternate (read_buffer_command now) body
 
 -- Holds if the item is a record with ALWAYS-RESPONSE and exactly this write, for a screen of its size.
 pub record IsNoted (item : WireItem) (number : ℕ) (command : CommandParts) : Type 0 where
@@ -67,7 +67,7 @@ pub record IsNoted (item : WireItem) (number : ℕ) (command : CommandParts) : T
   pub body : List ℕ
   pub is_record : item ≡ Record bytes
   pub begins : Begins bytes (command_header always_response number) body
-  pub spelt : (alternate : Shape) → IsCommand command.size alternate command body
+  pub encoded : (alternate : ScreenSize) → IsCommand command.size alternate command body
 
 -- Holds if an item to the terminal represents this message.
 abbrev pub RepresentsDown : WireItem → ToTerminal → Type 0

@@ -16,7 +16,7 @@ use Rattle.shadow.specs.Pairs.{Pairwise}
 use Rattle.telnet_wire.specs.Items.{WireItem, Record, CanCome, sent_bytes}
 use Rattle.telnet_wire.specs.Reading.{Rest}
 use Rattle.tn3270e_msg.specs.Header.{Begins, record_limit, always_response}
-use Rattle.tn3270e_msg.specs.Talk.{IsOwnedMessage, IsLuIfSome, Saying}
+use Rattle.tn3270e_msg.specs.Talk.{IsOwnedMessage, IsLuIfSome, NegotiationMessage}
 use Rattle.tn3270e_msg.specs.declared.term_talk.TermState.{TermState}
 use Rattle.tn3270e_msg.specs.declared.term_talk.TermState.TheVariants.{Willing, Closed}
 use Rattle.term_core.specs.Presses.{key_outcome}
@@ -40,9 +40,9 @@ PaintRepresents = (number : ℕ) (wanted : WantedScreen) (believed : Shadow) (by
 -- ---- when a message may come
 
 -- Holds if the LUs in what is said have names of LUs.
-abbrev pub IsSaid : Saying → Type 0
-IsSaid (Saying.Opt verb code) = ⊤
-IsSaid (Saying.Sub sending) = IsOwnedMessage sending
+abbrev pub IsSaid : NegotiationMessage → Type 0
+IsSaid (NegotiationMessage.Opt verb code) = ⊤
+IsSaid (NegotiationMessage.Sub sending) = IsOwnedMessage sending
 
 -- Holds if the negotiation hasn't closed the connection.
 abbrev pub IsOpen : TermState → Type 0

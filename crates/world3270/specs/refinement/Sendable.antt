@@ -1,9 +1,9 @@
--- All that is sent can be spelt as bytes: each terminal's screen can always be sent, and each paint is a command of the
--- data stream (our profile).
+-- All that is sent can be encoded as bytes: each terminal's screen can always be sent, and each paint is a command of
+-- the data stream (our profile).
 use Rattle.std.specs.Prelude.{◌≡◌, ◌≤◌, ◌<◌, ⊤, ℕ, List, length, All, ◌⊎◌}
 use Rattle.datastream.specs.declared.command_code.CommandCode.TheVariants.{Write}
 use Rattle.codes3270.specs.declared.size.Model.{Model}
-use Rattle.codes3270.specs.Size.{Shape, cells_in, model_2}
+use Rattle.codes3270.specs.Size.{ScreenSize, cells_in, model_2}
 use Rattle.datastream.specs.Grammar.{IsCommand, IsSpelt as IsSpeltCommand, CommandParts}
 use Rattle.datastream.specs.InboundFields.{IsSendable}
 use Rattle.datastream.specs.InboundText.{IsInbound}
@@ -44,7 +44,7 @@ AlwaysTyped Holds = (app : Application) (serves : Terminals) (pool : List Entry)
     → Holds (run app events (new_world app serves pool models))
 
 -- Holds if the screen can be sent, and has as many cells as its size.
-pub record CanBeSent (size : Shape) (screen : Screen) : Type 0 where
+pub record CanBeSent (size : ScreenSize) (screen : Screen) : Type 0 where
   pub sendable : IsSendable screen
   pub whole : length screen.cells ≡ cells_in size
 
@@ -59,7 +59,7 @@ CanBeSpelt (ToHost.TalksUp saying) = ⊤
 CanBeSpelt (ToHost.Data parts) = (body : List ℕ) × IsInbound parts body
 CanBeSpelt (ToHost.Response number verdict) = ⊤
 
--- All data under way to the host can be spelt.
+-- All data under way to the host can be encoded.
 abbrev pub DataCanBeSpelt : World → Type 0
 DataCanBeSpelt world = (number : ℕ) → All CanBeSpelt (world.link number).up
 
@@ -77,7 +77,7 @@ PaintsAreScreens world = (number : ℕ) → All PaintsAScreen (world.link number
 -- Holds if the bytes spell the command for each screen that may have the wanted size, and has it already if the command
 -- is a Write.
 abbrev pub IsSpeltFor : WantedScreen → CommandParts → List ℕ → Type 0
-IsSpeltFor wanted command bytes = (now alternate : Shape) → (wanted.size ≡ model_2) ⊎ (wanted.size ≡ alternate)
+IsSpeltFor wanted command bytes = (now alternate : ScreenSize) → (wanted.size ≡ model_2) ⊎ (wanted.size ≡ alternate)
     → (command.code ≡ Write → wanted.size ≡ now) → IsCommand now alternate command bytes
 
 -- Holds if the bytes that are sent for a paint or a note spell it.

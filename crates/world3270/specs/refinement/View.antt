@@ -2,7 +2,7 @@
 -- the host's end, and the terminal's negotiation, screen and keyboard lock.
 use Rattle.std.specs.Prelude.{Bool, List}
 use Rattle.codes3270.specs.declared.size.Model.{Model}
-use Rattle.codes3270.specs.Size.{Shape}
+use Rattle.codes3270.specs.Size.{ScreenSize}
 use Rattle.datastream.specs.Screen.{Screen}
 use Rattle.keyboard.specs.declared.key.Lock.{Lock}
 use Rattle.tn3270e_msg.specs.TermTable.{Term}
@@ -18,7 +18,7 @@ pub record View : Type 0 where
   pub waits : Bool
   pub talk : Term
   pub model : Model
-  pub size : Shape
+  pub size : ScreenSize
   pub screen : Screen
   pub lock : Lock
   pub last_restored : Screen

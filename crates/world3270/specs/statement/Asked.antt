@@ -12,7 +12,7 @@ use Rattle.panels.specs.declared.message.Message.{Message}
 use Rattle.panels.specs.declared.panel.Field.{Field as PanelField}
 use Rattle.host_core.specs.Application.{Application, application_of, message_place}
 use Rattle.host_core.specs.Questions.{question_in, question_of}
-use Rattle.host_core.specs.State.{service_at, session_at}
+use Rattle.host_core.specs.State.{state_at, session_at}
 use Rattle.host_core.specs.declared.question.Question.{Question}
 use Rattle.world3270.specs.statement.AsLeft.{ProtectedIsAsLeft}
 use Rattle.world3270.specs.model.ByteWorld.{ByteWorld, slot_at}
@@ -121,7 +121,7 @@ row_at terminal world = message_place (slot_at terminal world).tracked.terminal.
 -- the question that is open on connection `number`, as `Host::question` returns it
 abbrev pub asked_at : ℕ → ByteWorld → Option Question
 asked_at number world = question_of (application_of world.host.panels) (session_at number world.host)
-    (service_at number world.host)
+    (state_at number world.host)
 
 -- Holds if the question has the key, the LU, the cursor and each field of the panel as the terminal shows them, and the
 -- protected part of the screen is as it was left.

@@ -3,7 +3,7 @@ use Rattle.std.specs.Prelude.{ℕ, List, Option, Some, None}
 use Rattle.term_core.specs.declared.phase.TermPhase.{TermPhase}
 use Rattle.term_core.specs.declared.phase.TermPhase.TheVariants as phase
 use Rattle.term_core.specs.State.{phase_of}
-use Rattle.host_core.specs.State.{Service, service_at}
+use Rattle.host_core.specs.State.{Service, state_at}
 use Rattle.world3270.specs.model.ByteSteps.{is_lost}
 use Rattle.world3270.specs.model.ByteWorld.{ByteWorld, slot_at, terminal_at}
 use Rattle.world3270.specs.model.TrackedTerminals.{TrackedTerminal}
@@ -43,7 +43,7 @@ attached_seen (Some terminal) world = Some (tracked_seen terminal (slot_at termi
 abbrev pub seen_connection : ℕ → ByteWorld → SeenLink
 seen_connection number world = record {
   lost = is_lost number world;
-  host = service_seen (service_at number world.host);
+  host = service_seen (state_at number world.host);
   terminal = attached_seen (terminal_at number world.slots) world;
 }
 

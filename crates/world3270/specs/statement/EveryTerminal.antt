@@ -44,7 +44,7 @@ use Rattle.world3270.specs.model.Terminal.{Display, TermEnd, TermStep, bound_to,
 -- Buffer, `told` becomes its screen at that time, with the AID of `told`. A note is written over `told` too.
 -- `waits`: there was such a key since the last paint (a 3278's keyboard would be locked), or no paint was taken yet.
 -- No step of either end reads `told` or `waits`.
-pub record ReportedLink : Type 0 where
+pub record LinkWithReport : Type 0 where
   pub link : Link
   pub told : Display
   pub waits : Bool
@@ -95,7 +95,7 @@ waits_after (ToTerminal.Note number command) waits = waits
 waits_after (ToTerminal.TalksDown saying) waits = waits
 
 -- A message changes `told` and `waits` only if the terminal is bound: else the terminal drops it.
-abbrev pub told_if : Bool → ToTerminal → ReportedLink → Link → ReportedLink
+abbrev pub told_if : Bool → ToTerminal → LinkWithReport → Link → LinkWithReport
 told_if true message t link =
     record { link = link; told = told_after message t.told link.term.display; waits = waits_after message t.waits }
 told_if false message t link = record t { link = link }
@@ -114,26 +114,26 @@ pub data Move : Type 0 where
   Lose : Move
 
 -- the host takes the first message under way, if there is one
-abbrev pub came_up : List Entry → List ToHost → ReportedLink → ReportedLink
+abbrev pub came_up : List Entry → List ToHost → LinkWithReport → LinkWithReport
 came_up pool [] t = t
 came_up pool (message ∷ rest) t =
     record t { link = host_stepped (host_took (answer_to pool) t.link.host message) rest t.link }
 
 -- the terminal takes the first message under way, if there is one
-abbrev pub came_down : List ToTerminal → ReportedLink → ReportedLink
+abbrev pub came_down : List ToTerminal → LinkWithReport → LinkWithReport
 came_down [] t = t
 came_down (message ∷ rest) t = told_if (is_bound t.link.term) message t
     (term_stepped (executed t.link.term message) rest t.link)
 
 -- The operator's step. While the terminal waits, `told` stays; else it follows the display.
-abbrev pub operated : TermStep → ReportedLink → ReportedLink
+abbrev pub operated : TermStep → LinkWithReport → LinkWithReport
 operated step t = record {
   link = term_stepped step t.link.down t.link;
   told = if t.waits then t.told else step.end.display;
   waits = t.waits || is_queued step.sends;
 }
 
-abbrev pub moved : Application → Move → ReportedLink → ReportedLink
+abbrev pub moved : Application → Move → LinkWithReport → LinkWithReport
 moved app (Move.Up pool) t = came_up pool t.link.up t
 moved app Move.Down t = came_down t.link.down t
 moved app Move.Act t = record t { link = host_sent (acted app t.link.host) t.link }
@@ -142,7 +142,7 @@ moved app (Move.Note text) t = record t { link = host_sent (noted text t.link.ho
 moved app (Move.Operate step) t = operated step t
 moved app Move.Lose t = record t { link = cut t.link }
 
-abbrev pub after_moves : Application → List Move → ReportedLink → ReportedLink
+abbrev pub after_moves : Application → List Move → LinkWithReport → LinkWithReport
 after_moves app [] t = t
 after_moves app (move ∷ moves) t = after_moves app moves (moved app move t)
 
@@ -156,7 +156,7 @@ key_pressed (Operates.sends keyboard aid some is) = aid
 -- Holds if a move keeps the rules: the pool is sound, the operator does what `Operates` allows, and a note has a note's
 -- text. Clear must not be pressed while the terminal waits: it nulls the screen that the host wrote by its belief, and
 -- the host closes the connection if a command is on its way.
-abbrev pub IsByTheRules : Move → ReportedLink → Type 0
+abbrev pub IsByTheRules : Move → LinkWithReport → Type 0
 IsByTheRules (Move.Up pool) t = IsSound pool
 IsByTheRules (Move.Operate step) t = (does : Operates t.link.term step) × (t.waits ≡ true → key_pressed does ≢ Clear)
 IsByTheRules (Move.Note text) t = IsNoteText text
@@ -165,7 +165,7 @@ IsByTheRules Move.Act t = ⊤
 IsByTheRules (Move.Answer said) t = ⊤
 IsByTheRules Move.Lose t = ⊤
 
-abbrev pub AreByTheRules : Application → List Move → ReportedLink → Type 0
+abbrev pub AreByTheRules : Application → List Move → LinkWithReport → Type 0
 AreByTheRules app [] t = ⊤
 AreByTheRules app (move ∷ moves) t = IsByTheRules move t × AreByTheRules app moves (moved app move t)
 
@@ -175,7 +175,7 @@ AreByTheRules app (move ∷ moves) t = IsByTheRules move t × AreByTheRules app 
 -- the connection, but for the state of the negotiation; it may or may not verify its terminals. The terminal is bound
 -- to the LU, or will be by the FUNCTIONS IS under way; it has a blank screen, of the size with which each connection
 -- begins and of the model of the device type that it requested (with or without -E), after any requests of functions.
-pub record Begins (app : Application) (lu : List ℕ) (t : ReportedLink) : Type 0 where
+pub record FirstPaint (app : Application) (lu : List ℕ) (t : LinkWithReport) : Type 0 where
   pub device : Device
   pub agreed : t.link.host.talk.state ≡ HostAgreed device lu
   pub serves : Terminals
@@ -193,7 +193,7 @@ pub record Begins (app : Application) (lu : List ℕ) (t : ReportedLink) : Type 
 -- ---- what holds
 
 -- the connection, with `told` as the terminal's display
-abbrev pub told_link : ReportedLink → Link
+abbrev pub told_link : LinkWithReport → Link
 told_link t = record t.link { term = record t.link.term { display = t.told } }
 
 -- Holds if this is so on the connection:
@@ -204,7 +204,7 @@ told_link t = record t.link { term = record t.link.term { display = t.told } }
 -- An open question has the key, the cursor and the text of each field of its panel of what the host was told.
 -- After a paint is answered, the screen that it left shows the panel, whatever was typed in the wait before it.
 -- Neither end has closed the connection for a cause: both are attached.
-pub record RightOf (app : Application) (lu : List ℕ) (t : ReportedLink) : Type 0 where
+pub record RightOf (app : Application) (lu : List ℕ) (t : LinkWithReport) : Type 0 where
   pub granted : agreed_lu t.link.host.talk.state ≡ Some lu
   pub bound : (mine : List ℕ) → bound_to t.link.term.talk.talk.state ≡ Some mine → mine ≡ lu
   pub agrees : (turn : IsHostsTurn (seen_link (told_link t))) → Agrees turn.host turn.terminal
@@ -223,6 +223,6 @@ pub record RightOf (app : Application) (lu : List ℕ) (t : ReportedLink) : Type
 
 -- From any such begin, after any list of moves that keep the rules, `RightOf` holds.
 abbrev pub EveryTerminal : Type 0
-EveryTerminal = (app : Application) (lu : List ℕ) (begin : ReportedLink) (moves : List Move) → IsApplication app
-    → Begins app lu begin → AreByTheRules app moves begin
+EveryTerminal = (app : Application) (lu : List ℕ) (begin : LinkWithReport) (moves : List Move) → IsApplication app
+    → FirstPaint app lu begin → AreByTheRules app moves begin
     → RightOf app lu (after_moves app moves begin)

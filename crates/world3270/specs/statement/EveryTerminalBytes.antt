@@ -18,13 +18,13 @@ use Rattle.host_core.specs.Messages.{ToHost}
 use Rattle.host_core.specs.Notes.{IsNoteText}
 use Rattle.host_core.specs.Questions.{answered_by}
 use Rattle.host_core.specs.Sound.{IsSound, NobodyShares}
-use Rattle.host_core.specs.State.{Connection, Host, connection_at, lu_of, most_connections, service_at, session_at, with_connection}
+use Rattle.host_core.specs.State.{Connection, Host, connection_at, lu_of, most_connections, state_at, session_at, with_connection}
 use Rattle.host_core.specs.declared.acted.Acted.{Acted}
 use Rattle.host_core.specs.declared.acted.Acted.TheVariants as acted_as
 use Rattle.host_core.specs.declared.question.Answer.{Answer as ApplicationAnswer}
 use Rattle.host_core.specs.declared.question.Ticket.{Ticket}
 use Rattle.world3270.specs.model.ByteWorld.{is_there}
-use Rattle.world3270.specs.statement.EveryTerminal.{AreByTheRules, Begins, Move, RightOf, ReportedLink, after_moves, key_pressed}
+use Rattle.world3270.specs.statement.EveryTerminal.{AreByTheRules, FirstPaint, Move, RightOf, LinkWithReport, after_moves, key_pressed}
 use Rattle.world3270.specs.model.Enabled.{is_queued}
 use Rattle.world3270.specs.refinement.Readings.{AreReadAs, IsReadAs}
 use Rattle.world3270.specs.statement.Rules.{Operates}
@@ -106,7 +106,7 @@ pub record IsOperated (step : TermStep) (old new : OverBytes) : Type 0 where
   pub not_clear : old.waits ≡ true → key_pressed does ≢ Clear
   pub stored : CanBeSent step.end.display.size step.end.display.screen
   pub bytes : List ℕ
-  pub spelt : AreReadAs bytes step.sends
+  pub encoded : AreReadAs bytes step.sends
   pub leaves : new ≡ record old {
     up = old.up ++ bytes;
     tracked = displaying step.end.display old.tracked;
@@ -144,14 +144,14 @@ pub data Moves (app : Application) (number : ℕ) (old new : OverBytes) : Type 0
     down = old.down ++ take count (connection_at number old.host).out;
   } → Moves app number old new
   acts : (did : Acted) (connection : Connection)
-      → HostDoes (acted_by app (service_at number old.host)) (connection_at number old.host) did connection
+      → HostDoes (acted_by app (state_at number old.host)) (connection_at number old.host) did connection
       → new ≡ on_connection number connection old → Moves app number old new
   answers : (ticket : Ticket) (said : ApplicationAnswer) (did : Acted) (connection : Connection) → AreTexts said.values
-      → DoesAnswer app said (answered_by app (session_at number old.host) ticket said (service_at number old.host))
+      → DoesAnswer app said (answered_by app (session_at number old.host) ticket said (state_at number old.host))
       (connection_at number old.host) did connection
       → new ≡ on_connection number connection old → Moves app number old new
   notes : (text : List ℕ) (did : Acted) (connection : Connection) → IsNoteText text
-      → HostDoes (noted_by text (service_at number old.host)) (connection_at number old.host) did connection
+      → HostDoes (noted_by text (state_at number old.host)) (connection_at number old.host) did connection
       → new ≡ on_connection number connection old → Moves app number old new
   keeps_alive : new ≡ on_connection number (kept_alive (connection_at number old.host)) old → Moves app number old new
   elsewhere : (host : Host) → IsElsewhere number old.host host → new ≡ with_host host old → Moves app number old new
@@ -228,16 +228,16 @@ link_over number bytes = record {
   lost = false;
   down = bytes.down ++ (connection_at number bytes.host).out;
   up = bytes.up;
-  host_here = is_there (service_at number bytes.host);
-  host = conn_of (service_at number bytes.host);
-  host_rest = rest_of (service_at number bytes.host);
+  host_here = is_there (state_at number bytes.host);
+  host = conn_of (state_at number bytes.host);
+  host_rest = rest_of (state_at number bytes.host);
   term_here = Some 0;
   tracked = bytes.tracked;
 }
 
 -- Holds if the bytes represent the connection over messages: the ends are equal, and the bytes spell its messages.
-pub record Represents (number : ℕ) (bytes : OverBytes) (told : ReportedLink) : Type 0 where
-  pub is_open : IsOpen (service_at number bytes.host)
+pub record Represents (number : ℕ) (bytes : OverBytes) (told : LinkWithReport) : Type 0 where
+  pub is_open : IsOpen (state_at number bytes.host)
   pub stands : LinkRepresentsBy without_commands IsReadAs (link_over number bytes) told.link
   pub waits : bytes.waits ≡ told.waits
   pub unnamed : told.link.term.waits ≡ false
@@ -245,8 +245,8 @@ pub record Represents (number : ℕ) (bytes : OverBytes) (told : ReportedLink) :
 
 -- both ends as they are just after the host has agreed on this LU
 pub record BeginsOverBytes (app : Application) (number : ℕ) (lu : List ℕ) (bytes : OverBytes) : Type 0 where
-  pub begin : ReportedLink
-  pub begins : Begins app lu begin
+  pub begin : LinkWithReport
+  pub begins : FirstPaint app lu begin
   pub represents : Represents number bytes begin
   pub below : number < most_connections
   pub is_host : IsHost bytes.host
@@ -257,7 +257,7 @@ pub record BeginsOverBytes (app : Application) (number : ℕ) (lu : List ℕ) (b
 -- Holds if the moves over bytes are moves over messages that keep the rules, the bytes represent the connection after
 -- these, and `RightOf` holds of it: of the host's connection and the terminal's screen as they are. The host has
 -- granted the LU to no other connection.
-pub record RightOverBytes (app : Application) (number : ℕ) (lu : List ℕ) (begin : ReportedLink)
+pub record RightOverBytes (app : Application) (number : ℕ) (lu : List ℕ) (begin : LinkWithReport)
     (states : List OverBytes)
     (old new : OverBytes)
     (lead : LeadTo app number states old new) : Type 0 where
@@ -266,7 +266,7 @@ pub record RightOverBytes (app : Application) (number : ℕ) (lu : List ℕ) (be
   pub by_the_rules : AreByTheRules app moves begin
   pub represents : Represents number new (after_moves app moves begin)
   pub right : RightOf app lu (after_moves app moves begin)
-  pub alone : (other : ℕ) → lu_of (service_at other new.host) ≡ Some lu → other ≡ number
+  pub alone : (other : ℕ) → lu_of (state_at other new.host) ≡ Some lu → other ≡ number
 
 -- From any such begin, with a host whose panels are sound, after any moves in any order, `RightOverBytes` holds.
 abbrev pub EveryTerminalOverBytes : Type 0

@@ -12,13 +12,13 @@ use Rattle.term_core.specs.declared.outcome.Outcome.TheVariants.{Refused}
 use Rattle.term_core.specs.declared.phase.TermPhase.{TermPhase}
 use Rattle.term_core.specs.declared.phase.TermPhase.TheVariants as phase
 use Rattle.host_core.specs.Session.{Session}
-use Rattle.host_core.specs.State.{Service, service_at}
+use Rattle.host_core.specs.State.{Service, state_at}
 use Rattle.host_core.specs.declared.turn.Turn.TheVariants as whose
 use Rattle.host_core.specs.declared.turn_reason.TurnReason.TheVariants as turn_reasons
 use Rattle.world3270.specs.model.ByteSteps.{Steps}
 use Rattle.world3270.specs.model.ByteWorld.{ByteWorld, host_there, slot_at, terminal_at, up_of}
 use Rattle.world3270.specs.refinement.Deliveries.{host_rest}
-use Rattle.world3270.specs.refinement.Refines.{AreReal, IsReached}
+use Rattle.world3270.specs.refinement.Refines.{AreValidEvents, IsReached}
 use Rattle.world3270.specs.refinement.Representation.{IsNotClosed}
 use Rattle.world3270.specs.statement.Unbroken.{EndsStay, IsNegativeResponse, IsNotNegative, SaysNoRefusal}
 use Rattle.world3270.specs.declared.event.Event.{Event}
@@ -48,10 +48,10 @@ pub record CarriesNoRefusal (number : ℕ) (world : ByteWorld) : Type 0 where
 -- Holds if neither end of a connection has closed it for a cause, no negative response is under way, and none is the
 -- reason why the host has the turn. (An end that closes leaves at once: so `MakesNoProtocolError` says more.)
 pub record HasNoProtocolError (world : ByteWorld) : Type 0 where
-  pub hosts : (number : ℕ) → IsNotClosed (service_at number world.host)
+  pub hosts : (number : ℕ) → IsNotClosed (state_at number world.host)
   pub terminals : (terminal : ℕ) → HasNotClosed (phase_of (slot_at terminal world).tracked.terminal.link)
   pub responses : (number : ℕ) → CarriesNoRefusal number world
-  pub turns : (number : ℕ) (rest : Rest) (conn : Session) → service_at number world.host ≡ Service.Open rest conn
+  pub turns : (number : ℕ) (rest : Rest) (conn : Session) → state_at number world.host ≡ Service.Open rest conn
       → conn.turn ≡ whose.Host
       → conn.turn_reason ≡ turn_reasons.Refusal → ⊥
 
@@ -95,7 +95,7 @@ WorldsHaveNoProtocolError = (bytes : ByteWorld) → IsReached bytes → HasNoPro
 
 -- No events in such a world make a protocol error.
 abbrev pub EventsMakeNoProtocolErrors : Type 0
-EventsMakeNoProtocolErrors = (events : List Event) (bytes : ByteWorld) → IsReached bytes → AreReal events
+EventsMakeNoProtocolErrors = (events : List Event) (bytes : ByteWorld) → IsReached bytes → AreValidEvents events
     → MakeNoProtocolErrors events bytes
 
 -- Each response by which a terminal rejects a command is a negative response.

@@ -10,7 +10,7 @@ use Rattle.datastream.specs.Meaning.{cleared}
 use Rattle.datastream.specs.Screen.{Screen}
 use Rattle.keyboard.specs.State.{Keyboard}
 use Rattle.keyboard.specs.declared.key.Pressed.TheVariants.{Send}
-use Rattle.tn3270e_msg.specs.Talk.{Saying}
+use Rattle.tn3270e_msg.specs.Talk.{NegotiationMessage}
 use Rattle.tn3270e_msg.specs.declared.reply.OwnedMessage.TheVariants.{FunIs}
 use Rattle.tn3270e_msg.specs.declared.term_talk.TermState.{TermState}
 use Rattle.tn3270e_msg.specs.declared.term_talk.TermState.TheVariants.{FunctionsAsked, Agreed}
@@ -55,5 +55,5 @@ pub data Operates (end : TermEnd) (step : TermStep) : Type 0 where
 -- The terminal is bound to the LU that the host granted, and nothing is under way to it; or FUNCTIONS IS is under way.
 pub data Binds (granted : List ℕ) (state : TermState) (down : List ToTerminal) : Type 0 where
   bound : state ≡ Agreed granted → down ≡ [] → Binds granted state down
-  about_to : state ≡ FunctionsAsked granted → down ≡ ToTerminal.TalksDown (Saying.Sub FunIs) ∷ []
+  about_to : state ≡ FunctionsAsked granted → down ≡ ToTerminal.TalksDown (NegotiationMessage.Sub FunIs) ∷ []
       → Binds granted state down

@@ -8,13 +8,13 @@ use Rattle.panels.specs.declared.panel.Field.{Field as PanelField}
 use Rattle.telnet_wire.specs.Reading.{Rest}
 use Rattle.host_core.specs.Application.{Application, application_of}
 use Rattle.host_core.specs.Session.{Session, Pending}
-use Rattle.host_core.specs.State.{Service, service_at}
+use Rattle.host_core.specs.State.{Service, state_at}
 use Rattle.host_core.specs.declared.turn.Turn.TheVariants as whose
 use Rattle.world3270.specs.model.ByteSteps.{Steps}
 use Rattle.world3270.specs.model.ByteWorld.{ByteWorld}
 use Rattle.world3270.specs.model.Steps.{stepped_by, run}
 use Rattle.world3270.specs.model.Enabled.{is_enabled}
-use Rattle.world3270.specs.refinement.Refines.{AreReal, IsReached, IsReal}
+use Rattle.world3270.specs.refinement.Refines.{AreValidEvents, IsReached, IsValidEvent}
 use Rattle.world3270.specs.statement.Observation.{TerminalSeen, seen_link}
 use Rattle.world3270.specs.statement.ByteObservation.{seen_connection}
 use Rattle.world3270.specs.statement.Shown.{HasShown, IsPanelShown, is_painting}
@@ -92,10 +92,10 @@ pub record IsDecisionShown (app : Application) (host : Session) (was terminal : 
 abbrev pub DecisionsAreShown : ByteWorld → Type 0
 DecisionsAreShown world = (number : ℕ) (event : Event) (events : List Event) (before decided : ByteWorld)
     (rest behind : Rest) (conn host : Session) (terminal : TerminalSeen)
-    → IsReached before → IsReal event → AreReal events → decides number event ≡ true
+    → IsReached before → IsValidEvent event → AreValidEvents events → decides number event ≡ true
     → Steps event before stepped.Done decided → HostRests number events decided world
-    → service_at number decided.host ≡ Service.Open rest conn → is_painting conn.pending ≡ true
-    → service_at number world.host ≡ Service.Open behind host → HasShown host
+    → state_at number decided.host ≡ Service.Open rest conn → is_painting conn.pending ≡ true
+    → state_at number world.host ≡ Service.Open behind host → HasShown host
     → (seen_connection number world).terminal ≡ Some terminal
     → (was : TerminalSeen) × ((seen_connection number before).terminal ≡ Some was)
     × IsDecisionShown (application_of world.host.panels) host was terminal
@@ -108,8 +108,8 @@ DecisionsAreShownOverBytes = (world : ByteWorld) → DecisionsAreShown world
 abbrev pub TurnsKeepTheScreenOverBytes : Type 0
 TurnsKeepTheScreenOverBytes = (number : ℕ) (events : List Event) (before world : ByteWorld) (rest : Rest)
     (conn : Session) (terminal : TerminalSeen)
-    → IsReached before → AreReal events → HostRests number events before world
-    → service_at number before.host ≡ Service.Open rest conn → conn.turn ≡ whose.Host → is_noting conn.pending ≡ false
+    → IsReached before → AreValidEvents events → HostRests number events before world
+    → state_at number before.host ≡ Service.Open rest conn → conn.turn ≡ whose.Host → is_noting conn.pending ≡ false
     → (seen_connection number world).terminal ≡ Some terminal
     → (was : TerminalSeen) × ((seen_connection number before).terminal ≡ Some was) × IsStill was terminal
 

@@ -4,7 +4,7 @@ use Rattle.datastream.specs.Screen.{Screen}
 use Rattle.telnet_wire.specs.Reading.{Rest}
 use Rattle.host_core.specs.Application.{Application, application_of}
 use Rattle.host_core.specs.Session.{Session, Pending}
-use Rattle.host_core.specs.State.{Service, service_at}
+use Rattle.host_core.specs.State.{Service, state_at}
 use Rattle.host_core.specs.declared.turn.Turn.TheVariants as whose
 use Rattle.host_core.specs.declared.turn_reason.TurnReason.TheVariants.{Agreement}
 use Rattle.world3270.specs.model.ByteWorld.{ByteWorld}
@@ -56,7 +56,7 @@ FieldsAreShown app world = WantsItsFields app → (number : ℕ) (terminal : Ter
 -- On each connection, if a panel was shown and its paint is answered, the screen that the host left shows it.
 abbrev pub WhatIsAnsweredIsShown : ByteWorld → Type 0
 WhatIsAnsweredIsShown world = (number : ℕ) (rest : Rest) (host : Session) (terminal : TerminalSeen)
-    → service_at number world.host ≡ Service.Open rest host
+    → state_at number world.host ≡ Service.Open rest host
     → (seen_connection number world).terminal ≡ Some terminal → HasShown host
     → IsPanelShown (application_of world.host.panels) true host terminal.before_restored terminal.last_restored
 

@@ -8,12 +8,12 @@ use Rattle.panels.specs.declared.message.Message.TheVariants.{Told}
 use Rattle.host_core.specs.Application.{Application, application_of}
 use Rattle.host_core.specs.Questions.{values_for}
 use Rattle.host_core.specs.Session.{Session, model_in}
-use Rattle.host_core.specs.State.{Service, service_at}
+use Rattle.host_core.specs.State.{Service, state_at}
 use Rattle.host_core.specs.declared.question.Answer.{Answer as ApplicationAnswer}
 use Rattle.host_core.specs.declared.question.Ticket.{Ticket}
 use Rattle.world3270.specs.model.ByteSteps.{Steps, is_enabled}
 use Rattle.world3270.specs.model.ByteWorld.{ByteWorld, is_there}
-use Rattle.world3270.specs.refinement.Refines.{AreReal, IsReached, IsReal}
+use Rattle.world3270.specs.refinement.Refines.{AreValidEvents, IsReached, IsValidEvent}
 use Rattle.world3270.specs.statement.Observation.{TerminalSeen}
 use Rattle.world3270.specs.statement.ByteObservation.{seen_connection}
 use Rattle.world3270.specs.statement.Shown.{HasShown, IsPanelShown}
@@ -45,7 +45,7 @@ DecidesNothing number event world = decides number event ≡ true → is_enabled
 -- and after.
 abbrev pub PanelsStay : Event → ByteWorld → ByteWorld → Type 0
 PanelsStay event old new = (number : ℕ) (rest behind : Rest) (conn later : Session) → DecidesNothing number event old
-    → service_at number old.host ≡ Service.Open rest conn → service_at number new.host ≡ Service.Open behind later
+    → state_at number old.host ≡ Service.Open rest conn → state_at number new.host ≡ Service.Open behind later
     → IsSamePanel conn later
 
 -- ---- an answer
@@ -61,7 +61,7 @@ pub record IsAnswered (app : Application) (asked : Session) (said : ApplicationA
 abbrev pub HostRests : ℕ → List Event → ByteWorld → ByteWorld → Type 0
 HostRests number [] old new = new ≡ old
 HostRests number (event ∷ events) old new =
-    (answer : Stepped) × (mid : ByteWorld) × Steps event old answer mid × (is_there (service_at number old.host) ≡ true)
+    (answer : Stepped) × (mid : ByteWorld) × Steps event old answer mid × (is_there (state_at number old.host) ≡ true)
     × DecidesNothing number event old
     × HostRests number events mid new
 
@@ -70,10 +70,10 @@ HostRests number (event ∷ events) old new =
 abbrev pub AnswersAreShown : ByteWorld → Type 0
 AnswersAreShown world = (number : ℕ) (ticket : Ticket) (said : ApplicationAnswer) (events : List Event)
     (asked taken : ByteWorld) (rest behind : Rest) (conn host : Session) (terminal : TerminalSeen)
-    → IsReached asked → IsReal (event.Answer number ticket said) → AreReal events
+    → IsReached asked → IsValidEvent (event.Answer number ticket said) → AreValidEvents events
     → Steps (event.Answer number ticket said) asked stepped.Done taken
     → HostRests number events taken world
-    → service_at number asked.host ≡ Service.Open rest conn → service_at number world.host ≡ Service.Open behind host
+    → state_at number asked.host ≡ Service.Open rest conn → state_at number world.host ≡ Service.Open behind host
     → (seen_connection number world).terminal ≡ Some terminal → HasShown host
     → IsAnswered (application_of world.host.panels) conn said host
     × IsPanelShown (application_of world.host.panels) true host terminal.before_restored terminal.last_restored
@@ -91,7 +91,8 @@ WaitingKeepsTheScreen =
 
 -- `PanelsStay` holds of each step.
 abbrev pub StepsKeepPanels : Type 0
-StepsKeepPanels = (event : Event) (old : ByteWorld) (answer : Stepped) (new : ByteWorld) → IsReached old → IsReal event
+StepsKeepPanels = (event : Event) (old : ByteWorld) (answer : Stepped) (new : ByteWorld) → IsReached old
+    → IsValidEvent event
     → Steps event old answer new → PanelsStay event old new
 
 -- `AnswersAreShown` holds of each world over bytes.

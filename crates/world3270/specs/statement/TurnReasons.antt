@@ -1,7 +1,7 @@
 -- The host acts on the key that was pressed last (our profile).
 use Rattle.std.specs.Prelude.{◌≡◌, ⊤, ℕ, Bool, true, false, List, [], ◌∷◌, replicate, All, Some}
 use Rattle.codes3270.specs.Aid.{is_short_aid}
-use Rattle.codes3270.specs.Size.{Shape, cells_in}
+use Rattle.codes3270.specs.Size.{ScreenSize, cells_in}
 use Rattle.codes3270.specs.declared.attention.Aid.{Aid}
 use Rattle.codes3270.specs.declared.attention.Aid.TheVariants.{NoAid, Enter, Clear, Pf, Pa}
 use Rattle.datastream.specs.Grammar.{CommandParts}
@@ -59,12 +59,12 @@ LeavesNothingOpen world = (number : ℕ) → let link = world.link number in
     → NothingIsOpen link.host.shadow
 
 -- the belief after these notes are written; the last note is first in the list
-abbrev pub after_notes : Shape → List CommandParts → Shadow → Shadow
+abbrev pub after_notes : ScreenSize → List CommandParts → Shadow → Shadow
 after_notes size [] shadow = shadow
 after_notes size (note ∷ notes) shadow = taken (cells_in size) note (after_notes size notes shadow)
 
 -- Holds if the belief is an unformatted screen of nulls, with some notes written over it.
-pub record IsCleared (size : Shape) (shadow : Shadow) : Type 0 where
+pub record IsCleared (size : ScreenSize) (shadow : Shadow) : Type 0 where
   pub notes : List CommandParts
   pub are_notes : All (IsNoteOf size) notes
   pub is : shadow ≡ after_notes size notes (Shadow.Unformatted (replicate (cells_in size) (Some 0)))

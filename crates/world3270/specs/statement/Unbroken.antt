@@ -11,12 +11,12 @@ use Rattle.tn3270e_msg.specs.Header.{Begins, negative, record_limit}
 use Rattle.tn3270e_msg.specs.declared.header.Header.{Header}
 use Rattle.tn3270e_msg.specs.declared.header.DataType.TheVariants.{Response}
 use Rattle.host_core.specs.Messages.{ToHost}
-use Rattle.host_core.specs.State.{service_at}
-use Rattle.world3270.specs.statement.Always.{NobodyRefuses}
+use Rattle.host_core.specs.State.{state_at}
+use Rattle.world3270.specs.statement.Always.{NoCommandIsRejected}
 use Rattle.world3270.specs.model.ByteSteps.{Steps, is_lost}
 use Rattle.world3270.specs.model.ByteWorld.{ByteWorld, host_there, slot_at, terminal_at, up_of}
 use Rattle.world3270.specs.refinement.Deliveries.{host_rest}
-use Rattle.world3270.specs.refinement.Refines.{Begin, GoesOn, IsBegin, IsReached, Reached, after}
+use Rattle.world3270.specs.refinement.Refines.{WorldSetup, GoesOn, IsWorldSetup, IsReached, Reached, after}
 use Rattle.world3270.specs.refinement.Representation.{rest_of}
 use Rattle.world3270.specs.refinement.Represents.{BytesUp}
 use Rattle.world3270.specs.model.World.{Event as MessageEvent}
@@ -64,14 +64,14 @@ pub record EndsStay (event : Event) (old new : ByteWorld) : Type 0 where
 
 -- No event makes an end close a connection for a cause: an end that leaves saw a loss, or restarted.
 abbrev pub NobodyCloses : Type 0
-NobodyCloses = (begin : Begin) (events : List MessageEvent) (event : Event) (old : ByteWorld) (answer : Stepped)
+NobodyCloses = (begin : WorldSetup) (events : List MessageEvent) (event : Event) (old : ByteWorld) (answer : Stepped)
     (new : ByteWorld)
-    → IsBegin begin → Reached begin events old → GoesOn begin events event old answer new → EndsStay event old new
+    → IsWorldSetup begin → Reached begin events old → GoesOn begin events event old answer new → EndsStay event old new
 
 -- Over messages neither end has ever closed a connection for a cause, and no terminal has ever rejected a command.
 abbrev pub NobodyHasRefused : Type 0
-NobodyHasRefused = (begin : Begin) (events : List MessageEvent) (bytes : ByteWorld)
-    → IsBegin begin → Reached begin events bytes → NobodyRefuses (after begin events)
+NobodyHasRefused = (begin : WorldSetup) (events : List MessageEvent) (bytes : ByteWorld)
+    → IsWorldSetup begin → Reached begin events bytes → NoCommandIsRejected (after begin events)
 
 -- ---- responses
 
@@ -92,7 +92,7 @@ IsNotNegative item = IsNegativeResponse item → ⊥
 abbrev pub NothingIsRefused : Type 0
 NothingIsRefused = (bytes : ByteWorld) (number sequence : ℕ) (outcome : Outcome) (before behind : List WireItem)
     → IsReached bytes → host_there number bytes ≡ true
-    → Delivers record_limit (rest_of (service_at number bytes.host)) (up_of number bytes)
+    → Delivers record_limit (rest_of (state_at number bytes.host)) (up_of number bytes)
     (before ++ response sequence outcome ∷ behind) nothing
     → outcome ≡ DeviceEnd
 
@@ -102,15 +102,16 @@ NothingIsRefused = (bytes : ByteWorld) (number sequence : ℕ) (outcome : Outcom
 pub record SpellsNoRefusal (number : ℕ) (bytes : ByteWorld) (messages : List ToHost) : Type 0 where
   pub read : Rest
   pub holds : host_there number bytes ≡ true → read ≡ host_rest number bytes
-  pub spelt : BytesUp read (up_of number bytes) messages
+  pub encoded : BytesUp read (up_of number bytes) messages
   pub carried_out : (sequence : ℕ) (outcome : Outcome) (before behind : List WireItem)
-      → spelt.items ≡ before ++ response sequence outcome ∷ behind → outcome ≡ DeviceEnd
+      → encoded.items ≡ before ++ response sequence outcome ∷ behind → outcome ≡ DeviceEnd
 
 -- On each connection, also if its host has left, the bytes under way to the host spell the messages
 -- under way to it, and reject nothing.
 abbrev pub UnderWayRefusesNothing : Type 0
-UnderWayRefusesNothing = (begin : Begin) (events : List MessageEvent) (bytes : ByteWorld) (number : ℕ)
-    → IsBegin begin → Reached begin events bytes → SpellsNoRefusal number bytes ((after begin events).link number).up
+UnderWayRefusesNothing = (begin : WorldSetup) (events : List MessageEvent) (bytes : ByteWorld) (number : ℕ)
+    → IsWorldSetup begin → Reached begin events bytes
+    → SpellsNoRefusal number bytes ((after begin events).link number).up
 
 -- Holds if in a step a terminal appended items to what it had to send, each response among them is
 -- positive, and no item is a negative response of any other form.

@@ -1,5 +1,5 @@
 use Rattle.application_http.proofs.Contents.{tells_empty, tells_sized, tells_chunked, tells_last, both}
-use Rattle.application_http.specs.Contents.{LacksEnd, IsWhole}
+use Rattle.application_http.specs.Contents.{IsIncompleteBody, IsCompleteBody}
 use Rattle.http1.specs.declared.framing.Framing.TheVariants.{Chunked}
 use Rattle.std.proofs.Common.{true}
 use Rattle.application_http.proofs.content.body_content.Goals as goal
@@ -14,7 +14,7 @@ returns-in_ok-sized_content-in-Length-clause-found c =
 
 pub returns-in-Chunked-clause-found : goal.returns-in-Chunked-clause-found
 returns-in-Chunked-clause-found c =
-    tells_chunked c.args.is_closed c.args.framing c.args.after.now c.chunked_content.result c.in-Chunked.is (both c.chunked_content.result (LacksEnd true Chunked c.args.after.now) (λ content. IsWhole true Chunked c.args.after.now content.items) c.chunked_content.ensures.whole c.chunked_content.ensures.lacking)
+    tells_chunked c.args.is_closed c.args.framing c.args.after.now c.chunked_content.result c.in-Chunked.is (both c.chunked_content.result (IsIncompleteBody true Chunked c.args.after.now) (λ content. IsCompleteBody true Chunked c.args.after.now content.items) c.chunked_content.ensures.whole c.chunked_content.ensures.lacks_end)
 
 pub returns-in_ok-last_content-in-UntilClose-clause-found : goal.returns-in_ok-last_content-in-UntilClose-clause-found
 returns-in_ok-last_content-in-UntilClose-clause-found c =

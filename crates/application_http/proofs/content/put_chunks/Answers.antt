@@ -17,8 +17,8 @@ loop-piece-preserved c =
     let more : c.extend_from_slice.new.self.items ≡ c.loop-piece.content.items ++ span_bytes c.loop-piece.left.now c.in-Ok-Data.piece = search rules in
     steps _ _ _ c.in-Ok-Data.piece.end c.loop-piece.invariant step.1 more c.behind-left.ensures
 
-pub returns-in-Ok-NeedMore-clause-lacking : goal.returns-in-Ok-NeedMore-clause-lacking
-returns-in-Ok-NeedMore-clause-lacking c = λ _.
+pub returns-in-Ok-NeedMore-clause-lacks_end : goal.returns-in-Ok-NeedMore-clause-lacks_end
+returns-in-Ok-NeedMore-clause-lacks_end c = λ _.
     let found = c.in-Ok-NeedMore.ensures.found in
     let step : Decodes c.loop-piece.decoder c.loop-piece.left.now c.next_piece.new.decoder found.0 (decoded.NeedMore c.in-Ok-NeedMore.field-0-0) = subst (Decodes _ _ _ found.0) c.in-Ok-NeedMore.field-0-is found.1 in
     starves _ _ c.loop-piece.invariant step

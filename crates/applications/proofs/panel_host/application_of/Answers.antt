@@ -7,16 +7,16 @@ use Rattle.panels.specs.Panel.{Panels}
 use Rattle.panels.specs.Passes.{IsReason}
 use Rattle.panels.specs.declared.fault.PanelFault.{PanelFault}
 use Rattle.panels.specs.declared.fault.PanelFault.TheVariants as panel_fault
-use Rattle.applications.specs.PanelHosts.{HasNoWorld, lus_of, of_panels, of_pool}
+use Rattle.applications.specs.PanelHosts.{DefinesNoHost, lus_of, of_panels, of_pool}
 use Rattle.applications.proofs.LuNames.{lus_read}
 use Rattle.applications.proofs.panel_host.application_of.Goals as goal
 
-without_panels : (text : List ℕ) (fault : PanelFault) → IsReason text fault → HasNoWorld text (of_panels fault)
+without_panels : (text : List ℕ) (fault : PanelFault) → IsReason text fault → DefinesNoHost text (of_panels fault)
 without_panels text panel_fault.Memory is = tt
 without_panels text panel_fault.NotToml is = is
 without_panels text (panel_fault.Tree fault place) is = is
 
-without_pool : (text : List ℕ) (panels : Panels) (fault : PoolFault) → ArePanelsReadFrom text panels → IsFirstFault (lus_of panels) fault → HasNoWorld text (of_pool fault)
+without_pool : (text : List ℕ) (panels : Panels) (fault : PoolFault) → ArePanelsReadFrom text panels → IsFirstFault (lus_of panels) fault → DefinesNoHost text (of_pool fault)
 without_pool text panels pool_fault.Memory read is = tt
 without_pool text panels (pool_fault.BadName place) read is = record { panels = panels; panels_read = read; is_fault = is }
 without_pool text panels (pool_fault.Twice place) read is = record { panels = panels; panels_read = read; is_fault = is }
@@ -24,11 +24,11 @@ without_pool text panels pool_fault.BadCount read is = record { panels = panels;
 
 pub returns-in-Err-clause-fault : goal.returns-in-Err-clause-fault
 returns-in-Err-clause-fault c =
-    subst (HasNoWorld c.args.text.now) (sym c.of_panels.ensures) (without_panels c.args.text.now c.in-Err.fault c.in-Err.ensures.fault)
+    subst (DefinesNoHost c.args.text.now) (sym c.of_panels.ensures) (without_panels c.args.text.now c.in-Err.fault c.in-Err.ensures.fault)
 
 pub returns-in-Err-read-clause-fault : goal.returns-in-Err-read-clause-fault
 returns-in-Err-read-clause-fault c =
-    subst (HasNoWorld c.args.text.now) (sym c.of_pool.ensures)
+    subst (DefinesNoHost c.args.text.now) (sym c.of_pool.ensures)
     (without_pool c.args.text.now c.in-Ok.panels c.in-Err-read.fault c.in-Ok.ensures.panels
     (subst (λ lus. IsFirstFault lus c.in-Err-read.fault) (lus_read c.lus.result.now c.in-Ok.panels.lus c.lus.ensures) c.in-Err-read.ensures.fault))
 

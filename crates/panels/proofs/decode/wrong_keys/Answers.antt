@@ -3,7 +3,7 @@ use Rattle.std.proofs.lemmas.Iterator.Consumers.{YieldsList-from_rest}
 use Rattle.std.proofs.lemmas.Iterator.Search.{all_from_yields_List}
 use Rattle.toml.specs.View.{view, table_view}
 use Rattle.panels.specs.declared.fault.TreeFault.TheVariants.{BadKind}
-use Rattle.panels.specs.Shape.{all_values, is_text}
+use Rattle.panels.specs.TableRules.{all_values, is_text}
 use Rattle.panels.proofs.Trees.{all_values_view, unless_all}
 use Rattle.panels.proofs.decode.wrong_keys.Goals as goal
 

@@ -2,7 +2,7 @@ use Rattle.std.proofs.Common.{rules, tests, ◌∙◌}
 use Rattle.std.proofs.lemmas.Iterator.{YieldsList-from_slice}
 use Rattle.std.proofs.lemmas.Iterator.Search.{any_from_yields_List}
 use Rattle.toml.specs.View.{table_view}
-use Rattle.panels.specs.Shape.{is_missing}
+use Rattle.panels.specs.TableRules.{is_missing}
 use Rattle.panels.specs.Rules.{rule_of}
 use Rattle.panels.proofs.Trees.{any_map}
 use Rattle.panels.proofs.rules.any_key_absent.Goals as goal

@@ -2,7 +2,7 @@ use Rattle.std.proofs.Common.{rules, tests, ◌≡◌, ◌∙◌, refl, sym, map
 use Rattle.std.proofs.lemmas.Iterator.Consumers.{YieldsList-from_rest}
 use Rattle.std.proofs.lemmas.Iterator.Search.{any_from_yields_List}
 use Rattle.toml.specs.View.{table_view}
-use Rattle.panels.specs.Shape.{breaks_keys, is_known}
+use Rattle.panels.specs.TableRules.{breaks_keys, is_known}
 use Rattle.panels.specs.Rules.{rule_of}
 use Rattle.panels.proofs.Trees.{any_key_view}
 use Rattle.panels.proofs.rules.wrong_by.Goals as goal

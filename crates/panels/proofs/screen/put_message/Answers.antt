@@ -1,5 +1,5 @@
 use Rattle.std.proofs.Common.{◌≡◌, ◌<◌, ◌+◌, ◌∙◌, ap, sym, subst, arith, true}
-use Rattle.codes3270.specs.Size.{Shape, cells_in}
+use Rattle.codes3270.specs.Size.{ScreenSize, cells_in}
 use Rattle.datastream.specs.declared.wanted.Want.TheVariants as want
 use Rattle.panels.specs.Size.{message_start}
 use Rattle.panels.specs.Screen.{item_cell, autoskip_attr}
@@ -31,7 +31,7 @@ loop-index-preserved c =
     let start : c.from-start.result ≡ message_start c.size-size.result = omega arith in
     let place : c.from-start.result ≡ message_start c.args.wanted.now.size = start ∙ ap message_start c.size-size.ensures.size in
     let below : message_start c.size-size.result + (c.loop-index.index + 1) < cells_in c.size-size.result = omega arith in
-    let within = subst (λ (shape : Shape). message_start shape + (c.loop-index.index + 1) < cells_in shape) c.size-size.ensures.size below in
+    let within = subst (λ (shape : ScreenSize). message_start shape + (c.loop-index.index + 1) < cells_in shape) c.size-size.ensures.size below in
     let there : c.from-start.result + 1 + c.loop-index.index ≡ message_start c.args.wanted.now.size + (c.loop-index.index + 1) = omega (arith, place) in
     put_next (message_start c.args.wanted.now.size) (c.loop-index.index + 1) _ (item_cell (autoskip_attr true) (text_with c.args.name.now c.args.message.now)) c.args.wanted.now _
     c.loop-index.wanted _ there (character_at (autoskip_attr true) (text_with c.args.name.now c.args.message.now) c.loop-index.index _ c.message_byte-byte.ensures.byte) within
@@ -41,4 +41,4 @@ pub returns : goal.returns
 returns c =
     let all : message_start c.size-size.result + (c.loop-index.index + 1) ≡ cells_in c.size-size.result = omega arith in
     row_put (message_start c.args.wanted.now.size) (c.loop-index.index + 1) (text_with c.args.name.now c.args.message.now) c.args.wanted.now c.loop-index.wanted
-    (subst (λ (shape : Shape). message_start shape + (c.loop-index.index + 1) ≡ cells_in shape) c.size-size.ensures.size all) c.loop-index.invariant
+    (subst (λ (shape : ScreenSize). message_start shape + (c.loop-index.index + 1) ≡ cells_in shape) c.size-size.ensures.size all) c.loop-index.invariant

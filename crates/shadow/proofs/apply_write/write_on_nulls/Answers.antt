@@ -1,6 +1,6 @@
 use Rattle.std.proofs.Common.{◌≡◌, ◌∙◌, ap, sym, subst, ℕ, List, length, replicate, true}
 use Rattle.std.proofs.lemmas.List.{length-replicate}
-use Rattle.codes3270.specs.Size.{Shape, cells_in}
+use Rattle.codes3270.specs.Size.{ScreenSize, cells_in}
 use Rattle.codes3270.specs.declared.attribute.Cell.{Cell}
 use Rattle.codes3270.specs.declared.attribute.Cell.TheVariants.{Char}
 use Rattle.datastream.specs.declared.order.Order.{Order}
@@ -31,12 +31,12 @@ returns-clause-shadow c =
     ap (shadow_held true) c.settle.ensures.settled ∙ settled_shadow olds c.store.new.beliefs c.store.new.pasts since (held_nulls n)
     ∙ erased ss nulls (beliefs_held olds 0 olds) (cells_written c.store.new.beliefs c.store.new.pasts) (no_beliefs n)
     (c.store.ensures.cells
-    ∙ ap (λ (size : Shape). known_stored (stores (cells_in size) 0 c.orders.result) (cells_written c.args.beliefs.now c.args.pasts.now)) c.size.ensures.size
+    ∙ ap (λ (size : ScreenSize). known_stored (stores (cells_in size) 0 c.orders.result) (cells_written c.args.beliefs.now c.args.pasts.now)) c.size.ensures.size
     ∙ ap (λ (os : List Order). known_stored (stores n 0 os) (cells_written c.args.beliefs.now c.args.pasts.now)) c.orders.ensures.orders
     ∙ ap (λ (ps : List CellBelief). known_stored ss (cells_written ps c.args.pasts.now)) c.requires.nulls
     ∙ ap (λ (qs : List BeforeWrite). known_stored ss (cells_written olds qs)) c.requires.pasts
     ∙ ap (known_stored ss) (cells_nulls n))
-    ∙ sym (erase_seen command c.orders.ensures.spelt c.requires.plain)
+    ∙ sym (erase_seen command c.orders.ensures.encoded c.requires.plain)
 
 pub returns-clause-held : goal.returns-clause-held
 returns-clause-held c =

@@ -1,6 +1,6 @@
 use Rattle.std.proofs.Common.{◌≡◌, ◌∙◌, ◌+◌, ◌++◌, ap, sym, arith, take, length, set, suc, ℕ, List}
 use Rattle.shadow.specs.declared.cell_belief.CellBelief.{CellBelief}
-use Rattle.shadow.specs.Since.{places_stored}
+use Rattle.shadow.specs.Since.{beliefs_of_cells}
 use Rattle.shadow.proofs.Reading.{run_read, read_left, read_more}
 use Rattle.shadow.proofs.buffer.put_read.Goals as goal
 
@@ -17,8 +17,8 @@ loop-cell-init c =
     let new = c.put_run-at.new.beliefs in
     let left = read_left 0 (length ps) text c.args.cells rest c.characters.ensures.characters c.characters.ensures.left (omega (arith, c.requires, c.clear.ensures.size)) in
     record {
-      read = ap (λ (n : ℕ). take n new ++ places_stored rest) c.put_run-at.ensures.behind
-          ∙ ap (λ (qs : List CellBelief). take (0 + length text) qs ++ places_stored rest) c.put_run-at.ensures.beliefs
+      read = ap (λ (n : ℕ). take n new ++ beliefs_of_cells rest) c.put_run-at.ensures.behind
+          ∙ ap (λ (qs : List CellBelief). take (0 + length text) qs ++ beliefs_of_cells rest) c.put_run-at.ensures.beliefs
           ∙ sym (run_read ps 0 text c.args.cells rest c.characters.ensures.characters c.characters.ensures.left left.1);
       each = omega (arith, left.0, c.put_run-at.ensures.behind, c.put_run-at.ensures.size);
       size = c.put_run-at.ensures.size ∙ c.clear.ensures.size;
@@ -42,12 +42,12 @@ loop-cell-preserved c =
     let new = c.put_run-at-in-Some.new.beliefs in
     let left = read_left (at + 1) (length ps) text c.next.new.self rest c.characters-in-Some.ensures.characters c.characters-in-Some.ensures.left (omega (arith, more, before.each, c.set.ensures.size)) in
     record {
-      read = ap (λ (n : ℕ). take n new ++ places_stored rest) c.put_run-at-in-Some.ensures.behind
-          ∙ ap (λ (qs : List CellBelief). take (at + 1 + length text) qs ++ places_stored rest) c.put_run-at-in-Some.ensures.beliefs
+      read = ap (λ (n : ℕ). take n new ++ beliefs_of_cells rest) c.put_run-at-in-Some.ensures.behind
+          ∙ ap (λ (qs : List CellBelief). take (at + 1 + length text) qs ++ beliefs_of_cells rest) c.put_run-at-in-Some.ensures.beliefs
           ∙ sym (run_read ps (at + 1) text c.next.new.self rest c.characters-in-Some.ensures.characters c.characters-in-Some.ensures.left left.1)
-          ∙ ap (λ (qs : List CellBelief). take (at + 1) qs ++ places_stored c.next.new.self) (c.set.ensures.beliefs ∙ ap (set c.loop-cell.beliefs at) c.place_of.ensures)
+          ∙ ap (λ (qs : List CellBelief). take (at + 1) qs ++ beliefs_of_cells c.next.new.self) (c.set.ensures.beliefs ∙ ap (set c.loop-cell.beliefs at) c.place_of.ensures)
           ∙ sym (read_more c.loop-cell.beliefs at cell c.next.new.self (omega (arith, more, before.each)))
-          ∙ ap (λ (cs : List _). take at c.loop-cell.beliefs ++ places_stored cs) (sym c.in-Some.ensures.steps)
+          ∙ ap (λ (cs : List _). take at c.loop-cell.beliefs ++ beliefs_of_cells cs) (sym c.in-Some.ensures.steps)
           ∙ before.read;
       each = omega (arith, left.0, c.put_run-at-in-Some.ensures.behind, c.put_run-at-in-Some.ensures.size);
       size = c.put_run-at-in-Some.ensures.size ∙ c.set.ensures.size ∙ before.size;

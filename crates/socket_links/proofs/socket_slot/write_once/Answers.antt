@@ -5,7 +5,7 @@ use Rattle.socket_links.proofs.socket_slot.write_once.Goals as goal
 
 pub returns-clause-within : goal.returns-clause-within
 returns-clause-within g c =
-    subst (λ taken_for. TookSome taken_for (length c.args.bytes.now)) (sym c.link_write.ensures) (took_some c.write_once.result c.args.bytes.now c.write_once.ensures.bound)
+    subst (λ link_result. TookSome link_result (length c.args.bytes.now)) (sym c.link_write.ensures) (took_some c.write_once.result c.args.bytes.now c.write_once.ensures.bound)
 
 pub returns-clause-once : goal.returns-clause-once
 returns-clause-once g c = record {

@@ -1,7 +1,7 @@
 use Rattle.std.proofs.Common.{◌≡◌, ◌+◌, ◌*◌, ◌<◌, ◌≤◌, ◌++◌, List, ℕ, length, take, drop, arith, sym, ◌∙◌, ap, subst, string_bytes}
 use Rattle.std.proofs.lemmas.List.{append-nil}
 use Rattle.std.proofs.lemmas.List.FromFn.{length-map-range_with_len}
-use Rattle.codes3270.specs.Size.{Shape, cells_in}
+use Rattle.codes3270.specs.Size.{ScreenSize, cells_in}
 use Rattle.codes3270.specs.declared.attribute.Cell.{Cell}
 use Rattle.presentation.specs.Glyph.{glyph_at, all_glyphs}
 use Rattle.presentation.specs.Sizes.{SizedScreen}
@@ -20,11 +20,11 @@ loop-init c =
 
 pub put_line-requires : goal.put_line-requires
 put_line-requires c =
-    let shape : Shape = c.args.screen.now.size in
+    let shape : ScreenSize = c.args.screen.now.size in
     let columns : ℕ = shape.columns in
     let cells : List Cell = c.args.screen.now.screen.cells in
-    let width : c.cols.result ≡ columns = c.cols.ensures.value ∙ ap (λ (s : Shape). s.columns) c.size-size.ensures.size in
-    let height : c.rows-end.result ≡ shape.rows = c.rows-end.ensures ∙ ap (λ (s : Shape). s.rows) c.size-size.ensures.size in
+    let width : c.cols.result ≡ columns = c.cols.ensures.value ∙ ap (λ (s : ScreenSize). s.columns) c.size-size.ensures.size in
+    let height : c.rows-end.result ≡ shape.rows = c.rows-end.ensures ∙ ap (λ (s : ScreenSize). s.rows) c.size-size.ensures.size in
     let many : length (all_glyphs cells) ≡ cells_in shape = length-map-range_with_len (glyph_at cells) 0 (length cells) ∙ c.size-size.ensures.cells in
     let lower : c.loop.counter < shape.rows = omega (arith, c.loop-test.true, height) in
     let within : c.loop.counter * columns + columns ≤ length (all_glyphs cells) =
@@ -35,13 +35,13 @@ put_line-requires c =
 
 pub loop-preserved : goal.loop-preserved
 loop-preserved c =
-    let shape : Shape = c.args.screen.now.size in
+    let shape : ScreenSize = c.args.screen.now.size in
     let columns : ℕ = shape.columns in
     let cells : List Cell = c.args.screen.now.screen.cells in
     let at : ℕ = c.loop.counter * columns in
     let text : List ℕ = string_bytes c.loop.text in
-    let width : c.cols.result ≡ columns = c.cols.ensures.value ∙ ap (λ (s : Shape). s.columns) c.size-size.ensures.size in
-    let height : c.rows-end.result ≡ shape.rows = c.rows-end.ensures ∙ ap (λ (s : Shape). s.rows) c.size-size.ensures.size in
+    let width : c.cols.result ≡ columns = c.cols.ensures.value ∙ ap (λ (s : ScreenSize). s.columns) c.size-size.ensures.size in
+    let height : c.rows-end.result ≡ shape.rows = c.rows-end.ensures ∙ ap (λ (s : ScreenSize). s.rows) c.size-size.ensures.size in
     let lower : c.loop.counter < shape.rows = omega (arith, c.loop-test.true, height) in
     let within : at + columns ≤ length cells = rw c.size-size.ensures.cells (row_within shape.rows columns c.loop.counter lower) in
     let row : take c.cols.result c.loop.glyphs ≡ glyphs cells at columns =

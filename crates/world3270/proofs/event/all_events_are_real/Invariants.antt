@@ -1,6 +1,6 @@
 use Rattle.std.proofs.Common.{drop}
-use Rattle.world3270.specs.refinement.Refines.{AreReal}
+use Rattle.world3270.specs.refinement.Refines.{AreValidEvents}
 use Rattle.world3270.proofs.event.all_events_are_real.Given as goal
 
 abbrev pub invariant-loop-event : goal.invariant-loop-event
-invariant-loop-event l = AreReal (drop l.event-index l.events) → AreReal l.events
+invariant-loop-event l = AreValidEvents (drop l.event-index l.events) → AreValidEvents l.events

@@ -8,11 +8,11 @@ use Rattle.world3270.proofs.ByteUp.{up_goes}
 use Rattle.world3270.proofs.Follows.{EventsGo, runs_go_on, steps_go_on}
 use Rattle.world3270.proofs.Leaving.{nobody_closes}
 use Rattle.world3270.proofs.SeenRepresents.{headline_is_seen}
-use Rattle.world3270.specs.refinement.Refines.{SkipsAreThose, StepsGoOn}
+use Rattle.world3270.specs.refinement.Refines.{SameSkips, StepsAreSimulated}
 use Rattle.world3270.proofs.Unbroken.{deliveries_close_nothing, nobody_has_refused, nothing_is_refused, under_way_refuses_nothing}
 use Rattle.world3270.proofs.laws.bytes_follow_messages.Goals as goal
 
-skips : MessageLaws → SkipsAreThose
+skips : MessageLaws → SameSkips
 skips known = skips_are_those known.links.one_delivery known.links.no_bytes
 
 all_go : MessageLaws → EventsGo
@@ -32,7 +32,7 @@ all_go known = record {
   restart_host = restart_host_goes known (skips known);
 }
 
-steps : MessageLaws → StepsGoOn
+steps : MessageLaws → StepsAreSimulated
 steps known = steps_go_on known (all_go known) (skips known)
 
 pub returns-clause-begin : goal.returns-clause-begin

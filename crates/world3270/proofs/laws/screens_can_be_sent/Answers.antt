@@ -13,8 +13,8 @@ returns-clause-data c = data_can_be_spelt c.sent_is_read.ensures c.what_is_given
 pub returns-clause-paints : goal.returns-clause-paints
 returns-clause-paints c = paints_are_screens c.sent_is_read.ensures c.what_is_given.ensures
 
-pub returns-clause-spelt : goal.returns-clause-spelt
-returns-clause-spelt c = paints_are_spelt c.sent_is_read.ensures c.what_is_given.ensures
+pub returns-clause-encoded : goal.returns-clause-encoded
+returns-clause-encoded c = paints_are_spelt c.sent_is_read.ensures c.what_is_given.ensures
 
 pub returns-clause-values : goal.returns-clause-values
 returns-clause-values c = values_are_texts c.sent_is_read.ensures c.what_is_given.ensures

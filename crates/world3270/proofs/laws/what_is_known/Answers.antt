@@ -19,7 +19,7 @@ returns c =
       may = stands.coming;
       sendable = c.screens_can_be_sent.ensures.screens;
       paints = c.screens_can_be_sent.ensures.paints;
-      spelt = c.screens_can_be_sent.ensures.spelt;
+      encoded = c.screens_can_be_sent.ensures.encoded;
     } in
     let links : LinkLaws = record {
       begin = stands.begin;

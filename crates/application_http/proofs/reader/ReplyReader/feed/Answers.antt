@@ -1,5 +1,5 @@
 use Rattle.std.proofs.Common.{◌++◌, ℕ, List, IfOk, IfErr, false, subst}
-use Rattle.application_http.specs.Readings.{IsFound, IsRefusedBehind}
+use Rattle.application_http.specs.Readings.{IsFound, IsRefusedAfter}
 use Rattle.application_http.proofs.Readings.{same_bytes}
 use Rattle.application_http.proofs.reader.ReplyReader.feed.Goals as goal
 
@@ -11,4 +11,4 @@ returns-clause-found c = λ so_far is.
 pub returns-clause-refused : goal.returns-clause-refused
 returns-clause-refused c = λ so_far is.
     let same = same_bytes c.self.inside.is_over c.self.inside.bytes.items so_far c.args.self.now c.if-self.false c.self.view_is is in
-    subst (λ (old : List ℕ). IfErr c.advance-answer.result (IsRefusedBehind old c.args.bytes.now)) same c.advance-answer.ensures.refused
+    subst (λ (old : List ℕ). IfErr c.advance-answer.result (IsRefusedAfter old c.args.bytes.now)) same c.advance-answer.ensures.refused

@@ -1,4 +1,4 @@
 use Rattle.datastream.proofs.command.Command.size.Goals as goal
 
-pub returns-clause-spelt : goal.returns-clause-spelt
-returns-clause-spelt c = rw (← c.self.view_is) c.self.invariant
+pub returns-clause-encoded : goal.returns-clause-encoded
+returns-clause-encoded c = rw (← c.self.view_is) c.self.invariant

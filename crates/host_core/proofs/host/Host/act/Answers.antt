@@ -1,7 +1,7 @@
 use Rattle.std.proofs.Common.{subst}
 use Rattle.host_core.specs.Application.{application_of}
 use Rattle.host_core.specs.Does.{Does, acted_by}
-use Rattle.host_core.specs.State.{Host, Connection, service_at, connection_at}
+use Rattle.host_core.specs.State.{Host, Connection, state_at, connection_at}
 use Rattle.host_core.proofs.Hosts.{changed_sound, changed, held_here, connection_got, moved, others_stay}
 use Rattle.host_core.proofs.host.Host.act.Goals as goal
 
@@ -18,7 +18,7 @@ invariant_of-self c =
 pub returns-clause-acted : goal.returns-clause-acted
 returns-clause-acted c =
     let host : Host = record { panels = c.self.inside.panels; pool = c.self.inside.pool; connections = c.self.inside.connections.items; sessions = c.self.inside.sessions; terminals = c.self.inside.terminals } in
-    subst (λ (h : Host). Does (acted_by (application_of h.panels) (service_at c.args.conn h)) (connection_at c.args.conn h) c.act.result
+    subst (λ (h : Host). Does (acted_by (application_of h.panels) (state_at c.args.conn h)) (connection_at c.args.conn h) c.act.result
     (connection_at c.args.conn (changed c.args.conn c.self.inside.pool c.act.new.self host))) c.self.view_is
     (moved (λ (l m : Connection). Does (acted_by (application_of c.self.inside.panels) l.service) l c.act.result m) c.args.conn c.self.inside.pool c.index_mut.result.now c.act.new.self host c.requires.number c.self.invariant.0
     c.index_mut.ensures.value c.act.ensures.acted)

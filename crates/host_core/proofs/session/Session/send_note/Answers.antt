@@ -1,5 +1,5 @@
 use Rattle.std.proofs.Common.{◌++◌, ◌∷◌, [], ℕ, List, ap, refl, arith, ◌∙◌, subst}
-use Rattle.host_core.specs.Application.{IsShape}
+use Rattle.host_core.specs.Application.{IsValidSize}
 use Rattle.host_core.specs.Session.{Session}
 use Rattle.host_core.specs.Notes.{note_command}
 use Rattle.host_core.specs.Says.{written}
@@ -25,7 +25,7 @@ invariant_of-self c = (
 
 pub returns-clause-sent : goal.returns-clause-sent
 returns-clause-sent c =
-    let shaped : IsShape c.args.self.now.size = subst (λ (conn : Session). IsShape conn.size) c.self.view_is c.put_note.ensures.size in
+    let shaped : IsValidSize c.args.self.now.size = subst (λ (conn : Session). IsValidSize conn.size) c.self.view_is c.put_note.ensures.size in
     note_sent c.args.self.now _ c.args.text.now c.put_note.new.bytes.items c.args.out.now c.send_record.new.out
     shaped c.requires.text
     (rw (← c.self.view_is) (c.put_note.ensures.appended ∙ ap (λ (bytes : List ℕ). bytes ++ written (note_command c.self.inside.size c.args.text.now)) c.begin_record.ensures.begun))

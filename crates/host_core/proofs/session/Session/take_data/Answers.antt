@@ -1,5 +1,5 @@
 use Rattle.std.proofs.Common.{subst, ◌∙◌}
-use Rattle.codes3270.specs.Size.{Shape}
+use Rattle.codes3270.specs.Size.{ScreenSize}
 use Rattle.datastream.specs.InboundText.{IsNoInbound}
 use Rattle.datastream.specs.declared.inbound_part.Form.{Form}
 use Rattle.host_core.proofs.RecordsTaken.{of_data}
@@ -14,5 +14,5 @@ pub take_second_key-requires : goal.take_second_key-requires
 take_second_key-requires c = (
   c.in-Err.field-0,
   subst (λ (form : Form). IsNoInbound c.args.self.now.size form c.in-Err.field-0 c.args.body.now) c.form_awaited.ensures
-      (subst (λ (size : Shape). IsNoInbound size c.form_awaited.result c.in-Err.field-0 c.args.body.now) c.size.ensures c.in-Err.ensures.found),
+      (subst (λ (size : ScreenSize). IsNoInbound size c.form_awaited.result c.in-Err.field-0 c.args.body.now) c.size.ensures c.in-Err.ensures.found),
 )

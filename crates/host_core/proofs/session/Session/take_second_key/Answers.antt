@@ -1,5 +1,5 @@
 use Rattle.std.proofs.Common.{ap, subst, sym, ◌∙◌}
-use Rattle.codes3270.specs.Size.{Shape}
+use Rattle.codes3270.specs.Size.{ScreenSize}
 use Rattle.codes3270.specs.declared.attention.Aid.{Aid}
 use Rattle.datastream.specs.InboundText.{IsNoInbound}
 use Rattle.datastream.specs.declared.inbound_part.Form.TheVariants.{Modified}
@@ -21,4 +21,4 @@ returns-in-Ok-clause-taken c =
 pub returns-in-Err-clause-taken : goal.returns-in-Err-clause-taken
 returns-in-Err-clause-taken c =
     of_no_data c.args.self.now c.args.body.now c.requires.0 c.in-Err.field-0 c.requires.1
-    (subst (λ (size : Shape). IsNoInbound size Modified c.in-Err.field-0 c.args.body.now) c.second_key_size.ensures c.in-Err.ensures.found)
+    (subst (λ (size : ScreenSize). IsNoInbound size Modified c.in-Err.field-0 c.args.body.now) c.second_key_size.ensures c.in-Err.ensures.found)

@@ -14,17 +14,17 @@ returns-in_default c = (
 pub returns-in-Text : goal.returns-in-Text
 returns-in-Text c =
     let (item, there, on_screen, place) = c.in-Some.ensures in
-    text_part_tells c.args.self.now.panels c.args.part c.size-size.result c.in-Text.field-0 c.in-Text.text item c.meets_one.result c.in-Text.is c.size-size.ensures (sym there) (c.meets_one.ensures item (on_screen, place))
+    text_part_tells c.args.self.now.panels c.args.part c.size-size.result c.in-Text.field-0 c.in-Text.text item c.overlaps_any.result c.in-Text.is c.size-size.ensures (sym there) (c.overlaps_any.ensures item (on_screen, place))
 
-pub returns-then-meets_one : goal.returns-then-meets_one
-returns-then-meets_one c =
+pub returns-then-overlaps_any : goal.returns-then-overlaps_any
+returns-then-overlaps_any c =
     let (item, there, on_screen, place) = c.in-Some.ensures in (
-      λ met. field_part_meets c.args.self.now.panels c.args.part c.size-size.result c.in-Field.panel c.in-Field.field c.map_or-texts.result item c.in-Field.is c.size-size.ensures (sym there) ((c.if-meets_one.ensures item (on_screen, place)).0 refl),
-      λ overlap. c.if-meets_one.true,
+      λ met. field_part_meets c.args.self.now.panels c.args.part c.size-size.result c.in-Field.panel c.in-Field.field c.map_or-texts.result item c.in-Field.is c.size-size.ensures (sym there) ((c.if-overlaps_any.ensures item (on_screen, place)).0 refl),
+      λ overlap. c.if-overlaps_any.true,
     )
 
-pub returns-else-meets_one : goal.returns-else-meets_one
-returns-else-meets_one c =
+pub returns-else-overlaps_any : goal.returns-else-overlaps_any
+returns-else-overlaps_any c =
     let (item, there, on_screen, place) = c.in-Some.ensures in
-    field_part_tells c.args.self.now.panels c.args.part c.size-size.result c.in-Field.panel c.in-Field.field c.map_or-texts.result item c.meets_one-else-meets_one.result
-    c.in-Field.is c.size-size.ensures (search rules) (sym there) (λ one. false≢true ((c.if-meets_one.ensures item (on_screen, place)).1 one)) (c.meets_one-else-meets_one.ensures item (on_screen, place))
+    field_part_tells c.args.self.now.panels c.args.part c.size-size.result c.in-Field.panel c.in-Field.field c.map_or-texts.result item c.overlaps_any-else-overlaps_any.result
+    c.in-Field.is c.size-size.ensures (search rules) (sym there) (λ one. false≢true ((c.if-overlaps_any.ensures item (on_screen, place)).1 one)) (c.overlaps_any-else-overlaps_any.ensures item (on_screen, place))

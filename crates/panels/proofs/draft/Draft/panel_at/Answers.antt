@@ -4,7 +4,7 @@ use Rattle.std.proofs.lemmas.Bool.{false≢true}
 use Rattle.std.proofs.lemmas.Option.{slice_get_within}
 use Rattle.panels.specs.Characters.{codes_of}
 use Rattle.panels.specs.Defines.{IsCursorBy, IsFieldOf, fields_before}
-use Rattle.panels.specs.Draft.{DraftItem, DraftPanel, draft_shape}
+use Rattle.panels.specs.Draft.{DraftItem, DraftPanel, draft_size}
 use Rattle.panels.specs.Items.{IsExtentOf, is_on_screen}
 use Rattle.panels.proofs.Building.{AreBuilt, read_at, built_more, built_all}
 use Rattle.panels.proofs.Leading.{targets_lead}
@@ -17,7 +17,7 @@ pub loop-place-preserved-in_default : goal.loop-place-preserved-in_default
 loop-place-preserved-in_default c =
     let there : slice_get c.args.panel.now.fields c.loop-place.place ≡ Some c.index-field.result.now =
     read_at c.panel.inside.fields.items c.args.panel.now.fields c.loop-place.place c.index-field.result.now (ap (λ (panel : DraftPanel). panel.fields) c.panel.view_is) (omega arith) c.index-field.ensures in
-    absurd {A = AreBuilt (λ i. IsFieldOf (draft_shape c.args.panel.now) (fields_before c.args.index c.args.self.now.panels + i)) c.args.panel.now.fields (c.loop-place.place + 1) c.loop-place.fields.items}
+    absurd {A = AreBuilt (λ i. IsFieldOf (draft_size c.args.panel.now) (fields_before c.args.index c.args.self.now.panels + i)) c.args.panel.now.fields (c.loop-place.place + 1) c.loop-place.fields.items}
     (false≢true (sym (subst (λ shape. is_on_screen shape c.index-field.result.now ≡ false) c.size-size.ensures c.in_default.ensures) ∙
     field_on_screen c.args.self.now c.args.panel.now c.args.index c.loop-place.place c.index-field.result.now c.requires.faultless c.requires.there there))
 
@@ -35,7 +35,7 @@ loop-place-preserved c =
     let there : slice_get c.args.panel.now.fields c.loop-place.place ≡ Some c.index-field.result.now =
     read_at c.panel.inside.fields.items c.args.panel.now.fields c.loop-place.place c.index-field.result.now (ap (λ (panel : DraftPanel). panel.fields) c.panel.view_is) (omega arith) c.index-field.ensures in
     rw c.in_ok-push.ensures.items
-    (built_more (λ i. IsFieldOf (draft_shape c.args.panel.now) (fields_before c.args.index c.args.self.now.panels + i)) c.args.panel.now.fields c.loop-place.place c.loop-place.fields.items c.index-field.result.now _ there
+    (built_more (λ i. IsFieldOf (draft_size c.args.panel.now) (fields_before c.args.index c.args.self.now.panels + i)) c.args.panel.now.fields c.loop-place.place c.loop-place.fields.items c.index-field.result.now _ there
     (record {
       number = ap (λ n. n + c.loop-place.place) c.fields_before-first.ensures;
       name = c.in_ok-of_text.ensures ∙ ap (λ (item : DraftItem). item.name) c.field.view_is;
@@ -54,9 +54,9 @@ pub cursor_of-requires : goal.cursor_of-requires
 cursor_of-requires c =
     let size : length c.panel.inside.fields.items ≡ length c.args.panel.now.fields = ap (λ (panel : DraftPanel). length panel.fields) c.panel.view_is in
     let whole : c.loop-place.place ≡ length c.args.panel.now.fields = omega arith in
-    let built = built_all (λ i. IsFieldOf (draft_shape c.args.panel.now) (fields_before c.args.index c.args.self.now.panels + i)) c.args.panel.now.fields c.loop-place.place c.loop-place.fields.items whole c.loop-place.invariant in
+    let built = built_all (λ i. IsFieldOf (draft_size c.args.panel.now) (fields_before c.args.index c.args.self.now.panels + i)) c.args.panel.now.fields c.loop-place.place c.loop-place.fields.items whole c.loop-place.invariant in
     subst (λ fields. IfSome c.panel.inside.cursor (λ name. ¬ All (λ field. ¬ (field.name ≡ name.now)) fields)) (sym c.as_slice.ensures.value)
-    (cursor_given (draft_shape c.args.panel.now) c.args.self.now c.args.panel.now c.args.index c.panel.inside.cursor c.loop-place.fields.items c.requires.faultless c.requires.there built
+    (cursor_given (draft_size c.args.panel.now) c.args.self.now c.args.panel.now c.args.index c.panel.inside.cursor c.loop-place.fields.items c.requires.faultless c.requires.there built
     (ap (λ (panel : DraftPanel). panel.cursor) c.panel.view_is))
 
 pub targets-requires-clause-there : goal.targets-requires-clause-there
@@ -69,7 +69,7 @@ pub invariant_of-result : goal.invariant_of-result
 invariant_of-result c =
     let size : length c.panel.inside.fields.items ≡ length c.args.panel.now.fields = ap (λ (panel : DraftPanel). length panel.fields) c.panel.view_is in
     let whole : c.loop-place.place ≡ length c.args.panel.now.fields = omega arith in
-    let built = built_all (λ i. IsFieldOf (draft_shape c.args.panel.now) (fields_before c.args.index c.args.self.now.panels + i)) c.args.panel.now.fields c.loop-place.place c.loop-place.fields.items whole c.loop-place.invariant in
+    let built = built_all (λ i. IsFieldOf (draft_size c.args.panel.now) (fields_before c.args.index c.args.self.now.panels + i)) c.args.panel.now.fields c.loop-place.place c.loop-place.fields.items whole c.loop-place.invariant in
     is_laid_out c.args.self.now c.args.index c.args.panel.now _ c.requires.faultless c.requires.there (record {
       name = c.in_ok-of_text-3.ensures ∙ ap (λ (panel : DraftPanel). panel.name) c.panel.view_is;
       model = c.model.ensures;
@@ -88,7 +88,7 @@ pub returns : goal.returns
 returns c =
     let size : length c.panel.inside.fields.items ≡ length c.args.panel.now.fields = ap (λ (panel : DraftPanel). length panel.fields) c.panel.view_is in
     let whole : c.loop-place.place ≡ length c.args.panel.now.fields = omega arith in
-    let built = built_all (λ i. IsFieldOf (draft_shape c.args.panel.now) (fields_before c.args.index c.args.self.now.panels + i)) c.args.panel.now.fields c.loop-place.place c.loop-place.fields.items whole c.loop-place.invariant in
+    let built = built_all (λ i. IsFieldOf (draft_size c.args.panel.now) (fields_before c.args.index c.args.self.now.panels + i)) c.args.panel.now.fields c.loop-place.place c.loop-place.fields.items whole c.loop-place.invariant in
     record {
       name = c.in_ok-of_text-3.ensures ∙ ap (λ (panel : DraftPanel). panel.name) c.panel.view_is;
       model = c.model.ensures;

@@ -5,7 +5,7 @@ use Rattle.codes3270.specs.Size.{cells_in}
 use Rattle.datastream.specs.Wanted.{WantedScreen}
 use Rattle.datastream.specs.declared.wanted.Want.TheVariants as want
 use Rattle.panels.specs.declared.panel.Field.{Field}
-use Rattle.panels.specs.Panel.{PanelParts, IsLaidOut, shape_of}
+use Rattle.panels.specs.Panel.{PanelParts, IsLaidOut, size_of}
 use Rattle.panels.specs.Put.{FitsOn}
 use Rattle.panels.proofs.Putting.{all_fit}
 use Rattle.panels.proofs.Screens.{all_there, is_screen_of}
@@ -16,7 +16,7 @@ pub put_fields-requires : goal.put_fields-requires
 put_fields-requires c =
     let panel = c.args.self.now in
     let laid : IsLaidOut panel = rw (← c.self.view_is) c.self.invariant in
-    let size : c.args.wanted.now.size ≡ shape_of panel = ap (λ (screen : WantedScreen). screen.size) c.requires.kept in
+    let size : c.args.wanted.now.size ≡ size_of panel = ap (λ (screen : WantedScreen). screen.size) c.requires.kept in
     subst (λ fields. All (λ (field : Field). FitsOn c.args.wanted.now.size field.extent) fields)
     (sym (c.as_slice.ensures.value ∙ ap (λ (p : PanelParts). p.fields) c.self.view_is))
     (all_fit (λ (field : Field). field.extent) panel c.args.wanted.now.size panel.fields size laid.fields)
@@ -26,10 +26,10 @@ returns-clause-screen c =
     let panel = c.args.self.now in
     let before = c.args.wanted.now in
     let put = c.put_texts.new.wanted in
-    let size : before.size ≡ shape_of panel = ap (λ (screen : WantedScreen). screen.size) c.requires.kept in
-    let sized : put.size ≡ shape_of panel = c.put_texts.ensures.0 ∙ c.put_fields.ensures.0 ∙ size in
-    let whole : length put.cells ≡ cells_in (shape_of panel) =
-    all_there c.cells-whole.result put.cells put.size (shape_of panel) c.cells-whole.ensures.cells c.cells-whole.ensures.size sized in
+    let size : before.size ≡ size_of panel = ap (λ (screen : WantedScreen). screen.size) c.requires.kept in
+    let sized : put.size ≡ size_of panel = c.put_texts.ensures.0 ∙ c.put_fields.ensures.0 ∙ size in
+    let whole : length put.cells ≡ cells_in (size_of panel) =
+    all_there c.cells-whole.result put.cells put.size (size_of panel) c.cells-whole.ensures.cells c.cells-whole.ensures.size sized in
     is_screen_of panel c.args.values.now c.args.message.now false (record put { cursor = before.cursor; reset = before.reset }) whole
     (record {
       size = sized;

@@ -5,7 +5,7 @@ use Rattle.std.proofs.lemmas.Iterator.Search.{all_from_yields_List}
 use Rattle.toml.specs.View.{view}
 use Rattle.toml.specs.declared.value.Value.{the_lemmas}
 use Rattle.toml.proofs.Views.{view-Array}
-use Rattle.panels.specs.Shape.{is_table, is_text}
+use Rattle.panels.specs.TableRules.{is_table, is_text}
 use Rattle.panels.proofs.Trees.{fits_tables, fits_texts}
 use Rattle.panels.proofs.rules.KeyKind.fits.Goals as goal
 

@@ -1,6 +1,6 @@
 use Rattle.std.proofs.Common.{◌≤◌, ◌∙◌, ℕ, length, ap, sym, subst, arith}
 use Rattle.std.proofs.lemmas.List.{length-replicate}
-use Rattle.codes3270.specs.Size.{Shape, cells_in, most_cells}
+use Rattle.codes3270.specs.Size.{ScreenSize, cells_in, most_cells}
 use Rattle.presentation.proofs.KeptCells.{nulls_kept, nulls_coded}
 use Rattle.presentation.proofs.screen_cells.ScreenCells.clear.Goals as goal
 
@@ -12,7 +12,7 @@ returns c =
 pub invariant_of-self : goal.invariant_of-self
 invariant_of-self c =
     let few = c.clear.ensures.few in
-    let shape = ap (λ (size : Shape). cells_in size) c.clear.ensures.size in
+    let shape = ap (λ (size : ScreenSize). cells_in size) c.clear.ensures.size in
     record {
       size = ap length c.clear.ensures.codes ∙ length-replicate {A = ℕ} (cells_in c.args.size) 0 ∙ sym shape;
       few = subst (λ (count : ℕ). count ≤ most_cells) (sym shape) few;

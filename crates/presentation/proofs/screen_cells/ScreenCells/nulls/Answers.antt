@@ -1,6 +1,6 @@
 use Rattle.std.proofs.Common.{◌≤◌, ◌∙◌, ℕ, not, replicate, length, ap, sym, subst, arith}
 use Rattle.std.proofs.lemmas.List.{length-replicate}
-use Rattle.codes3270.specs.Size.{Shape, cells_in, most_cells}
+use Rattle.codes3270.specs.Size.{ScreenSize, cells_in, most_cells}
 use Rattle.codes3270.specs.declared.attribute.Cell.{Cell}
 use Rattle.datastream.specs.CellCodes.{code_in}
 use Rattle.datastream.specs.Screen.{is_char}
@@ -20,7 +20,7 @@ invariant_of-result c =
     let n : ℕ = cells_in c.args.size in
     let few = c.filled.ensures.few in
     let are = c.filled.ensures.codes ∙ ap (λ (null : Cell). replicate n (code_in null)) c.character.ensures in
-    let shape = ap (λ (size : Shape). cells_in size) c.filled.ensures.size in
+    let shape = ap (λ (size : ScreenSize). cells_in size) c.filled.ensures.size in
     record {
       size = ap length are ∙ length-replicate {A = ℕ} n 0 ∙ sym shape;
       few = subst (λ (count : ℕ). count ≤ most_cells) (sym shape) few;

@@ -1,6 +1,6 @@
 use Rattle.std.proofs.Common.{◌+◌, ◌≤◌, ◌∙◌, ℕ, length, map, ap, sym, subst, arith}
 use Rattle.std.proofs.lemmas.List.{length-map}
-use Rattle.codes3270.specs.Size.{Shape, cells_in, most_cells}
+use Rattle.codes3270.specs.Size.{ScreenSize, cells_in, most_cells}
 use Rattle.datastream.specs.CellCodes.{code_in}
 use Rattle.presentation.proofs.CellRuns.{length-placed}
 use Rattle.presentation.proofs.KeptCells.{size, put_kept, put_coded}
@@ -21,7 +21,7 @@ returns c =
 pub invariant_of-self : goal.invariant_of-self
 invariant_of-self c =
     let i = c.self.inside.packed in
-    let shape = ap (λ (size : Shape). cells_in size) c.store_characters.ensures.size in
+    let shape = ap (λ (size : ScreenSize). cells_in size) c.store_characters.ensures.size in
     let coded =
     ap (map code_in) (returns c)
     ∙ put_coded c.args.self.now i.codes c.args.from c.args.text.now (ap (map code_in) (sym c.self.view_is) ∙ c.self.invariant.codes)

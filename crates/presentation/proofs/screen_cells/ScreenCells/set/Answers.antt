@@ -1,6 +1,6 @@
 use Rattle.std.proofs.Common.{◌≤◌, ◌∙◌, ℕ, length, map, set, not, nat_eq, if◌then◌else◌, ap, sym, subst, arith}
 use Rattle.std.proofs.lemmas.List.{length-set}
-use Rattle.codes3270.specs.Size.{Shape, cells_in, most_cells}
+use Rattle.codes3270.specs.Size.{ScreenSize, cells_in, most_cells}
 use Rattle.codes3270.specs.declared.attribute.Cell.{Cell}
 use Rattle.datastream.specs.CellBits.{has_bit}
 use Rattle.datastream.specs.CellCodes.{code_in}
@@ -24,7 +24,7 @@ pub invariant_of-self : goal.invariant_of-self
 invariant_of-self c =
     let i = c.self.inside.packed in
     let are = c.set.ensures.codes ∙ ap (λ (cell : Cell). set i.codes c.args.at (code_in cell)) c.new.ensures in
-    let shape = ap (λ (size : Shape). cells_in size) c.set.ensures.size in
+    let shape = ap (λ (size : ScreenSize). cells_in size) c.set.ensures.size in
     record {
       size = ap length are ∙ length-set i.codes c.args.at (code_in c.args.cell) ∙ c.self.invariant.size ∙ sym shape;
       few = subst (λ (count : ℕ). count ≤ most_cells) (sym shape) c.self.invariant.few;

@@ -1,6 +1,6 @@
 use Rattle.std.proofs.Common.{◌∙◌, ℕ, true, ap, arith, sym, length}
 use Rattle.std.proofs.lemmas.List.{length-replicate}
-use Rattle.codes3270.specs.Size.{Shape, cells_in}
+use Rattle.codes3270.specs.Size.{ScreenSize, cells_in}
 use Rattle.shadow.proofs.Keeping.{blank, all_blank, blank_marked}
 use Rattle.shadow.proofs.cell_beliefs.CellBeliefs.clear.Goals as goal
 
@@ -20,7 +20,7 @@ invariant_of-self c =
     let n : ℕ = cells_in c.args.size in
     let few = c.clear.ensures.few in (
       c.self.invariant.0,
-      ap length c.clear.ensures.codes ∙ length-replicate {A = ℕ} n 0 ∙ ap (λ (size : Shape). cells_in size) (sym c.clear.ensures.size),
+      ap length c.clear.ensures.codes ∙ length-replicate {A = ℕ} n 0 ∙ ap (λ (size : ScreenSize). cells_in size) (sym c.clear.ensures.size),
       rw c.clear.ensures.size few,
       blank_marked n c.self.inside.heads c.clear.new.self.attributes c.all-self-inside.result c.all-self-inside-2.result c.clear.new.self.codes true
           (λ cell low. c.clear.ensures.attributes cell (omega (arith, low, few)))

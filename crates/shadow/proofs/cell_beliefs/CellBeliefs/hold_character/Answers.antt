@@ -1,6 +1,6 @@
 use Rattle.std.proofs.Common.{◌≡◌, ◌<◌, ◌≤◌, ◌+◌, ◌-◌, ◌∷◌, [], ◌∙◌, ℕ, List, true, false, refl, arith, ap, sym, subst, length, set, get_or}
 use Rattle.std.proofs.lemmas.List.{length-set, get_or-set_other}
-use Rattle.codes3270.specs.Size.{Shape, cells_in}
+use Rattle.codes3270.specs.Size.{ScreenSize, cells_in}
 use Rattle.codes3270.specs.declared.attribute.Cell.{Cell}
 use Rattle.datastream.specs.CellBits.{has_bit, kept}
 use Rattle.datastream.specs.CellCodes.{code_in}
@@ -57,7 +57,7 @@ returns-clause-size c = ap length (held c).0 ∙ length-placed c.args.at (c.args
 
 pub invariant_of-self : goal.invariant_of-self
 invariant_of-self c =
-    let there : cells_in c.set.new.self.size ≡ cells_in c.self.inside.cells.size = ap (λ (shape : Shape). cells_in shape) c.set.ensures.size in (
+    let there : cells_in c.set.new.self.size ≡ cells_in c.self.inside.cells.size = ap (λ (shape : ScreenSize). cells_in shape) c.set.ensures.size in (
       c.self.invariant.0,
       (held c).1 ∙ c.self.invariant.1 ∙ sym there,
       rw there c.self.invariant.2,

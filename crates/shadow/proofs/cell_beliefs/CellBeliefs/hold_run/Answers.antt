@@ -1,5 +1,5 @@
 use Rattle.std.proofs.Common.{◌≡◌, ◌<◌, ◌≤◌, ◌+◌, ◌-◌, ◌++◌, ◌∙◌, ℕ, List, true, false, arith, ap, sym, subst, length, take, drop, get_or}
-use Rattle.codes3270.specs.Size.{Shape, cells_in}
+use Rattle.codes3270.specs.Size.{ScreenSize, cells_in}
 use Rattle.datastream.specs.CellBits.{has_bit, kept}
 use Rattle.shadow.specs.PackedBeliefs.{place_by, MarksKnown}
 use Rattle.shadow.specs.Runs.{placed}
@@ -56,7 +56,7 @@ returns-clause-size c =
 
 pub invariant_of-self : goal.invariant_of-self
 invariant_of-self c =
-    let there : cells_in c.store_characters.new.self.size ≡ cells_in c.self.inside.cells.size = ap (λ (shape : Shape). cells_in shape) c.store_characters.ensures.size in (
+    let there : cells_in c.store_characters.new.self.size ≡ cells_in c.self.inside.cells.size = ap (λ (shape : ScreenSize). cells_in shape) c.store_characters.ensures.size in (
       c.self.invariant.0,
       (held c).1 ∙ c.self.invariant.1 ∙ sym there,
       rw there c.self.invariant.2,

@@ -1,6 +1,6 @@
 use Rattle.std.proofs.Common.{◌≡◌, ◌<◌, ◌∙◌, ℕ, not, arith, ap, sym, subst, length, set, List}
 use Rattle.std.proofs.lemmas.List.{length-set}
-use Rattle.codes3270.specs.Size.{Shape, cells_in}
+use Rattle.codes3270.specs.Size.{ScreenSize, cells_in}
 use Rattle.datastream.specs.CellBits.{kept}
 use Rattle.datastream.specs.CellCodes.{code_in}
 use Rattle.datastream.specs.Screen.{is_char}
@@ -29,7 +29,7 @@ invariant_of-self c =
     let size : length c.args.self.now ≡ length i.cells.codes = size_kept (place_by i.heads i.cells.attributes i.known i.told) i.cells.codes c.args.self.now c.self.view_is in
     let low : c.args.at < length i.cells.codes = omega (arith, c.requires, size) in (
       length-set i.heads c.args.at c.head_of.result ∙ c.self.invariant.0,
-      ap length c.set.ensures.codes ∙ length-set i.cells.codes c.args.at (code_in c.packed.result) ∙ c.self.invariant.1 ∙ ap (λ (shape : Shape). cells_in shape) (sym c.set.ensures.size),
+      ap length c.set.ensures.codes ∙ length-set i.cells.codes c.args.at (code_in c.packed.result) ∙ c.self.invariant.1 ∙ ap (λ (shape : ScreenSize). cells_in shape) (sym c.set.ensures.size),
       rw c.set.ensures.size c.self.invariant.2,
       subst (λ (codes : List ℕ). MarksKnown c.put.new.self (kept (place_by (set i.heads c.args.at c.head_of.result) c.set.new.self.attributes c.put.new.self c.put-2.new.self) 0 codes)) (sym c.set.ensures.codes)
           (put_marked i.heads i.cells.attributes i.known i.told i.cells.codes c.args.at c.args.place (omega (arith, c.self.invariant.0, c.self.invariant.1, c.self.invariant.2, low)) low

@@ -1,6 +1,6 @@
 use Rattle.std.proofs.Common.{◌∙◌, ℕ, false, not, sym, ap, arith, length, replicate}
 use Rattle.std.proofs.lemmas.List.{length-replicate}
-use Rattle.codes3270.specs.Size.{Shape, cells_in}
+use Rattle.codes3270.specs.Size.{ScreenSize, cells_in}
 use Rattle.codes3270.specs.declared.attribute.Cell.{Cell}
 use Rattle.datastream.specs.CellCodes.{code_in}
 use Rattle.datastream.specs.Screen.{is_char}
@@ -22,7 +22,7 @@ invariant_of-result c =
     let few = c.filled.ensures.few in
     let nulls = c.filled.ensures.codes ∙ ap (λ (null : Cell). replicate n (code_in null)) c.character.ensures in (
       c.no_heads.ensures,
-      ap length nulls ∙ length-replicate {A = ℕ} n 0 ∙ ap (λ (size : Shape). cells_in size) (sym c.filled.ensures.size),
+      ap length nulls ∙ length-replicate {A = ℕ} n 0 ∙ ap (λ (size : ScreenSize). cells_in size) (sym c.filled.ensures.size),
       rw c.filled.ensures.size few,
       blank_marked n c.no_heads.result c.filled.result.attributes c.all.result c.all-2.result c.filled.result.codes false
           (λ cell low. c.filled.ensures.attributes cell (omega (arith, low, few)) ∙ ap (λ (null : Cell). not (is_char null)) c.character.ensures)

@@ -8,7 +8,7 @@ use Rattle.codes3270.specs.Size.{cells_in}
 use Rattle.shadow.specs.Belief.{Shadow, IsOfSize}
 use Rattle.shadow.specs.InPlace.{beliefs_held, shadow_held, IsHeld}
 use Rattle.shadow.specs.AfterReadBuffer.{denies_buffer, others, seen}
-use Rattle.shadow.specs.Since.{places_stored}
+use Rattle.shadow.specs.Since.{beliefs_of_cells}
 use Rattle.shadow.proofs.Placed.{known_size}
 use Rattle.shadow.proofs.Reading.{read_seen, read_held}
 use Rattle.shadow.proofs.Whole.{denies_held}
@@ -33,7 +33,7 @@ pub returns : goal.returns
 returns c =
     let places = c.self.inside.beliefs in
     let screen = cells_sent c.args.inbound.now.parts in
-    let read : c.put_read.new.beliefs ≡ places_stored screen = c.put_read.ensures ∙ ap places_stored c.cells-2.ensures.cells in
+    let read : c.put_read.new.beliefs ≡ beliefs_of_cells screen = c.put_read.ensures ∙ ap beliefs_of_cells c.cells-2.ensures.cells in
     let known : shadow_held true c.put_read.new.beliefs ≡ seen screen = ap (shadow_held true) read ∙ read_seen screen in
     let answer : Bool → Result Shadow HeardFault = λ t. if t then Err Contradiction else Ok (seen screen) in
     let allowed : denies_buffer c.args.self.now screen ≡ false =

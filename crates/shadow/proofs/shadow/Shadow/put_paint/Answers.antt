@@ -1,5 +1,5 @@
 use Rattle.std.proofs.Common.{◌≡◌, ◌∙◌, ap, sym, List, ℕ, Bool, true, false, ◌++◌, [], None, refl, append-nil, if◌then◌else◌}
-use Rattle.codes3270.specs.Size.{Shape, cells_in}
+use Rattle.codes3270.specs.Size.{ScreenSize, cells_in}
 use Rattle.datastream.specs.Writing.{orders_bytes, write_bytes}
 use Rattle.datastream.specs.declared.command_code.CommandCode.{CommandCode}
 use Rattle.datastream.specs.declared.wanted.Want.{Want}
@@ -41,7 +41,7 @@ returns-in-Ok c =
     ∙ ap (known_before n reset) c.self.view_is
     ∙ ap (λ (r : Bool). known_before n r shadow) c.reset-reset.ensures in
     let same_code : code ≡ paint_code n shadow wanted =
-    c.paint_code.ensures.code ∙ ap (λ (size : Shape). if formatted then Write else erase_code size) c.size-size.ensures.size ∙ ap (λ (t : Bool). if t then Write else erase_code wanted.size) (over ∙ ap (writes_over n) c.self.view_is) in
+    c.paint_code.ensures.code ∙ ap (λ (size : ScreenSize). if formatted then Write else erase_code size) c.size-size.ensures.size ∙ ap (λ (t : Bool). if t then Write else erase_code wanted.size) (over ∙ ap (writes_over n) c.self.view_is) in
     let total : paint_bytes n shadow wanted ≡ first ++ rest =
     sym (
     ap (λ (k : CommandCode). bytes n k reset cursor wants known) same_code

@@ -6,7 +6,7 @@ use Rattle.panels.specs.Faults.{Overlaps, item_at}
 use Rattle.panels.specs.Items.{IsExtentOf, is_on_screen}
 use Rattle.panels.specs.Walk.{nth}
 use Rattle.panels.proofs.Overlapping.{one_more, overlap_tells}
-use Rattle.panels.proofs.draft.Draft.meets_one.Goals as goal
+use Rattle.panels.proofs.draft.Draft.overlaps_any.Goals as goal
 
 pub loop-index-preserved-in_default : goal.loop-index-preserved-in_default
 loop-index-preserved-in_default c =
