@@ -101,8 +101,8 @@ class Bank:
     """Replies to the host's questions.
 
     Who is signed on is remembered by `session`, a name that the host uses once and never again, not even after it was started again. An LU
-    would be wrong as the key: when the host starts again, the next operator has the LU of the one before. No request says that an operator
-    left, so of many sessions those are forgotten that were used least recently.
+    would be wrong as the key: when the host starts again, the next operator has the LU of the one before. A session that ended is forgotten.
+    No end is told if the host is stopped, so of many sessions those are forgotten that were used least recently.
 
     What panels show and nobody types stays until a reply changes it, so a reply that leads to a panel has a text for all that it shows.
     """
@@ -119,7 +119,10 @@ class Bank:
         }
 
     def reply(self, question):
-        """The reply to a question. Every fault is a message."""
+        """The reply to a question, where every fault is a message, or to the notification that a session ended, which has none."""
+        if "event" in question:
+            self.sessions.pop(question["session"], None)
+            return {}
         panel, key = question["panel"], question["key"]
         session = self.sessions.pop(question["session"], None)
         if panel != "SIGNON":

@@ -4,7 +4,7 @@ import json
 class Greeting(BaseHTTPRequestHandler):
     def do_POST(self):
         question = json.loads(self.rfile.read(int(self.headers["Content-Length"])))
-        visitor = question["fields"]["visitor"]
+        visitor = question.get("fields", {}).get("visitor")
         message = f"GOOD MORNING, {visitor}" if visitor else "WHO ARE YOU?"
         content = json.dumps({"message": message}).encode()
         self.send_response(200)

@@ -88,16 +88,15 @@ class Operator(hosts.Client):
     def sees(self, *texts):
         """Is written a screen with these texts, and takes it."""
         shown = self.record().decode("cp037")
-        self.says(b"\x02\x00\x00", self.writes.to_bytes(2, "big"), b"\x00\xff\xef")
-        self.writes += 1
+        self.takes_write()
         for text in texts:
             expect(f"a screen with {text!r}", text in shown, True)
         return shown
 
-    def signs_on(self, lu):
+    def signs_on(self, lu, device="IBM-3278-2"):
         self.is_asked()
-        self.asks_for(None)
-        self.hears(hosts.device_type(4, lu))
+        self.says(hosts.device_type(7, None, device))
+        self.hears(hosts.device_type(4, lu, device))
         self.says(hosts.FUNCTIONS_REQUEST)
         self.hears(hosts.FUNCTIONS_IS)
         self.sees("FIRST PANEL")
@@ -134,6 +133,13 @@ class Application:
     def takes(self):
         """The next exchange."""
         return Exchange(self.listener.accept()[0])
+
+    def hears_end(self, session, lu, reason):
+        """The next request is a notification of this end."""
+        exchange = self.takes()
+        told = {"event": "ended", "lu": lu, "reason": reason, "session": session}
+        expect("a notification", exchange.body.decode(), json.dumps(told, separators=(",", ":")))
+        return exchange
 
     def has_no_other(self):
         """Nobody else connects for a while."""

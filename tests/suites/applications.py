@@ -34,6 +34,8 @@ def an_application_is_told_what_is_seen_and_decides():
             "panel": "WORD",
             "key": "enter",
             "cursor": {"row": 3, "col": 9},
+            "terminal": {"model": 2, "rows": 24, "cols": 80},
+            "client": first.peer,
         }
         expect(
             "its request", exchange.asked, {**asked, "fields": {"word": "LOGAN", "secret": "KEY"}}
@@ -55,12 +57,33 @@ def an_application_is_told_what_is_seen_and_decides():
         exchange = application.takes()
         expect(
             "who asks",
-            [exchange.asked[it] for it in ("session", "lu", "key")],
-            [host.session(1), "PNL02", "pf1"],
+            [exchange.asked[it] for it in ("session", "lu", "key", "client")],
+            [host.session(1), "PNL02", "pf1", second.peer],
         )
         exchange.sends({})
         second.sees()
         application.has_no_other()
+
+
+@check
+def an_application_is_told_which_terminal_asks():
+    """The terminal has the model that it asked for, with the larger size of that model's screen,
+    though the panel is of model 2; the client's address is as in the log, also that of IPv6."""
+    application = Application()
+    with Host(application.url, "--listen", "::1") as host:
+        for model, rows, cols in ((2, 24, 80), (3, 32, 80), (4, 43, 80), (5, 27, 132)):
+            operator = Operator(host.port, host="::1").signs_on("PNL01", f"IBM-3278-{model}")
+            operator.presses("enter")
+            exchange = application.takes()
+            expect(
+                "who asks",
+                (exchange.asked["terminal"], exchange.asked["client"]),
+                ({"model": model, "rows": rows, "cols": cols}, operator.peer),
+            )
+            exchange.sends({})
+            operator.sees()
+            operator.ends()
+            application.hears_end(exchange.asked["session"], "PNL01", "lost").sends({})
 
 
 def a_failure_is_told_and_the_key_asks_again(content, status, message, event, raw=False):
@@ -108,6 +131,8 @@ def each_wrong_reply_is_an_error():
         ({"fields": {"word": 1}}, "200 OK", 'field-not-text key="word"'),
         ({"fields": 1}, "200 OK", 'not-object key="fields"'),
         ({"panel": 1}, "200 OK", 'not-text key="panel"'),
+        ({"end": 1}, "200 OK", 'not-boolean key="end"'),
+        ({"end": "true"}, "200 OK", 'not-boolean key="end"'),
         ({'o"\n': 1}, "200 OK", 'unknown-key key="o??"'),
     ):
         a_failure_is_told_and_the_key_asks_again(
@@ -192,6 +217,57 @@ def an_operator_who_waits_for_the_application_is_not_idle():
         first.sees("AT LAST")
         hosts.in_seconds(0.8, 3, "it is dropped", first.hears_the_end)
         host.has_said("idle turns=1")
+        application.hears_end(exchange.asked["session"], "PNL01", "idle")
+
+
+@check
+def a_reply_may_end_the_session():
+    """Its screen is shown, and once the terminal has answered, the host closes the connection, and
+    tells the application; `false` is as if it were absent."""
+    with a_host(OWN) as (host, application, first, second):
+        first.presses("enter", "LOGAN")
+        application.takes().sends({"message": "STAY", "end": False})
+        first.sees("STAY")
+        first.presses("enter", "LOGAN")
+        exchange = application.takes()
+        exchange.sends({"panel": "MENU", "message": "GOOD BYE", "end": True})
+        shown = first.record().decode("cp037")
+        expect("the last screen", "SECOND PANEL" in shown and "GOOD BYE" in shown, True)
+        second.works()
+        time.sleep(0.3)
+        expect("an end before the answer", "ended-by-application" in host.logged(), False)
+        first.takes_write()
+        first.hears_the_end()
+        host.has_said("ended-by-application turns=2")
+        ended = application.hears_end(exchange.asked["session"], "PNL01", "ended-by-application")
+        ended.sends({})
+        Operator(host.port).signs_on("PNL01")
+        second.works()
+
+
+@check
+def an_end_is_told_once():
+    """It is told of each session that was asked about, and of no other; nothing is made of the
+    reply, and an application that gives none holds up nobody."""
+    with a_host() as (host, application, first, second):
+        first.presses("enter", "LOGAN")
+        exchange = application.takes()
+        exchange.sends({"panel": "MENU"})
+        first.sees("SECOND PANEL")
+        first.ends()
+        silent = application.hears_end(exchange.asked["session"], "PNL01", "lost")
+        third = Operator(host.port).signs_on("PNL01")
+        third.ends()
+        second.presses("enter", "MOORE")
+        exchange = application.takes()
+        exchange.sends({"message": "ONE"})
+        second.sees("ONE")
+        second.says(bytes.fromhex("FF FA 28 FF 00"))
+        second.hears_the_end()
+        application.hears_end(exchange.asked["session"], "PNL02", "closed").sends(b"[", "500 Oh")
+        silent.is_closed()
+        application.has_no_other()
+        expect("a fault in its log", "event=application" in host.logged(), False)
 
 
 @check
@@ -262,6 +338,7 @@ def a_reply_to_one_who_left_is_dropped():
         exchange = application.takes()
         first.leaves()
         host.has_said("application-reply-dropped")
+        application.hears_end(exchange.asked["session"], "PNL01", "lost")
         third = Operator(host.port).signs_on("PNL01")
         exchange.sends({"message": "LATE"})
         exchange.is_closed()
@@ -421,6 +498,7 @@ def no_reply_grows_the_memory_of_the_host():
                     "the host drops a reply",
                     lambda: host.logged().count("application-reply-dropped") == left,
                 )
+                application.takes().sends({})
                 late.sends({"message": "LATE"})
                 second = Operator(host.port).signs_on("PNL02")
             sizes.append(int(re.search(r"VmRSS:\s+(\d+) kB", status.read_text())[1]))

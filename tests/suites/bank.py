@@ -490,12 +490,10 @@ def a_database_that_exists_is_kept():
 
 @check
 def the_first_application_greets():
-    """The application in 15 lines greets who types a name, and is the one that the documents
-    print."""
+    """The application in 15 lines greets who types a name, and is the one that README prints."""
     code = (TOP / "examples/greeting.py").read_text()
     printed = "".join(f"    {line}\n" if line else "\n" for line in code.splitlines())
-    for page in ("README.md", "docs/APPLICATIONS.md"):
-        expect(f"{page} prints it", printed in (TOP / page).read_text(), True)
+    expect("README prints it", printed in (TOP / "README.md").read_text(), True)
     port = hosts.free_port()
     process = subprocess.Popen(
         [sys.executable, "-c", code.replace("8080", str(port))], stderr=subprocess.DEVNULL

@@ -49,6 +49,7 @@ def serve(job: dict) -> str:
     seconds = f"{limits['negotiate']} {limits['keepalive']} {limits['idle']} seconds"
     text = f"serve at {service['listen']} {service['port']}, {seconds}"
     text += if_any(", metrics at {}", service["metrics"])
+    text += ", behind a proxy" if service["proxy_protocol"] == "true" else ""
     text += TERMINALS[service["terminals"]]
     text += ", quiet" if service["quiet"] == "true" else ""
     limit = f", application [{{}}] in {application['reply_time']} seconds"

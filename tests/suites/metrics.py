@@ -96,6 +96,7 @@ def metrics_page(
     lost=0,
     idle=0,
     no_agreement=0,
+    by_application=0,
     turned_away=0,
     rejected=(),
     dropped=0,
@@ -113,6 +114,7 @@ def metrics_page(
     milliseconds."""
     ends = [(f'{{end="closed",cause="{it}"}}', closed.count(it)) for it in CAUSES]
     ends += [('{end="lost"}', lost), ('{end="idle"}', idle), ('{end="no-agreement"}', no_agreement)]
+    ends += [('{end="ended-by-application"}', by_application)]
     within = [sum(it <= 1000 * float(bound) for it in times) for bound in BOUNDS]
     answers = [(f'_bucket{{le="{it}"}}', count) for it, count in zip(BOUNDS, within)]
     answers += [("_sum", f"{sum(times) / 1000:.3f}"), ("_count", len(times))]
@@ -377,6 +379,20 @@ def questions_are_counted():
         first.presses("enter", "LOGAN")
         first.sees()
         has_asked(host, asked=10, times=times, failed=[*failed, "left", "refused"])
+
+
+@check
+def ends_by_the_application_are_counted():
+    application, port = applications.Application(), free_port()
+    with applications.Host(application.url, "--metrics", str(port)) as host:
+        host.metrics = port
+        first, _ = host.operators()
+        first.presses("enter")
+        application.takes().sends({"end": True})
+        first.sees()
+        first.hears_the_end()
+        ends = 'panel3270_session_ends_total{end="ended-by-application"}'
+        expect("such ends", figure(host, ends), "1")
 
 
 @check

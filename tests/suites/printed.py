@@ -149,11 +149,11 @@ def the_application_greets():
             f"`{shown[23].strip()}`" in documents.read(document),
             True,
         )
-        expect(
-            f"{document} has the application",
-            documents.block(document, "examples/greeting.py](") + "\n",
-            documents.read("examples/greeting.py"),
-        )
+    expect(
+        "README has the application",
+        documents.block("README.md", "examples/greeting.py](") + "\n",
+        documents.read("examples/greeting.py"),
+    )
 
 
 @check
@@ -191,8 +191,8 @@ def each_says_where_it_listens():
 
 @check
 def the_table_of_metrics_has_each():
-    """The table has the names of the metrics page, and the values of the label `end`, in their
-    order."""
+    """The table has the names of the metrics page, and the page the values of the label `end`, in
+    their order."""
     table = "\n".join(
         it
         for it in documents.read(OPERATING).splitlines()
@@ -206,4 +206,5 @@ def the_table_of_metrics_has_each():
         re.findall(r"`((?:panel3270|process)_\w+)`", table),
     )
     ends = list(dict.fromkeys(re.findall(r'end="([\w-]+)"', page)))
-    expect("the ends", ", ".join(f"`{it}`" for it in ends), re.search(r"`end` \((.*?)\)", table)[1])
+    named = re.search(r"`end` \((.*?)\)", documents.read(OPERATING))[1]
+    expect("the ends", ", ".join(f"`{it}`" for it in ends), named)

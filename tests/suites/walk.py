@@ -417,7 +417,6 @@ STEPS = {
     "listening on 127.0.0.1:3270\ntime=": "is the log of s3270: the suite s3270_sessions",
     "warning: other machines": PRINTED,
     "[tn3270]\n": "is a text for stunnel: the suite s3270_sessions",
-    "[operate]\n": "is a text for stunnel, tried by hand",
     "printf 'Connect(L:BANK04": "needs s3270 and stunnel: the suite s3270_sessions",
     "backend hosts": lines_of("examples/haproxy.cfg"),
     # docs/APPLICATIONS.md
@@ -426,7 +425,8 @@ STEPS = {
     "python3 examples/": application,
     "panel3270 serve --port 3270 --panels examples/bank-asks.toml": signs_on,
     "POST /bank": PRINTED,
-    '{"cursor":': PRINTED,
+    '{"client":': PRINTED,
+    '{"event":"ended"': "is a request: the suite applications",
     '{"panel": "MENU"': PRINTED,
     f"{LOG} event=application-replaced": "is a line of the log: the suite applications",
     f"{LOG} event=application-error": PRINTED,

@@ -1,10 +1,10 @@
 -- A question has no number with a fraction.
-use Rattle.std.proofs.Common.{◌≡◌, ℕ, List, [], ◌∷◌, Bool, true, false, ◌||◌, Ordering, Less, Equal, Greater, refl, string_bytes, nat_cmp}
+use Rattle.std.proofs.Common.{◌≡◌, ℕ, List, [], ◌∷◌, Bool, true, false, ◌||◌, Ordering, Less, Equal, Greater, refl, string_bytes, nat_cmp, Option, Some, None, codes, option_map}
 use Rattle.std.specs.Cmp.Lexicographic.{slice_cmp}
 use Rattle.std.specs.Ordering.{match_ordering}
 use Rattle.serde_json.specs.Data.{Data, string, Members, no_members, member, put}
 use Rattle.serde_json.specs.Written.{has_float, members_have_float}
-use Rattle.application_http.specs.Requests.{with_texts, question_data}
+use Rattle.application_http.specs.Requests.{with_client, with_texts, question_data}
 use Rattle.application_http.specs.declared.request.FieldText.{FieldText}
 use Rattle.application_http.specs.declared.request.Request.{Request}
 
@@ -37,5 +37,11 @@ pub texts_plain : (fields : List FieldText) (ms : Members) → members_have_floa
 texts_plain [] ms p = p
 texts_plain (field ∷ fields) ms p = texts_plain fields (put (string_bytes field.name) (string (string_bytes field.text)) ms) (put_plain _ (string (string_bytes field.text)) ms refl p)
 
+client_plain : (client : Option (List ℕ)) (members : Members) → members_have_float members ≡ false
+    → members_have_float (with_client client members) ≡ false
+client_plain None members p = p
+client_plain (Some client) members p = put_plain (codes "client") (string client) members refl p
+
 pub question_plain : (request : Request) → has_float (question_data request) ≡ false
-question_plain request = or_false _ _ (texts_plain request.fields.now no_members refl) refl
+question_plain request =
+    client_plain (option_map (λ it. it.now) request.client) _ (or_false _ _ (texts_plain request.fields.now no_members refl) refl)

@@ -1,27 +1,33 @@
 -- The meaning of an application's reply: a JSON object (RFC 8259) whose keys are all optional (keys: our profile).
-use Rattle.std.specs.Prelude.{ℕ, ◌<◌, Bool, ◌||◌, List, [], ◌∷◌, codes, map, length, bytes_eq, string_bytes, Option, Some, None, option_map, option_and_then, is_some, unwrap_or, if◌then◌else◌, ◌≡◌, ◌⊎◌, IsUtf8}
+use Rattle.std.specs.Prelude.{ℕ, ◌<◌, Bool, ◌||◌, List, [], ◌∷◌, codes, map, length, bytes_eq, string_bytes, false, Option, Some, None, option_map, option_and_then, is_some, unwrap_or, if◌then◌else◌, ◌≡◌, ◌⊎◌, IsUtf8}
 use Rattle.serde_json.specs.Data.{Data, string, object, Members, no_members, member}
-use Rattle.serde_json.specs.Find.{get, as_str, as_object}
+use Rattle.serde_json.specs.Find.{get, as_bool, as_str, as_object}
 use Rattle.serde_json.specs.Read.{read}
 use Rattle.application_http.specs.declared.request.FieldText.{FieldText}
 use Rattle.application_http.specs.declared.fault.KeyFault.{KeyFault}
-use Rattle.application_http.specs.declared.fault.KeyFault.TheVariants.{UnknownKey, NotText, NotObject, FieldNotText}
+use Rattle.application_http.specs.declared.fault.KeyFault.TheVariants.{UnknownKey, NotText, NotBoolean, NotObject, FieldNotText}
 use Rattle.application_http.specs.declared.fault.ReplyFault.{ReplyFault}
 use Rattle.application_http.specs.declared.fault.ReplyFault.TheVariants as fault
 use Rattle.application_http.specs.declared.reply.Reply.{Reply}
 
 -- ---- the meaning
 
--- the panel to show, the texts of its fields, the message, and the field in which to put the cursor
+-- the panel to show, the texts of its fields, the message, the field in which to put the cursor, and whether the
+-- session ends then
 pub record Answer : Type 0 where
   pub panel : Option (List ℕ)
   pub fields : List (List ℕ × List ℕ)
   pub message : Option (List ℕ)
   pub cursor : Option (List ℕ)
+  pub end : Bool
 
 -- the text at a key
 abbrev pub text_at : List ℕ → Data → Option (List ℕ)
 text_at key d = option_and_then as_str (get key d)
+
+-- the boolean at a key; false if there is none
+abbrev pub flag_at : List ℕ → Data → Bool
+flag_at key d = unwrap_or (option_and_then as_bool (get key d)) false
 
 -- the names and texts of an object
 abbrev pub texts_in : Members → List (List ℕ × List ℕ)
@@ -40,6 +46,7 @@ answer_of d = record {
   fields = texts_in (object_at (codes "fields") d);
   message = text_at (codes "message") d;
   cursor = text_at (codes "cursor") d;
+  end = flag_at (codes "end") d;
 }
 
 -- ---- what is wrong with it
@@ -60,11 +67,15 @@ fields_flaw key _ = Some (NotObject, key)
 abbrev pub names_text : List ℕ → Bool
 names_text key = bytes_eq key (codes "panel") || bytes_eq key (codes "message") || bytes_eq key (codes "cursor")
 
+abbrev pub end_flaw : (key : List ℕ) → Data → Option KeyFlaw
+end_flaw key value = if is_some (as_bool value) then None else Some (NotBoolean, key)
+
 -- what is wrong with one key and its value
 abbrev pub key_flaw : (key : List ℕ) → Data → Option KeyFlaw
 key_flaw key value =
     if names_text key then (if is_some (as_str value) then None else Some (NotText, key))
-    else (if bytes_eq key (codes "fields") then fields_flaw key value else Some (UnknownKey, key))
+    else (if bytes_eq key (codes "fields") then fields_flaw key value
+    else (if bytes_eq key (codes "end") then end_flaw key value else Some (UnknownKey, key)))
 
 -- the first of two flaws, if there are any
 abbrev pub earlier : Option KeyFlaw → Option KeyFlaw → Option KeyFlaw
@@ -123,4 +134,5 @@ answer_in reply = record {
   fields = map field_text reply.fields.items;
   message = option_map string_bytes reply.message;
   cursor = option_map string_bytes reply.cursor;
+  end = reply.end;
 }

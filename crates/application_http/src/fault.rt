@@ -10,6 +10,8 @@ pub enum KeyFault {
     UnknownKey,
     /// The key's value must be a text.
     NotText,
+    /// The key's value must be true or false.
+    NotBoolean,
     /// The key's value must be an object.
     NotObject,
     /// The key is a field's name, and its value must be a text.
@@ -21,6 +23,7 @@ impl fmt::Display for KeyFault {
         f.write_str(match self {
             KeyFault::UnknownKey => "is unknown",
             KeyFault::NotText => "has a value that is not a text",
+            KeyFault::NotBoolean => "has a value that is not true or false",
             KeyFault::NotObject => "has a value that is not an object",
             KeyFault::FieldNotText => "of \"fields\" has a value that is not a text",
         })

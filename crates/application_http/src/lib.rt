@@ -8,12 +8,14 @@
 mod content;
 mod endpoint;
 mod fault;
+mod notification;
 mod reader;
 mod reply;
 mod request;
 
 pub use endpoint::{Endpoint, EndpointFault};
 pub use fault::{KeyFault, ReplyFault};
+pub use notification::{Ended, notification_text};
 pub use reader::ReplyReader;
 pub use reply::{Reply, copy_of};
-pub use request::{FieldText, Request, request_text};
+pub use request::{FieldText, Request, Terminal, request_text};

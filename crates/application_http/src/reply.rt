@@ -2,7 +2,7 @@
 ghost use Rattle.std.specs.Prelude.{◌≡◌, ◌<◌, None, codes, is_some, length, map, option_map, option_copied, string_bytes, IfErr, IfOk, OnErr};
 ghost use Rattle.serde_json.specs.Find.{get};
 ghost use Rattle.serde_json.specs.View.{members_view, view};
-ghost use Rattle.application_http.specs.Replies.{IsBadContent, IsBadValue, IsStored, IsText, Says, SaysIn, answer_in, answer_of, field_text, fields_flaw, first_flaw, first_non_text, key_flaw, names_text, object_at, text_at, texts_in};
+ghost use Rattle.application_http.specs.Replies.{IsBadContent, IsBadValue, IsStored, IsText, Says, SaysIn, answer_in, answer_of, end_flaw, field_text, fields_flaw, first_flaw, flag_at, first_non_text, key_flaw, names_text, object_at, text_at, texts_in};
 
 use crate::fault::{KeyFault, ReplyFault};
 use crate::request::FieldText;
@@ -20,6 +20,8 @@ pub struct Reply {
     pub message: Option<String>,
     /// The name of the field in which to put the cursor.
     pub cursor: Option<String>,
+    /// Whether the session ends once the terminal has taken this answer.
+    pub end: bool,
 }
 
 /// The first member of an object whose value isn't a text.
@@ -44,6 +46,17 @@ fn fields_flaw<'a>(key: &'a str, value: &'a Value) -> Option<(KeyFault, &'a str)
     }
 }
 
+/// What is wrong with the value of the key `end`.
+fn end_flaw<'a>(key: &'a str, value: &Value) -> Option<(KeyFault, &'a str)>
+    ensures { option_map (λ flaw. (flaw.0, flaw.1.now)) result ≡ end_flaw key.now (view value.now) }
+{
+    if value.is_boolean() {
+        None
+    } else {
+        Some((KeyFault::NotBoolean, key))
+    }
+}
+
 /// Whether a key's value must be a text.
 fn names_text(key: &str) -> bool
     ensures { result ≡ names_text key.now }
@@ -63,6 +76,8 @@ fn key_flaw<'a>(key: &'a str, value: &'a Value) -> Option<(KeyFault, &'a str)>
         }
     } else if key == "fields" {
         fields_flaw(key, value)
+    } else if key == "end" {
+        end_flaw(key, value)
     } else {
         Some((KeyFault::UnknownKey, key))
     }
@@ -98,6 +113,16 @@ fn text_at(alloc: Global, value: &Value, key: &str) -> Result<Option<String>, Al
     match value.get(key).and_then(Value::as_str) {
         Some(text) => Ok(Some(copy_of(alloc, text)?)),
         None => Ok(None),
+    }
+}
+
+/// The boolean at a key; false if there is none.
+fn flag_at(value: &Value, key: &str) -> bool
+    ensures { result ≡ flag_at key.now (view value.now) }
+{
+    match value.get(key).and_then(Value::as_bool) {
+        Some(flag) => flag,
+        None => false,
     }
 }
 
@@ -146,6 +171,7 @@ fn reply_of(alloc: Global, value: &Value) -> Result<Reply, AllocError>
         fields: texts_at(alloc, value, "fields")?,
         message: text_at(alloc, value, "message")?,
         cursor: text_at(alloc, value, "cursor")?,
+        end: flag_at(value, "end"),
     })
 }
 

@@ -1,8 +1,8 @@
 //! The HTTP request to an application for a question.
-ghost use Rattle.std.specs.Prelude.{◌≡◌, IfOk, OnOk, codes, string_bytes};
+ghost use Rattle.std.specs.Prelude.{◌≡◌, IfOk, OnOk, codes, option_map, string_bytes};
 ghost use Rattle.serde_json.specs.Data.{no_members, number, object, put, string, unsigned};
 ghost use Rattle.serde_json.specs.View.{members_view, view};
-ghost use Rattle.application_http.specs.Requests.{body_text, cursor_data, question_data, request_bytes, with_texts};
+ghost use Rattle.application_http.specs.Requests.{body_text, cursor_data, post_bytes, question_data, request_bytes, terminal_data, with_client, with_texts};
 
 use crate::endpoint::Endpoint;
 use serde_json::{Map, Value, json};
@@ -17,7 +17,18 @@ pub struct FieldText {
     pub text: String,
 }
 
-/// A question: what the operator sees, and the key that was pressed.
+/// The model of the 3278 that a terminal asked for, and the size of that model's screen.
+#[derive(Clone, Copy)]
+pub struct Terminal {
+    /// The model's number, 2 to 5.
+    pub model: u8,
+    /// The number of rows.
+    pub rows: u16,
+    /// The number of cells of a row.
+    pub cols: u16,
+}
+
+/// A question: what the operator sees, the key that was pressed, and who asks.
 #[derive(Clone, Copy)]
 pub struct Request<'a> {
     /// The session's name, which no other session has.
@@ -36,6 +47,10 @@ pub struct Request<'a> {
     pub col: u16,
     /// The panel's fields. If two have one name, the later one is sent.
     pub fields: &'a [FieldText],
+    /// The operator's terminal.
+    pub terminal: Terminal,
+    /// The address of the terminal's client, if it is known.
+    pub client: Option<&'a str>,
 }
 
 /// The JSON object of the fields.
@@ -51,7 +66,7 @@ fn fields_value(alloc: Global, fields: &[FieldText]) -> Result<Value, AllocError
 }
 
 /// Puts a text into an object.
-fn put_text(
+pub(crate) fn put_text(
     members: &mut Map<String, Value>,
     alloc: Global,
     key: &str,
@@ -119,6 +134,44 @@ fn put_screen(
     Ok(())
 }
 
+/// The JSON object of the terminal.
+fn terminal_value(alloc: Global, terminal: Terminal) -> Result<Value, AllocError>
+    ensures { IfOk result (λ value. view value ≡ terminal_data terminal) }
+{
+    let Terminal { model, rows, cols } = terminal;
+    json!(in alloc; {"model": u64::from(model), "rows": u64::from(rows), "cols": u64::from(cols)})
+}
+
+/// Puts the address of the client into an object, if there is one.
+fn put_client(
+    members: &mut Map<String, Value>,
+    alloc: Global,
+    client: Option<&str>,
+) -> Result<(), AllocError>
+    ensures { OnOk result (members_view members.new.entries
+        ≡ with_client (option_map (λ it. it.now) client.entry) (members_view members.old.entries)) }
+{
+    match client {
+        Some(client) => put_text(members, alloc, "client", client),
+        None => Ok(()),
+    }
+}
+
+/// Puts the terminal and the client into an object.
+fn put_asker(
+    members: &mut Map<String, Value>,
+    alloc: Global,
+    request: &Request<'_>,
+) -> Result<(), AllocError>
+    ensures { OnOk result
+        (members_view members.new.entries ≡ with_client (option_map (λ it. it.now) request.now.client)
+        (put (codes "terminal") (terminal_data request.now.terminal) (members_view members.old.entries))) }
+{
+    let terminal = terminal_value(alloc, request.terminal)?;
+    serde_json::put(members, alloc, "terminal", terminal)?;
+    put_client(members, alloc, request.client)
+}
+
 /// The JSON object of a question.
 fn question_value(alloc: Global, request: &Request<'_>) -> Result<Value, AllocError>
     ensures { IfOk result (λ value. view value ≡ question_data request.now) }
@@ -127,6 +180,7 @@ fn question_value(alloc: Global, request: &Request<'_>) -> Result<Value, AllocEr
     put_ticket(&mut members, alloc, request.session, request.turn)?;
     put_question(&mut members, alloc, request)?;
     put_screen(&mut members, alloc, request)?;
+    put_asker(&mut members, alloc, request)?;
     Ok(Value::Object(members))
 }
 
@@ -138,6 +192,20 @@ fn body_text(alloc: Global, request: &Request<'_>) -> Result<String, AllocError>
     value.to_string(alloc)
 }
 
+/// The bytes of a request with this body, for the application at an endpoint.
+pub(crate) fn post_text(
+    alloc: Global,
+    endpoint: &Endpoint,
+    body: &str,
+) -> Result<String, AllocError>
+    ensures { IfOk result (λ text. string_bytes text ≡ post_bytes endpoint.now body.now) }
+{
+    let mut text = String::new(alloc);
+    endpoint.put_head(&mut text, body.len())?;
+    write!(text, "{body}")?;
+    Ok(text)
+}
+
 /// The bytes of a request, head and body, for the application at an endpoint.
 pub fn request_text(
     alloc: Global,
@@ -147,8 +215,5 @@ pub fn request_text(
     ensures { IfOk result (λ text. string_bytes text ≡ request_bytes endpoint.now request.now) }
 {
     let body = body_text(alloc, request)?;
-    let mut text = String::new(alloc);
-    endpoint.put_head(&mut text, body.as_str().len())?;
-    write!(text, "{body}")?;
-    Ok(text)
+    post_text(alloc, endpoint, body.as_str())
 }

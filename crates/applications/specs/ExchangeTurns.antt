@@ -1,12 +1,14 @@
--- Exchanges with an application (our profile): the request for an open question is sent on its own connection, and the
--- reply is read from it. Each exchange ends once: with an answer; with a fault, which is reported and for which the
--- operator sees a message; or because the operator left.
+-- Exchanges with an application (our profile): a request is sent on its own connection, and the reply is read from it.
+-- Each exchange about a question ends once: with an answer; with a fault, which is reported and for which the operator
+-- sees a message; or because the operator left. The end of a session is reported once, and the reply to that is
+-- ignored.
 use Rattle.std.specs.Prelude.{◌≡◌, ◌<◌, ℕ, ◌+◌, Bool, true, false, List, [], ◌∷◌, ◌++◌, drop, length, if◌then◌else◌, Option, Some, None, Result, Ok, Err, IfErr, IfOk, slice_index_or, slice_set, unwrap_or, ⊤}
 use Rattle.std.specs.IoError.{error_kind}
 use Rattle.std.specs.declared.io.Error.{Error}
 use Rattle.std.specs.declared.io.ErrorKind.{ErrorKind}
 use Rattle.std.specs.declared.io.ErrorKind.TheVariants as kind
 use Rattle.application_http.specs.Readings.{ReturnsNone, IsFound, IsRefused, IsRefusedAfter, Outcome, left_by}
+use Rattle.application_http.specs.declared.notification.Ended.{Ended}
 use Rattle.application_http.specs.declared.reply.Reply.{Reply}
 use Rattle.application_http.specs.declared.request.Request.{Request}
 use Rattle.host_core.specs.declared.acted.Acted.{Acted}
@@ -17,7 +19,7 @@ use Rattle.host_core.specs.declared.question.Ticket.{Ticket}
 use Rattle.job_streams.specs.declared.fault.Fault.{Fault}
 use Rattle.job_streams.specs.declared.fault.Fault.TheVariants.{NoMemory}
 use Rattle.panels.specs.Panel.{Panels}
-use Rattle.applications.specs.ApplicationRequests.{IsRequestFor}
+use Rattle.applications.specs.ApplicationRequests.{IsNotificationOf, IsRequestFor}
 use Rattle.applications.specs.Applications.{IsAnswerFault, IsAnswerFor, failure_text, is_reply_late, message_for, telling}
 use Rattle.applications.specs.declared.application_fault.Absence.{Absence}
 use Rattle.applications.specs.declared.application_fault.Absence.TheVariants as absence
@@ -25,29 +27,20 @@ use Rattle.applications.specs.declared.application_fault.ApplicationFault.{Appli
 use Rattle.applications.specs.declared.application_fault.ApplicationFault.TheVariants as why
 use Rattle.applications.specs.declared.application_fault.FailureMessage.{FailureMessage}
 use Rattle.applications.specs.declared.application_reply.AnswerFault.{AnswerFault}
+use Rattle.applications.specs.declared.application_request.Query.{Query}
+use Rattle.applications.specs.declared.ended_session.EndedSession.{EndedSession}
 use Rattle.applications.specs.declared.exchange.IoProgress.{IoProgress}
+use Rattle.applications.specs.declared.exchanges.QuestionExchange.{QuestionExchange}
+use Rattle.applications.specs.Exchange.{Exchange}
 use Rattle.applications.specs.declared.exchange.IoProgress.TheVariants.{Moved, Still, Over}
 
 -- ---- one exchange
 
--- An exchange: its stream, its question's ticket and panel, when it began in milliseconds, the request, how many of its
--- bytes were sent, and the bytes received; None once they ended it.
-pub record Exchange (S : Type 0) : Type 0 where
-  pub stream : S
-  pub ticket : Ticket
-  pub panel : ℕ
-  pub began : ℕ
-  pub request : List ℕ
-  pub sent : ℕ
-  pub heard : Option (List ℕ)
-
 module _ {S : Type 0} where
   -- an exchange that begins: nothing is sent or received yet
-  abbrev pub begun : S → Question → (request : List ℕ) → (began : ℕ) → Exchange S
-  begun stream question request began = record {
+  abbrev pub begun : S → (request : List ℕ) → (began : ℕ) → Exchange S
+  begun stream request began = record {
     stream = stream;
-    ticket = question.ticket;
-    panel = question.panel;
     began = began;
     request = request;
     sent = 0;
@@ -187,10 +180,10 @@ module _ {S : Type 0} (gave : ReadCall S) (took : WriteCall S) where
 -- ---- the end of an exchange
 
 -- The calls of a server, each between the server before and after it: the open question of a connection, the answer of
--- connecting to the application, what the host did with an answer, and the reports of a fault and of a reply that was
--- shown.
+-- connecting to the application, what the host did with an answer, the reports of a fault and of a reply that was
+-- shown, and the end of a session.
 abbrev pub QuestionCall : Type 0 → Type 1
-QuestionCall A = A → ℕ → Result (Option Question) Fault → Type 0
+QuestionCall A = A → ℕ → Result (Option Query) Fault → Type 0
 
 abbrev pub ConnectCall : Type 0 → Type 0 → Type 1
 ConnectCall A S = A → Result S Error → Type 0
@@ -203,6 +196,9 @@ FaultCall A = A → ℕ → ApplicationFault → Result Unit Fault → A → Typ
 
 abbrev pub ReplyCall : Type 0 → Type 1
 ReplyCall A = A → ℕ → Reply → Result Unit Fault → A → Type 0
+
+abbrev pub EndCall : Type 0 → Type 1
+EndCall A = A → ℕ → Option EndedSession → A → Type 0
 
 -- the result of a call: `did`, or the fault of a report
 abbrev pub unless_failed : {A : Type 0} → (did : A) → Result Unit Fault → Result A Fault
@@ -264,17 +260,22 @@ module _ {A : Type 0} (answered : AnswerCall A) (reported : FaultCall A) where
 
 -- ---- a turn of a connection
 
+-- the exchange about a question that begins
+abbrev pub asked_by : {S : Type 0} → S → Question → (request : List ℕ) → (began : ℕ) → QuestionExchange S
+asked_by stream question request began =
+    record { ticket = question.ticket; panel = question.panel; exchange = begun stream request began }
+
 -- Holds if an exchange begins for a question, on the stream that the server connected. `written` is how a request is
 -- written for its application.
 pub record BeginsFor {S : Type 0} (written : Request → List ℕ) (boot now : ℕ) (served : Panels → Type 0)
-    (connected : Result S Error → Type 0) (question : Question) (exchange : Exchange S) : Type 0 where
+    (connected : Result S Error → Type 0) (query : Query) (asked : QuestionExchange S) : Type 0 where
   pub panels : Panels
   pub stream : S
   pub request : List ℕ
   pub are_served : served panels
-  pub asks : IsRequestFor written boot panels question (Some request)
+  pub asks : IsRequestFor written boot panels query (Some request)
   pub connects : connected (Ok stream)
-  pub exchange_is : exchange ≡ begun stream question request now
+  pub asked_is : asked ≡ asked_by stream query.question request now
 
 -- Holds if no exchange can begin for this reason: memory for its request is refused, or the server can't connect.
 pub data CannotBegin {S : Type 0} (connected : Result S Error → Type 0) (reason : Absence) : Type 0 where
@@ -285,21 +286,21 @@ pub data CannotBegin {S : Type 0} (connected : Result S Error → Type 0) (reaso
 module _ {A : Type 0} (served : A → Panels → Type 0) (answered : AnswerCall A) (reported : FaultCall A) where
   -- Holds if an exchange for an open question begins, or fails at once.
   pub data AsksAbout {S : Type 0} (connected : ConnectCall A S) (written : Request → List ℕ) (boot now conn : ℕ)
-      (question : Question) (old : A) (result : Result Bool Fault) (new : A) (after : Option (Exchange S))
+      (query : Query) (old : A) (result : Result Bool Fault) (new : A) (after : Option (QuestionExchange S))
       : Type 0 where
-    begins : (exchange : Exchange S) → BeginsFor written boot now (served old) (connected old) question exchange
-        → after ≡ Some exchange → new ≡ old → result ≡ Ok true
-        → AsksAbout connected written boot now conn question old result new after
+    begins : (asks : QuestionExchange S) → BeginsFor written boot now (served old) (connected old) query asks
+        → after ≡ Some asks → new ≡ old → result ≡ Ok true
+        → AsksAbout connected written boot now conn query old result new after
     cannot_begin : (reason : Absence) → CannotBegin (connected old) reason → after ≡ None
-        → Fails answered reported old conn question.ticket (why.Absent reason) result new
-        → AsksAbout connected written boot now conn question old result new after
+        → Fails answered reported old conn query.question.ticket (why.Absent reason) result new
+        → AsksAbout connected written boot now conn query old result new after
 
   -- Holds for a turn without a current exchange: one begins if a question is open.
   pub data Asks {S : Type 0} (connected : ConnectCall A S) (asked : QuestionCall A) (written : Request → List ℕ)
-      (boot now conn : ℕ) (old : A) (result : Result Bool Fault) (new : A) (after : Option (Exchange S))
+      (boot now conn : ℕ) (old : A) (result : Result Bool Fault) (new : A) (after : Option (QuestionExchange S))
       : Type 0 where
-    asks_about : (question : Question) → asked old conn (Ok (Some question))
-        → AsksAbout connected written boot now conn question old result new after
+    asks_about : (query : Query) → asked old conn (Ok (Some query))
+        → AsksAbout connected written boot now conn query old result new after
         → Asks connected asked written boot now conn old result new after
     no_question : asked old conn (Ok None) → after ≡ None → new ≡ old → result ≡ Ok false
         → Asks connected asked written boot now conn old result new after
@@ -308,32 +309,85 @@ module _ {A : Type 0} (served : A → Panels → Type 0) (answered : AnswerCall 
 
   -- Holds for a turn of the current exchange: it continues, or it ends and its slot is empty.
   pub data Goes {S : Type 0} (gave : ReadCall S) (took : WriteCall S) (noted : ReplyCall A) (has_operator : Bool)
-      (now most conn : ℕ) (exchange : Exchange S) (old : A) (result : Result Bool Fault) (new : A)
-      (after : Option (Exchange S)) : Type 0 where
-    moves : (next : Exchange S) → GoesOn gave took has_operator now most exchange Moved next → after ≡ Some next
-        → new ≡ old → result ≡ Ok true
-        → Goes gave took noted has_operator now most conn exchange old result new after
-    waits : (next : Exchange S) → GoesOn gave took has_operator now most exchange Still next → after ≡ Some next
-        → new ≡ old → result ≡ Ok false
-        → Goes gave took noted has_operator now most conn exchange old result new after
+      (now most conn : ℕ) (asked : QuestionExchange S) (old : A) (result : Result Bool Fault) (new : A)
+      (after : Option (QuestionExchange S)) : Type 0 where
+    moves : (next : Exchange S) → GoesOn gave took has_operator now most asked.exchange Moved next
+        → after ≡ Some (record asked { exchange = next }) → new ≡ old → result ≡ Ok true
+        → Goes gave took noted has_operator now most conn asked old result new after
+    waits : (next : Exchange S) → GoesOn gave took has_operator now most asked.exchange Still next
+        → after ≡ Some (record asked { exchange = next }) → new ≡ old → result ≡ Ok false
+        → Goes gave took noted has_operator now most conn asked old result new after
     ends : (outcome : Result Reply ApplicationFault) (last : Exchange S)
-        → GoesOn gave took has_operator now most exchange (Over outcome) last → after ≡ None
-        → Ends answered reported noted served exchange.panel old conn exchange.ticket outcome result new
-        → Goes gave took noted has_operator now most conn exchange old result new after
+        → GoesOn gave took has_operator now most asked.exchange (Over outcome) last → after ≡ None
+        → Ends answered reported noted served asked.panel old conn asked.ticket outcome result new
+        → Goes gave took noted has_operator now most conn asked old result new after
 
   -- holds for a turn of a connection, with or without a current exchange
   abbrev pub Turns : {S : Type 0} → ReadCall S → WriteCall S → ConnectCall A S → QuestionCall A → ReplyCall A
-      → (written : Request → List ℕ) → (boot now most : ℕ) → (has_operator : Bool) → (conn : ℕ) → Option (Exchange S)
-      → A → Result Bool Fault → A → Option (Exchange S) → Type 0
+      → (written : Request → List ℕ) → (boot now most : ℕ) → (has_operator : Bool) → (conn : ℕ)
+      → Option (QuestionExchange S) → A → Result Bool Fault → A → Option (QuestionExchange S) → Type 0
   Turns gave took connected asked noted written boot now most has_operator conn None old result new after =
       Asks connected asked written boot now conn old result new after
-  Turns gave took connected asked noted written boot now most has_operator conn (Some exchange) old result new after =
-      Goes gave took noted has_operator now most conn exchange old result new after
+  Turns gave took connected asked noted written boot now most has_operator conn (Some begun) old result new after =
+      Goes gave took noted has_operator now most conn begun old result new after
 
--- the exchange of a connection number, and all exchanges after that one was set
-module _ {S : Type 0} where
-  abbrev pub slot_at : ℕ → List (Option (Exchange S)) → Option (Exchange S)
+-- ---- a turn of a notification
+
+-- Holds if the notification of a session's end begins, on the stream that the server connected. `written` is how it is
+-- written for its application.
+pub record BeginsNotification {S : Type 0} (written : Ended → List ℕ) (now : ℕ) (connected : Result S Error → Type 0)
+    (ended : EndedSession) (exchange : Exchange S) : Type 0 where
+  pub stream : S
+  pub request : List ℕ
+  pub tells : IsNotificationOf written ended request
+  pub connects : connected (Ok stream)
+  pub exchange_is : exchange ≡ begun stream request now
+
+-- whether a turn of a notification did something, and the notification after it: whatever ended it, it isn't repeated
+abbrev pub has_moved : IoProgress → Bool
+has_moved Moved = true
+has_moved Still = false
+has_moved (Over outcome) = true
+
+abbrev pub unless_over : {S : Type 0} → IoProgress → Exchange S → Option (Exchange S)
+unless_over Moved next = Some next
+unless_over Still next = Some next
+unless_over (Over outcome) next = None
+
+-- Holds for a turn of the current notification. Its reply is ignored.
+pub record Continues {S : Type 0} (gave : ReadCall S) (took : WriteCall S) (now most : ℕ) (exchange : Exchange S)
+    (did : Bool) (after : Option (Exchange S)) : Type 0 where
+  pub progress : IoProgress
+  pub next : Exchange S
+  pub goes_on : GoesOn gave took true now most exchange progress next
+  pub did_is : did ≡ has_moved progress
+  pub after_is : after ≡ unless_over progress next
+
+module _ {A : Type 0} (ended : EndCall A) where
+  -- Holds for a turn of a connection without a current notification: if its session ended, one begins.
+  pub data Tells {S : Type 0} (connected : ConnectCall A S) (written : Ended → List ℕ) (now conn : ℕ) (old : A)
+      (did : Bool) (new : A) (after : Option (Exchange S)) : Type 0 where
+    tells : (end : EndedSession) (exchange : Exchange S) → ended old conn (Some end) new
+        → BeginsNotification written now (connected new) end exchange → after ≡ Some exchange → did ≡ true
+        → Tells connected written now conn old did new after
+    cannot_tell : (end : EndedSession) (reason : Absence) → ended old conn (Some end) new
+        → CannotBegin (connected new) reason → after ≡ None → did ≡ false
+        → Tells connected written now conn old did new after
+    nothing_ended : ended old conn None new → after ≡ None → did ≡ false
+        → Tells connected written now conn old did new after
+
+  -- holds for a turn of a connection, with or without a current notification
+  abbrev pub Notifies : {S : Type 0} → ReadCall S → WriteCall S → ConnectCall A S → (written : Ended → List ℕ)
+      → (now most conn : ℕ) → Option (Exchange S) → A → (did : Bool) → A → Option (Exchange S) → Type 0
+  Notifies gave took connected written now most conn None old did new after =
+      Tells connected written now conn old did new after
+  Notifies gave took connected written now most conn (Some exchange) old did new after =
+      Continues gave took now most exchange did after × (new ≡ old)
+
+-- what is at a connection number, and all after that was set
+module _ {A : Type 0} where
+  abbrev pub slot_at : ℕ → List (Option A) → Option A
   slot_at conn slots = slice_index_or slots conn None
 
-  abbrev pub with_slot : ℕ → Option (Exchange S) → List (Option (Exchange S)) → List (Option (Exchange S))
+  abbrev pub with_slot : ℕ → Option A → List (Option A) → List (Option A)
   with_slot conn slot slots = slice_set slots conn slot

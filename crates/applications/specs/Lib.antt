@@ -5,5 +5,6 @@ pub mod PanelHosts
 pub mod SessionNames
 pub mod Applications
 pub mod ApplicationRequests
+pub mod Exchange
 pub mod ExchangeTurns
 pub mod AskedKeys

@@ -127,6 +127,7 @@ fn key_word(what: KeyFault) -> &'static str {
     match what {
         KeyFault::UnknownKey => "unknown-key",
         KeyFault::NotText => "not-text",
+        KeyFault::NotBoolean => "not-boolean",
         KeyFault::NotObject => "not-object",
         KeyFault::FieldNotText => "field-not-text",
     }

@@ -208,7 +208,7 @@ fn message_of(alloc: Global, text: &str) -> Result<MessageText, AllocError>
 }
 
 /// The text of an optional string.
-fn text_of(text: &Option<String>) -> Option<&str>
+pub(crate) fn text_of(text: &Option<String>) -> Option<&str>
     ensures { option_map (λ it. it.now) result ≡ option_map string_bytes text.now }
 {
     match text {

@@ -1,20 +1,34 @@
 //! Turns the host's question, with numbers and bytes, into a request to an application, with names and Unicode texts.
 ghost use Rattle.std.specs.Prelude.{◌≡◌, IfOk, map, option_map, string_bytes};
+ghost use Rattle.std.specs.Net.Text.{socket_text};
 ghost use Rattle.application_http.specs.Replies.{field_text};
 ghost use Rattle.application_http.specs.Requests.{request_bytes};
 ghost use Rattle.tn3270e_msg.specs.Words.{lu_text};
-ghost use Rattle.applications.specs.ApplicationRequests.{AsksQuestion, IsRequestFor, IsRequestOn, session_asking, text_asked, texts_asked};
+ghost use Rattle.applications.specs.ApplicationRequests.{AsksQuestion, IsRequestFor, IsRequestOn, SaysWhoAsks, model_number, session_asking, terminal_of, text_asked, texts_asked};
 ghost use Rattle.applications.specs.Applications.{key_name, shown_character};
 ghost use Rattle.applications.specs.QuestionLines.{column_of, row_of, unicode_of};
 ghost use Rattle.applications.specs.SessionNames.{session_text};
 
+use crate::application_reply::text_of;
 use crate::session_name::{SessionName, session_text};
-use application_http::{Endpoint, FieldText, Request, request_text};
-use codes3270::{Addr, Aid, Size, to_latin1};
+use application_http::{Endpoint, FieldText, Request, Terminal, request_text};
+use codes3270::{Addr, Aid, Model, Size, to_latin1};
 use host_core::Question;
 use panels::{Field, Panel, PanelSet, Values};
 use std::alloc::{AllocError, Global};
 use std::fmt;
+use std::net::SocketAddr;
+
+/// A question for the application: the open question of a connection, and who asks it.
+#[derive(Drop)]
+pub struct Query {
+    /// The question.
+    pub question: Question,
+    /// The model that the terminal asked for.
+    pub model: Model,
+    /// The address of its client, as the log prints it, if it is known.
+    pub client: Option<SocketAddr>,
+}
 
 /// The character for a byte that has none in code page 037 (Unicode, REPLACEMENT CHARACTER).
 const NO_CHARACTER: char = '\u{FFFD}';
@@ -117,22 +131,60 @@ fn session_asking(boot: u64, question: &Question) -> SessionName
     }
 }
 
-/// The request for a question on a panel, from the texts of its session, its LU, its key and its fields.
+/// The number of a model of the 3278.
+fn model_number(model: Model) -> u8
+    ensures { result ≡ model_number model }
+{
+    match model {
+        Model::M2 => 2,
+        Model::M3 => 3,
+        Model::M4 => 4,
+        Model::M5 => 5,
+    }
+}
+
+/// The model's number and its alternate size.
+fn terminal_of(model: Model) -> Terminal
+    ensures { result ≡ terminal_of model }
+{
+    let size = model.alternate();
+    Terminal {
+        model: model_number(model),
+        rows: size.rows(),
+        cols: size.cols(),
+    }
+}
+
+/// The address of a client as text.
+fn client_text(alloc: Global, client: Option<SocketAddr>) -> Result<Option<String>, AllocError>
+    ensures { IfOk result (λ text. option_map string_bytes text ≡ option_map socket_text client) }
+{
+    match client {
+        Some(client) => Ok(Some(format!(in alloc; "{client}")?)),
+        None => Ok(None),
+    }
+}
+
+/// The request for a question on a panel, from the texts of its session, its LU, its key, its fields and its client.
 fn request_by<'a>(
     panel: &'a Panel,
-    question: &Question,
+    query: &Query,
     boot: u64,
     session: &'a str,
     lu: &'a str,
     key: &'a str,
     fields: &'a [FieldText],
+    client: Option<&'a str>,
 ) -> Request<'a>
-    requires session { session.now ≡ session_text (session_asking boot question.now) }
-    requires lu { lu.now ≡ lu_text question.now.lu }
-    requires key { key.now ≡ key_name question.now.aid }
-    requires fields { map field_text fields.now ≡ texts_asked question.now.values panel.now.fields }
-    ensures { AsksQuestion boot panel.now question.now result }
+    requires session { session.now ≡ session_text (session_asking boot query.now.question) }
+    requires lu { lu.now ≡ lu_text query.now.question.lu }
+    requires key { key.now ≡ key_name query.now.question.aid }
+    requires fields { map field_text fields.now ≡ texts_asked query.now.question.values panel.now.fields }
+    requires client { option_map (λ it. it.now) client ≡ option_map socket_text query.now.client }
+    ensures asks { AsksQuestion boot panel.now query.now.question result }
+    ensures says_who { SaysWhoAsks query.now result }
 {
+    let question = &query.question;
     let (row, col) = place_of(question.cursor, panel.size());
     Request {
         session,
@@ -143,6 +195,8 @@ fn request_by<'a>(
         row,
         col,
         fields,
+        terminal: terminal_of(query.model),
+        client,
     }
 }
 
@@ -152,24 +206,27 @@ fn request_on(
     endpoint: &Endpoint,
     boot: u64,
     panel: &Panel,
-    question: &Question,
+    query: &Query,
 ) -> Result<String, AllocError>
     ensures { IfOk result
-        (λ text. IsRequestOn (request_bytes endpoint.now) boot panel.now question.now (string_bytes text)) }
+        (λ text. IsRequestOn (request_bytes endpoint.now) boot panel.now query.now (string_bytes text)) }
 {
+    let question = &query.question;
     let session = session_text(alloc, session_asking(boot, question))?;
     let lu = question.lu;
     let lu = format!(in alloc; "{lu}")?;
     let key = key_name(alloc, question.aid)?;
     let fields = texts_asked(alloc, panel.fields(), &question.values)?;
+    let client = client_text(alloc, query.client)?;
     let request = request_by(
         panel,
-        question,
+        query,
         boot,
         session.as_str(),
         lu.as_str(),
         key.as_str(),
         fields.as_slice(),
+        text_of(&client),
     );
     let text = request_text(alloc, endpoint, &request)?;
     Ok(text)
@@ -181,13 +238,13 @@ pub(crate) fn request_of(
     endpoint: &Endpoint,
     boot: u64,
     panels: &PanelSet,
-    question: &Question,
+    query: &Query,
 ) -> Result<Option<String>, AllocError>
-    ensures { IfOk result (λ text. IsRequestFor (request_bytes endpoint.now) boot panels.now question.now
+    ensures { IfOk result (λ text. IsRequestFor (request_bytes endpoint.now) boot panels.now query.now
         (option_map string_bytes text)) }
 {
-    match panels.panel(question.panel) {
-        Some(panel) => Ok(Some(request_on(alloc, endpoint, boot, panel, question)?)),
+    match panels.panel(query.question.panel) {
+        Some(panel) => Ok(Some(request_on(alloc, endpoint, boot, panel, query)?)),
         None => Ok(None),
     }
 }

@@ -1,4 +1,4 @@
-//! An exchange with an application: the request for one question, and the reply on the same connection.
+//! An exchange with an application: one request, and the reply on the same connection.
 ghost use Rattle.std.specs.Prelude.{◌≡◌, drop, length, string_bytes};
 ghost use Rattle.std.specs.IoError.{error_kind};
 ghost use Rattle.applications.specs.Applications.{is_reply_late};
@@ -6,7 +6,6 @@ ghost use Rattle.applications.specs.ExchangeTurns.{GoesOn, Hears, Reads, Serves,
 
 use crate::application_fault::{Absence, ApplicationFault};
 use application_http::{Reply, ReplyFault, ReplyReader};
-use host_core::{Question, Ticket};
 use job_streams::{RawRead, RawWrite};
 use std::alloc::Global;
 use std::io::{Error, ErrorKind};
@@ -95,15 +94,12 @@ fn is_reply_late(began: u64, now: u64, most: u64) -> bool
     now.saturating_sub(began) >= most
 }
 
-/// An exchange on its own stream. Contracts see its question's ticket and panel, the request, how many of its bytes
-/// were sent, and the bytes that were received.
+/// An exchange on its own stream. Contracts see the request, how many of its bytes were sent, and the bytes that were
+/// received.
 #[derive(Drop)]
 pub(crate) struct Exchange<S> {
     alloc: Global,
     stream: S,
-    ticket: Ticket,
-    /// The number of the panel on the screen.
-    panel: usize,
     /// When it began, in milliseconds of the server's time.
     began: u64,
     request: String,
@@ -114,14 +110,12 @@ pub(crate) struct Exchange<S> {
 
 impl<S> Model for Exchange<S> {
     ghost use Rattle.std.specs.Prelude.{◌≤◌, length, string_bytes};
-    ghost use Rattle.applications.specs.ExchangeTurns.{Exchange as ExchangeValue};
+    ghost use Rattle.applications.specs.Exchange.{Exchange as ExchangeValue};
 
     ghost Value = { ExchangeValue S };
 
     ghost view = { λ it. record {
       stream = it.stream;
-      ticket = it.ticket;
-      panel = it.panel;
       began = it.began;
       request = string_bytes it.request;
       sent = it.sent;
@@ -133,39 +127,17 @@ impl<S> Model for Exchange<S> {
 
 impl<S: RawRead + RawWrite + Drop> Exchange<S> {
     /// An exchange that begins at `began` on a connecting stream: nothing is sent or received yet.
-    pub(crate) fn new(
-        alloc: Global,
-        stream: S,
-        question: &Question,
-        request: String,
-        began: u64,
-    ) -> Exchange<S>
-        ensures { result ≡ begun stream question.now (string_bytes request) began }
+    pub(crate) fn new(alloc: Global, stream: S, request: String, began: u64) -> Exchange<S>
+        ensures { result ≡ begun stream (string_bytes request) began }
     {
         Exchange {
             alloc,
             stream,
-            ticket: question.ticket,
-            panel: question.panel,
             began,
             request,
             sent: 0,
             reader: ReplyReader::new(alloc),
         }
-    }
-
-    /// The ticket of its question.
-    pub(crate) fn ticket(&self) -> Ticket
-        ensures { result ≡ self.now.ticket }
-    {
-        self.ticket
-    }
-
-    /// The number of the panel of its question.
-    pub(crate) fn panel(&self) -> usize
-        ensures { result ≡ self.now.panel }
-    {
-        self.panel
     }
 
     /// Writes the rest of the request, as much as the stream takes.

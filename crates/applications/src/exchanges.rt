@@ -1,4 +1,5 @@
-//! The exchanges of a server's connections with an application: at most one for each connection. No call waits.
+//! The exchanges of a server's connections about questions to an application: at most one for each connection. No call
+//! waits.
 ghost use Rattle.std.specs.Prelude.{◌≡◌, ◌<◌, IfErr, IfOk, None, replicate};
 ghost use Rattle.application_http.specs.Requests.{request_bytes};
 ghost use Rattle.applications.specs.ExchangeTurns.{Asks, AsksAbout, BeginsFor, CannotBegin, Ends, Fails, Goes, Hands, Shows, Turns, slot_at, unless_failed, with_slot};
@@ -6,10 +7,11 @@ ghost use Rattle.host_core.specs.State.{most_connections};
 
 use crate::application_fault::{Absence, ApplicationFault};
 use crate::application_reply::{answer_of, telling};
-use crate::application_request::request_of;
+use crate::application_request::{Query, request_of};
+use crate::ended_session::EndedSession;
 use crate::exchange::{Exchange, IoProgress, absence_of};
 use application_http::{Endpoint, Reply};
-use host_core::{Acted, Answer, MOST_CONNECTIONS, Question, Ticket};
+use host_core::{Acted, Answer, MOST_CONNECTIONS, Ticket};
 use job_streams::{Fault, RawRead, RawWrite};
 use panels::PanelSet;
 use std::alloc::{AllocError, Global};
@@ -25,7 +27,7 @@ pub trait AskingServer {
     ghost use Rattle.std.specs.Prelude.{◌<◌};
     ghost use Rattle.host_core.specs.State.{most_connections};
     ghost use Rattle.panels.specs.Panel.{Panels};
-    ghost use Rattle.applications.specs.ExchangeTurns.{AnswerCall, ConnectCall, FaultCall, QuestionCall, ReplyCall};
+    ghost use Rattle.applications.specs.ExchangeTurns.{AnswerCall, ConnectCall, EndCall, FaultCall, QuestionCall, ReplyCall};
 
     /// A connection to the application.
     type Stream: RawRead + RawWrite + Drop;
@@ -42,12 +44,14 @@ pub trait AskingServer {
 
     ghost noted: { ReplyCall Self };
 
+    ghost ended: { EndCall Self };
+
     /// The panels that it serves.
     fn panels(&self) -> &PanelSet
         ensures { served self.now result.now };
 
-    /// The open question of a connection, if there is one.
-    fn question(&self, conn: usize) -> Result<Option<Question>, Fault>
+    /// The open question of a connection and who asks it, if there is one.
+    fn question(&self, conn: usize) -> Result<Option<Query>, Fault>
         requires { conn < most_connections }
         ensures { asked self.now conn result };
 
@@ -65,10 +69,16 @@ pub trait AskingServer {
         requires { conn < most_connections }
         ensures { reported self.old conn fault.now result self.new };
 
-    /// Reports what was replaced in a reply whose answer was shown, if anything was.
-    fn report_replaced(&mut self, conn: usize, reply: &Reply) -> Result<(), Fault>
+    /// Takes note of a reply whose answer was shown: reports what was replaced in it, if anything was, and whether the
+    /// session ends.
+    fn note_shown(&mut self, conn: usize, reply: &Reply) -> Result<(), Fault>
         requires { conn < most_connections }
         ensures { noted self.old conn reply.now result self.new };
+
+    /// The end of a connection's last session, if the application was asked in it. Each is handed out once.
+    fn take_end(&mut self, conn: usize) -> Option<EndedSession>
+        requires { conn < most_connections }
+        ensures { ended self.old conn result self.new };
 }
 
 /// The parameters of asking an application.
@@ -137,7 +147,7 @@ fn fail<A: AskingServer>(
     }
 }
 
-/// Shows what a reply says, and reports which of its characters were replaced.
+/// Shows what a reply says, and takes note of it.
 fn show<A: AskingServer>(
     server: &mut A,
     conn: usize,
@@ -151,7 +161,7 @@ fn show<A: AskingServer>(
     match hand(server, conn, ticket, answer) {
         Ok(is_shown) => {
             if is_shown {
-                unless_failed(true, server.report_replaced(conn, reply))
+                unless_failed(true, server.note_shown(conn, reply))
             } else {
                 Ok(false)
             }
@@ -187,14 +197,23 @@ fn end<A: AskingServer>(
     }
 }
 
+/// The exchange about a question.
+#[derive(Drop)]
+struct QuestionExchange<S> {
+    ticket: Ticket,
+    /// The number of the panel on the screen.
+    panel: usize,
+    exchange: Exchange<S>,
+}
+
 /// A new exchange for a question.
 fn begin<S: RawRead + RawWrite + Drop, A: AskingServer<Stream = S>>(
     asking: Asking<'_>,
     server: &A,
-    question: &Question,
-) -> Result<Exchange<S>, Absence>
+    query: &Query,
+) -> Result<QuestionExchange<S>, Absence>
     ensures begins { IfOk result (BeginsFor (request_bytes asking.entry.endpoint.now) asking.entry.boot asking.entry.now
-        (A.served server.now) (A.connected server.now) question.now) }
+        (A.served server.now) (A.connected server.now) query.now) }
     ensures cannot { IfErr result (CannotBegin (A.connected server.now)) }
 {
     match request_of(
@@ -202,10 +221,14 @@ fn begin<S: RawRead + RawWrite + Drop, A: AskingServer<Stream = S>>(
         asking.endpoint,
         asking.boot,
         server.panels(),
-        question,
+        query,
     ) {
         Ok(Some(request)) => match server.connect() {
-            Ok(stream) => Ok(Exchange::new(asking.alloc, stream, question, request, asking.now)),
+            Ok(stream) => Ok(QuestionExchange {
+                ticket: query.question.ticket,
+                panel: query.question.panel,
+                exchange: Exchange::new(asking.alloc, stream, request, asking.now),
+            }),
             Err(error) => Err(absence_of(&error)),
         },
         _ => Err(Absence::NoMemory),
@@ -214,32 +237,32 @@ fn begin<S: RawRead + RawWrite + Drop, A: AskingServer<Stream = S>>(
 
 /// Begins an exchange for an open question in an empty slot.
 fn ask_about<S: RawRead + RawWrite + Drop, A: AskingServer<Stream = S>>(
-    slot: &mut Option<Exchange<S>>,
+    slot: &mut Option<QuestionExchange<S>>,
     asking: Asking<'_>,
     server: &mut A,
     conn: usize,
-    question: &Question,
+    query: &Query,
 ) -> Result<bool, Fault>
     requires empty { slot.old ≡ None }
     requires number { conn < most_connections }
     ensures { AsksAbout A.served A.answered A.reported A.connected (request_bytes asking.entry.endpoint.now)
-        asking.entry.boot asking.entry.now conn question.now server.old result server.new slot.new }
+        asking.entry.boot asking.entry.now conn query.now server.old result server.new slot.new }
 {
-    match begin(asking, server, question) {
-        Ok(exchange) => {
-            *slot = Some(exchange);
+    match begin(asking, server, query) {
+        Ok(asked) => {
+            *slot = Some(asked);
             Ok(true)
         }
         Err(absence) => {
             let fault = ApplicationFault::Absent(absence);
-            fail(asking.alloc, server, conn, question.ticket, &fault)
+            fail(asking.alloc, server, conn, query.question.ticket, &fault)
         }
     }
 }
 
 /// Begins an exchange in an empty slot, if a question is open.
 fn ask<S: RawRead + RawWrite + Drop, A: AskingServer<Stream = S>>(
-    slot: &mut Option<Exchange<S>>,
+    slot: &mut Option<QuestionExchange<S>>,
     asking: Asking<'_>,
     server: &mut A,
     conn: usize,
@@ -250,7 +273,7 @@ fn ask<S: RawRead + RawWrite + Drop, A: AskingServer<Stream = S>>(
         asking.entry.boot asking.entry.now conn server.old result server.new slot.new }
 {
     match server.question(conn) {
-        Ok(Some(question)) => ask_about(slot, asking, server, conn, &question),
+        Ok(Some(query)) => ask_about(slot, asking, server, conn, &query),
         Ok(None) => Ok(false),
         Err(fault) => Err(fault),
     }
@@ -258,8 +281,8 @@ fn ask<S: RawRead + RawWrite + Drop, A: AskingServer<Stream = S>>(
 
 /// Continues an exchange, and puts it back into its empty slot unless it is over.
 fn go_on<S: RawRead + RawWrite + Drop, A: AskingServer<Stream = S>>(
-    slot: &mut Option<Exchange<S>>,
-    mut exchange: Exchange<S>,
+    slot: &mut Option<QuestionExchange<S>>,
+    mut asked: QuestionExchange<S>,
     asking: Asking<'_>,
     server: &mut A,
     conn: usize,
@@ -268,16 +291,16 @@ fn go_on<S: RawRead + RawWrite + Drop, A: AskingServer<Stream = S>>(
     requires empty { slot.old ≡ None }
     requires number { conn < most_connections }
     ensures { Goes A.served A.answered A.reported S.read_gave S.write_took A.noted has_operator asking.entry.now
-        asking.entry.most conn exchange server.old result server.new slot.new }
+        asking.entry.most conn asked server.old result server.new slot.new }
 {
-    let (ticket, panel) = (exchange.ticket(), exchange.panel());
-    match exchange.go_on(has_operator, asking.now, asking.most) {
+    let (ticket, panel) = (asked.ticket, asked.panel);
+    match asked.exchange.go_on(has_operator, asking.now, asking.most) {
         IoProgress::Moved => {
-            *slot = Some(exchange);
+            *slot = Some(asked);
             Ok(true)
         }
         IoProgress::Still => {
-            *slot = Some(exchange);
+            *slot = Some(asked);
             Ok(false)
         }
         IoProgress::Over(outcome) => end(asking.alloc, server, conn, ticket, panel, &outcome),
@@ -286,7 +309,7 @@ fn go_on<S: RawRead + RawWrite + Drop, A: AskingServer<Stream = S>>(
 
 /// Takes a turn on a connection with this slot.
 fn turn_of<S: RawRead + RawWrite + Drop, A: AskingServer<Stream = S>>(
-    slot: &mut Option<Exchange<S>>,
+    slot: &mut Option<QuestionExchange<S>>,
     asking: Asking<'_>,
     server: &mut A,
     conn: usize,
@@ -298,15 +321,13 @@ fn turn_of<S: RawRead + RawWrite + Drop, A: AskingServer<Stream = S>>(
         slot.old server.old result server.new slot.new }
 {
     match slot.take() {
-        Some(exchange) => go_on(slot, exchange, asking, server, conn, has_operator),
+        Some(asked) => go_on(slot, asked, asking, server, conn, has_operator),
         None => ask(slot, asking, server, conn),
     }
 }
 
 /// 64 slots without an exchange.
-fn empty_slots<S: RawRead + RawWrite + Drop>(
-    alloc: Global,
-) -> Result<Vec<Option<Exchange<S>>>, AllocError>
+pub(crate) fn empty_slots<T: Drop>(alloc: Global) -> Result<Vec<Option<T>>, AllocError>
     ensures { IfOk result (λ slots. slots.items ≡ replicate most_connections None) }
 {
     let mut slots = Vec::with_capacity(alloc, MOST_CONNECTIONS)?;
@@ -316,18 +337,18 @@ fn empty_slots<S: RawRead + RawWrite + Drop>(
     Ok(slots)
 }
 
-/// The exchanges of 64 connections: at most one on each.
+/// The exchanges of 64 connections about their questions: at most one on each.
 #[derive(Drop)]
 pub struct Exchanges<S> {
-    slots: Vec<Option<Exchange<S>>>,
+    slots: Vec<Option<QuestionExchange<S>>>,
 }
 
 impl<S> Model for Exchanges<S> {
     ghost use Rattle.std.specs.Prelude.{◌≡◌, List, Option, length};
     ghost use Rattle.host_core.specs.State.{most_connections};
-    ghost use Rattle.applications.specs.ExchangeTurns.{Exchange as ExchangeValue};
+    ghost use Rattle.applications.specs.declared.exchanges.QuestionExchange.{QuestionExchange as QuestionExchangeValue};
 
-    ghost Value = { List (Option (ExchangeValue S)) };
+    ghost Value = { List (Option (QuestionExchangeValue S)) };
 
     ghost view = { λ exchanges. exchanges.slots.items };
 

@@ -79,8 +79,8 @@ options_of topic.Serve =
     ∷ optional (codes "negotiate") kind.Seconds ∷ optional (codes "keepalive") kind.Seconds
     ∷ optional (codes "idle") kind.Seconds
     ∷ optional (codes "application") kind.Url ∷ optional (codes "application-timeout") kind.ReplyTime
-    ∷ optional (codes "metrics") kind.ServicePort ∷ optional (codes "own-terminals") kind.Flag
-    ∷ optional (codes "verify") kind.Flag
+    ∷ optional (codes "metrics") kind.ServicePort ∷ optional (codes "proxy-protocol") kind.Flag
+    ∷ optional (codes "own-terminals") kind.Flag ∷ optional (codes "verify") kind.Flag
     ∷ optional (codes "quiet") kind.Flag ∷ []
 options_of topic.Term = needed (codes "port") kind.Port ∷ optional (codes "lu") kind.LuName
     ∷ optional (codes "model") kind.Model ∷ []

@@ -131,6 +131,7 @@ given_service options =
       port = port;
       limits = limits;
       terminals = terminals;
+      proxy_protocol = is_given (codes "proxy-protocol") options;
       quiet = is_given (codes "quiet") options;
       metrics = metrics;
     }) (given_terminals options)) (given_metrics options)) (given_limits options))

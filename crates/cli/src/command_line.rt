@@ -284,6 +284,7 @@ fn service_in(options: &ArgMatches<'_>) -> Option<Service>
         limits: limits_in(options)?,
         metrics: metrics_in(options)?,
         terminals: terminals_in(options)?,
+        proxy_protocol: is_given(options, "proxy-protocol"),
         quiet: is_given(options, "quiet"),
     })
 }

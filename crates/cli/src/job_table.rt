@@ -91,7 +91,7 @@ static SELFRUN: [JobOption<'static>; 1] = [TURNS];
 
 static HOST: [JobOption<'static>; 2] = [PORT, TURNS];
 
-static SERVE: [JobOption<'static>; 12] = [
+static SERVE: [JobOption<'static>; 13] = [
     option!(needs "port": ServicePort, "the port, 1 to 65535"),
     option!(takes "listen": Address,
         "the IPv4 or IPv6 address to listen on; localhost is 127.0.0.1 [default: 127.0.0.1]"),
@@ -104,6 +104,8 @@ static SERVE: [JobOption<'static>; 12] = [
     option!(takes "application-timeout": ReplyTime, "the time that an answer may take, 1 to 3600 [default: 30]"),
     option!(takes "metrics": ServicePort,
         "the port of 127.0.0.1 that answers with metrics, 1 to 65535, not that of --port"),
+    option!(takes "proxy-protocol": Flag,
+        "each connection comes from a proxy, and begins with a header of the PROXY protocol, version 1 or 2"),
     option!(takes "own-terminals": Flag,
         "all terminals are this project's own, in which only the host ends the wait after a key"),
     option!(takes "verify": Flag,

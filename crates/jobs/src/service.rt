@@ -29,6 +29,8 @@ pub struct Service {
     pub limits: TimeLimits,
     /// The terminals that connect.
     pub terminals: Terminals,
+    /// Whether each connection begins with a header of the PROXY protocol.
+    pub proxy_protocol: bool,
     /// Whether the log is left out.
     pub quiet: bool,
     /// The port of 127.0.0.1 at which metrics are served, if any.

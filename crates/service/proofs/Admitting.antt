@@ -5,8 +5,8 @@ use Rattle.host_core.specs.State.{Host}
 use Rattle.job_streams.specs.declared.fault.Fault.{Fault}
 use Rattle.service_events.specs.declared.notice.Notice.{Notice}
 use Rattle.socket_links.specs.Sockets.{Sockets}
-use Rattle.service.specs.Accepting.{Admits, AdmitsSome, Door}
-use Rattle.service.specs.declared.accepting.Accepted.{Accepted}
+use Rattle.service.specs.Accepting.{AdmitsSome, Door, Receives}
+use Rattle.service.specs.declared.accepting.Arrival.{Arrival}
 use Rattle.service.specs.declared.connection_info.ConnectionInfo.{ConnectionInfo}
 use Rattle.service.specs.declared.server_core.ServerCore.{ServerCore}
 
@@ -21,14 +21,14 @@ begun_is old host host_is sockets sockets_are infos infos_are next next_is h s i
     ∙ ap (λ it. record old { host = host_is; sockets = sockets_are; infos = infos_are; next_session = it }) n
 
 module _ {S W L : Type 0} (noticed : W → Notice → Result Unit Fault → W → Type 0) (showed : W → Host → ℕ → Result Unit Fault → W → Type 0)
-    (gave : L → Option (Accepted S) → L → Type 0) where
+    (gave : L → Option (Arrival S) → L → Type 0) where
   pub none_admitted : (old : Door L S W) → AdmitsSome noticed showed gave 0 old old
   unfolding AdmitsSome
   none_admitted old = refl
 
-  pub one_admitted : (count : ℕ) (old mid new : Door L S W) (accepted : Accepted S) → AdmitsSome noticed showed gave count old mid
-      → gave mid.listener (Some accepted) new.listener → Admits noticed showed accepted mid.core mid.watcher (Ok tt) new.core new.watcher
+  pub one_admitted : (count : ℕ) (old mid new : Door L S W) (arrival : Arrival S) → AdmitsSome noticed showed gave count old mid
+      → gave mid.listener (Some arrival) new.listener → Receives noticed showed arrival mid.core mid.watcher (Ok tt) new.core new.watcher
       → AdmitsSome noticed showed gave (count + 1) old new
   unfolding AdmitsSome
-  one_admitted count old mid new accepted some gives admits =
-      subst (λ n. AdmitsSome noticed showed gave n old new) (sym (add-one count)) (mid, accepted, some, gives, admits)
+  one_admitted count old mid new arrival some gives admits =
+      subst (λ n. AdmitsSome noticed showed gave n old new) (sym (add-one count)) (mid, arrival, some, gives, admits)

@@ -2,4 +2,5 @@ pub mod Reports
 pub mod Turns
 pub mod Visits
 pub mod Admitting
+pub mod Doors
 pub mod ServiceTurns

@@ -8,7 +8,7 @@ use Rattle.service_events.specs.Notices.{ending_of}
 use Rattle.service_events.specs.declared.notice.Ending.{Ending}
 use Rattle.service_events.specs.declared.notice.Notice.{Notice}
 use Rattle.socket_links.specs.Sockets.{Sockets, slot_at, with_slot, with_waiting}
-use Rattle.service.specs.NumberTurns.{core_reported, end_in_turn, ended, ending_after, info_after, with_unsent}
+use Rattle.service.specs.NumberTurns.{core_reported, end_in_turn, ended, ending_after, given_back, given_back_if, info_after, with_unsent}
 use Rattle.service.specs.Watching.{Event, HearsEach, if_any}
 use Rattle.service.specs.declared.connection_info.ConnectionInfo.{ConnectionInfo}
 use Rattle.service.specs.declared.server_core.ServerCore.{ServerCore}
@@ -43,6 +43,17 @@ module _ {S : Type 0} where
       ap (λ it. ended conn it core ending ∷ []) is
       ∙ ap (λ it. ended conn (info_after conn host info) it ending ∷ []) leaves
       ∙ sym (any_is (ended conn (info_after conn host info) (core_reported conn info old host sockets)) (ending_after conn answer host) ending ends)
+
+  -- the server after the end
+  pub given_back_is : (conn : ℕ) (info : ConnectionInfo) (old : ServerCore S) (answer : Served) (host : Host) (sockets : Sockets S)
+      (after : ConnectionInfo) (core new : ServerCore S) (ending : Ending) → after ≡ info_after conn host info
+      → core ≡ core_reported conn info old host sockets → ending_after conn answer host ≡ Some ending → new ≡ given_back conn after ending core
+      → new ≡ given_back_if (ending_after conn answer host) conn (info_after conn host info) (core_reported conn info old host sockets)
+  given_back_is conn info old answer host sockets after core new ending is leaves ends gives =
+      gives
+      ∙ ap (λ it. given_back conn it ending core) is
+      ∙ ap (λ it. given_back conn (info_after conn host info) ending it) leaves
+      ∙ ap (λ it. given_back_if it conn (info_after conn host info) (core_reported conn info old host sockets)) (sym ends)
 
 module _ {S W : Type 0} (noticed : W → Notice → Result Unit Fault → W → Type 0) (showed : W → Host → ℕ → Result Unit Fault → W → Type 0) where
   pub no_end : (conn : ℕ) (info : ConnectionInfo) (old : ServerCore S) (answer : Served) (host : Host) (sockets : Sockets S) (watcher : W)

@@ -12,6 +12,8 @@ use Rattle.socket_links.specs.Sockets.{AreTaken, opened, slot_at, with_slot}
 use Rattle.service.specs.ConnectionInfos.{new_info}
 use Rattle.service.specs.Watching.{Noticed, Told}
 use Rattle.service.specs.declared.accepting.Accepted.{Accepted}
+use Rattle.service.specs.declared.accepting.Arrival.{Arrival}
+use Rattle.service.specs.declared.accepting.Arrival.TheVariants as arrival
 use Rattle.service.specs.declared.server_core.ServerCore.{ServerCore}
 
 -- the listener, the server and the watcher at one moment of accepting
@@ -63,20 +65,26 @@ module _ {S W : Type 0} (noticed : W → Notice → Result Unit Fault → W → 
         → Told noticed showed (Noticed (notice.Connected (client_of conn accepted old)) ∷ []) watcher answer after
         → Admits accepted old watcher answer new after
 
-  module _ {L : Type 0} (gave : L → Option (Accepted S) → L → Type 0) where
-    -- holds if the listener gave `count` connections, and each was admitted, one after another
+  -- holds if a connection is admitted, or if the watcher receives that the listener refused one, and no more
+  abbrev pub Receives : Arrival S → ServerCore S → W → Result Unit Fault → ServerCore S → W → Type 0
+  Receives (arrival.Begun accepted) old watcher answer new after = Admits accepted old watcher answer new after
+  Receives (arrival.Refused peer why) old watcher answer new after =
+      (new ≡ old) × Told noticed showed (Noticed (notice.BadProxyHeader peer why) ∷ []) watcher answer after
+
+  module _ {L : Type 0} (gave : L → Option (Arrival S) → L → Type 0) where
+    -- holds if the listener gave `count` connections, and each was received, one after another
     unfoldable pub AdmitsSome : (count : ℕ) → Door L S W → Door L S W → Type 0
     AdmitsSome zero old new = new ≡ old
-    AdmitsSome (suc count) old new = (mid : Door L S W) × (accepted : Accepted S) × AdmitsSome count old mid
-        × gave mid.listener (Some accepted) new.listener
-        × Admits accepted mid.core mid.watcher (Ok tt) new.core new.watcher
+    AdmitsSome (suc count) old new = (mid : Door L S W) × (arrival : Arrival S) × AdmitsSome count old mid
+        × gave mid.listener (Some arrival) new.listener
+        × Receives arrival mid.core mid.watcher (Ok tt) new.core new.watcher
 
-    -- Holds if all waiting connections are admitted, at most `most`. After a failure no other is accepted.
+    -- Holds if all waiting connections are received, at most `most`. After a failure no other is accepted.
     abbrev pub AdmitsAll : (most : ℕ) → Door L S W → Result Unit Fault → Door L S W → Type 0
     AdmitsAll most old (Ok _) new = (count : ℕ) × (mid : Door L S W) × (count ≤ most) × AdmitsSome count old mid
         × (((count ≡ most) × (new ≡ mid))
         ⊎ (gave mid.listener None new.listener × (new.core ≡ mid.core) × (new.watcher ≡ mid.watcher)))
-    AdmitsAll most old (Err why) new = (count : ℕ) × (mid : Door L S W) × (accepted : Accepted S) × (count < most)
+    AdmitsAll most old (Err why) new = (count : ℕ) × (mid : Door L S W) × (arrival : Arrival S) × (count < most)
         × AdmitsSome count old mid
-        × gave mid.listener (Some accepted) new.listener
-        × Admits accepted mid.core mid.watcher (Err why) new.core new.watcher
+        × gave mid.listener (Some arrival) new.listener
+        × Receives arrival mid.core mid.watcher (Err why) new.core new.watcher

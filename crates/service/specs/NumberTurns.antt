@@ -55,19 +55,20 @@ module _ {S : Type 0} where
   with_unsent conn core =
       with_slot conn (with_waiting (length (connection_at conn core.host).out) (slot_at conn core.sockets)) core.sockets
 
-  -- The server after a connection's end: its number and its LU are free, and its socket is closed. All else is
-  -- unchanged.
-  abbrev pub given_back : ℕ → ServerCore S → ServerCore S
-  given_back conn core =
+  -- The server after a connection's end: its number and its LU are free, its socket is closed, and its record says why.
+  -- All else is unchanged.
+  abbrev pub given_back : ℕ → ConnectionInfo → Ending → ServerCore S → ServerCore S
+  given_back conn info ending core =
       record core {
         host = given_up conn core.host;
         sockets = with_slot conn (emptied (slot_at conn core.sockets)) core.sockets;
+        infos = slice_set core.infos conn (Some (record info { ending = Some ending }));
       }
 
   -- the server after a connection's end, if it ended
-  abbrev pub given_back_if : Option Ending → ℕ → ServerCore S → ServerCore S
-  given_back_if None conn core = core
-  given_back_if (Some ending) conn core = given_back conn core
+  abbrev pub given_back_if : Option Ending → ℕ → ConnectionInfo → ServerCore S → ServerCore S
+  given_back_if None conn info core = core
+  given_back_if (Some ending) conn info core = given_back conn info ending core
 
   -- the report that a connection is over, why, and what it used
   abbrev pub ended : ℕ → ConnectionInfo → ServerCore S → Ending → Event
@@ -118,7 +119,8 @@ module _ {S W : Type 0} (gave : S → ℕ → List ℕ → Result ℕ Error → 
     pub acts : acted ≡ not (length (connection_at conn host).out == length (connection_at conn old.host).out)
     pub hears : HearsEach noticed showed
         (reports_of info.client conn host ++ end_in_turn conn info old answer host sockets) watcher after
-    pub becomes : new ≡ given_back_if (ending_after conn answer host) conn (core_reported conn info old host sockets)
+    pub becomes : new ≡ given_back_if (ending_after conn answer host) conn (info_after conn host info)
+        (core_reported conn info old host sockets)
 
   -- Holds if such a turn fails: either memory was refused while the host served the connection, and the watcher
   -- received nothing; or the watcher failed. What was done before that is not undone.
@@ -136,7 +138,8 @@ module _ {S W : Type 0} (gave : S → ℕ → List ℕ → Result ℕ Error → 
         → IsServed conn old answer host sockets → answer ≢ served.Memory
         → HearsEach noticed showed (reports_of info.client conn host) watcher told
         → FailsAmong noticed showed (end_in_turn conn info old answer host sockets) told why after
-        → new ≡ given_back_if (ending_after conn answer host) conn (core_reported conn info old host sockets)
+        → new ≡ given_back_if (ending_after conn answer host) conn (info_after conn host info)
+        (core_reported conn info old host sockets)
         → BreaksOffAt conn info old watcher why new after
 
   -- holds if an open connection is served; a number without one is left alone

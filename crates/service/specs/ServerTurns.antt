@@ -9,7 +9,7 @@ use Rattle.socket_links.specs.Sockets.{new_sockets}
 use Rattle.service.specs.Accepting.{AdmitsAll, Door, door, most_accepted}
 use Rattle.service.specs.NumberTurns.{ServesAt}
 use Rattle.service.specs.Visits.{VisitsEach}
-use Rattle.service.specs.declared.accepting.Accepted.{Accepted}
+use Rattle.service.specs.declared.accepting.Arrival.{Arrival}
 use Rattle.service.specs.declared.server_core.ServerCore.{ServerCore}
 
 -- the server of a new host, without connections. `boot` is the first part of the names of its sessions
@@ -26,7 +26,7 @@ new_core host boot = record {
 module _ {S W L : Type 0} (gave : S → ℕ → List ℕ → Result ℕ Error → S → Type 0)
     (took : S → List ℕ → Result ℕ Error → S → Type 0)
     (noticed : W → Notice → Result Unit Fault → W → Type 0) (showed : W → Host → ℕ → Result Unit Fault → W → Type 0)
-    (accepts : L → Option (Accepted S) → L → Type 0) where
+    (accepts : L → Option (Arrival S) → L → Type 0) where
   -- holds if all waiting connections are accepted, one after another
   abbrev pub Accepts : Door L S W → Result Unit Fault → Door L S W → Type 0
   Accepts old answer new = AdmitsAll noticed showed accepts most_accepted old answer new

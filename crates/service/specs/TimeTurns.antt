@@ -1,14 +1,16 @@
--- What the time limits do to connections after a turn (our profile). Times are milliseconds of the server's time.
+-- What is due on connections after a turn: the end of a session that the application ends, and the time limits (our
+-- profile). Times are milliseconds of the server's time.
 use Rattle.std.specs.Prelude.{◌≡◌, ◌&&◌, ⊤, ℕ, Bool, true, false, [], ◌∷◌, slice_set, Option, Some, None, Result, Ok, Err, if◌then◌else◌}
 use Rattle.host_core.specs.KeepAlive.{kept_alive as with_nop, may_keep_alive}
 use Rattle.host_core.specs.State.{Host, connection_at, pending_of, phase_of, state_at, turn_of, with_connection}
 use Rattle.job_streams.specs.declared.fault.Fault.{Fault}
 use Rattle.jobs.specs.declared.service.TimeLimits.{TimeLimits}
-use Rattle.service_events.specs.Timing.{are_applied, awaited_on, due, heard, is_unanswered, kept_alive}
+use Rattle.service_events.specs.Timing.{are_applied, awaited_on, due, heard, is_operator, is_unanswered, kept_alive}
 use Rattle.service_events.specs.declared.limits.Activity.{Activity}
 use Rattle.service_events.specs.declared.limits.Awaited.{Awaited}
 use Rattle.service_events.specs.declared.limits.Due.{Due}
 use Rattle.service_events.specs.declared.limits.Due.TheVariants as due_now
+use Rattle.service_events.specs.declared.notice.Ending.{Ending}
 use Rattle.service_events.specs.declared.notice.Ending.TheVariants as ending
 use Rattle.service_events.specs.declared.notice.Notice.{Notice}
 use Rattle.socket_links.specs.Sockets.{slot_at}
@@ -40,6 +42,10 @@ module _ {S : Type 0} where
       heard (slot_at conn core.sockets).received (slot_at conn core.sockets).sent
       (awaited_at conn core.host) core.now info.activity
 
+  -- whether the application ends the session of a connection that waits for the operator
+  abbrev pub is_finished : ℕ → ConnectionInfo → ServerCore S → Bool
+  is_finished conn info core = info.ends && is_operator (awaited_at conn core.host)
+
   -- what the time limits require on this connection now
   abbrev pub due_at : TimeLimits → ℕ → ConnectionInfo → ServerCore S → Due
   due_at limits conn info core = due limits (awaited_at conn core.host) (activity_at conn info core) core.now
@@ -66,11 +72,16 @@ module _ {S : Type 0} where
 
 module _ {S W : Type 0} (noticed : W → Notice → Result Unit Fault → W → Type 0)
     (showed : W → Host → ℕ → Result Unit Fault → W → Type 0) where
+  -- holds if a connection is ended for this reason, and the watcher receives that
+  abbrev pub IsEnded : Ending → ℕ → ConnectionInfo → ServerCore S → W → Result Bool Fault → ServerCore S → W → Type 0
+  IsEnded why conn info old watcher answer new after =
+      Told noticed showed (ended conn info old why ∷ []) watcher (done answer) after
+      × (new ≡ given_back conn info why old) × HasDone answer
+
   -- Holds if just what is due on a connection is done: it is ended, and the watcher receives that; or IAC NOP is sent.
   abbrev pub DoesDue : Due → ℕ → ConnectionInfo → ServerCore S → W → Result Bool Fault → ServerCore S → W → Type 0
   DoesDue (due_now.Disconnect overdue) conn info old watcher answer new after =
-      Told noticed showed (ended conn info old (ending.Dropped overdue) ∷ []) watcher (done answer) after
-      × (new ≡ given_back conn old) × HasDone answer
+      IsEnded (ending.Dropped overdue) conn info old watcher answer new after
   DoesDue due_now.KeepAlive conn info old watcher answer new after =
       (answer ≡ Ok (sends_nop conn old)) × (after ≡ watcher)
       × (new ≡ nop_sent conn (with_activity conn info (kept_alive old.now (activity_at conn info old)) old))
@@ -80,14 +91,22 @@ module _ {S W : Type 0} (noticed : W → Notice → Result Unit Fault → W → 
       (with_activity conn info (activity_at conn info old) old))
 
   module _ (limits : TimeLimits) where
-    -- holds if the limits are applied to an open connection; a number without one is left alone
+    -- holds if a connection is ended if its session is `finished`, and otherwise the limits are applied to it
+    abbrev pub AppliesUnless : (finished : Bool) → ConnectionInfo → ℕ → ServerCore S → W → Result Bool Fault
+        → ServerCore S → W → Type 0
+    AppliesUnless true info conn old watcher answer new after =
+        IsEnded ending.ByApplication conn info old watcher answer new after
+    AppliesUnless false info conn old watcher answer new after =
+        DoesDue (due_at limits conn info old) conn info old watcher answer new after
+
+    -- holds if an open connection is ended or the limits are applied to it; a number without one is left alone
     abbrev pub AppliesIfOpen : Option ConnectionInfo → ℕ → ServerCore S → W → Result Bool Fault → ServerCore S
         → W → Type 0
     AppliesIfOpen None conn old watcher answer new after = (answer ≡ Ok false) × (new ≡ old) × (after ≡ watcher)
     AppliesIfOpen (Some info) conn old watcher answer new after =
-        DoesDue (due_at limits conn info old) conn info old watcher answer new after
+        AppliesUnless (is_finished conn info old) info conn old watcher answer new after
 
-    -- holds if the limits are applied to this number, if it has an open connection
+    -- holds if what is due is done on this number, if it has an open connection
     abbrev pub AppliesAt : ℕ → ServerCore S → W → Result Bool Fault → ServerCore S → W → Type 0
     AppliesAt conn old watcher answer new after = AppliesIfOpen (open_at conn old) conn old watcher answer new after
 

@@ -1,4 +1,5 @@
 //! The connections that a listener hands to a server, and the trait that a listener implements.
+use service_events::BadHeader;
 use std::net::SocketAddr;
 
 /// A connection that a listener accepted.
@@ -6,8 +7,17 @@ use std::net::SocketAddr;
 pub struct Accepted<S> {
     /// The connection's socket.
     pub socket: S,
-    /// The address of the peer.
+    /// The address of the peer; behind a proxy, of the client.
     pub peer: SocketAddr,
+}
+
+/// What a listener hands to a server.
+#[derive(Drop)]
+pub enum Arrival<S> {
+    /// A connection.
+    Begun(Accepted<S>),
+    /// A connection from this address that was closed, since it has no header of the PROXY protocol.
+    Refused(SocketAddr, BadHeader),
 }
 
 /// A listener.
@@ -16,11 +26,11 @@ pub struct Accepted<S> {
 /// by a call, so its contract can say which connections it accepted, and in which order.
 pub trait Listener<S> {
     ghost use Rattle.std.specs.Prelude.{Option};
-    ghost use Rattle.service.specs.declared.accepting.Accepted.{Accepted as AcceptedValue};
+    ghost use Rattle.service.specs.declared.accepting.Arrival.{Arrival as ArrivalValue};
 
-    ghost gave: { Self → Option (AcceptedValue S) → Self → Type 0 };
+    ghost gave: { Self → Option (ArrivalValue S) → Self → Type 0 };
 
     /// Accepts a waiting connection; None if none waits, or if the system can't accept one now.
-    fn accept(&mut self) -> Option<Accepted<S>>
+    fn accept(&mut self) -> Option<Arrival<S>>
         ensures { gave self.old result self.new };
 }

@@ -5,8 +5,11 @@ ghost use Rattle.host_core.specs.State.{most_connections};
 use crate::server::Server;
 use crate::watcher::Watcher;
 use application_http::{Endpoint, Reply};
-use applications::{ApplicationFault, Asking, AskingServer, Exchanges, replaced_in};
-use host_core::{Acted, Answer, MOST_CONNECTIONS, PanelSet, Question, Ticket};
+use applications::{
+    ApplicationFault, Asking, AskingServer, EndedSession, Exchanges, Notifications, Query,
+    replaced_in,
+};
+use host_core::{Acted, Answer, MOST_CONNECTIONS, PanelSet, Ticket};
 use job_streams::Fault;
 use jobs::ReplyTime;
 use mio::net::TcpStream;
@@ -18,7 +21,8 @@ use std::net::{Net, SocketAddr};
 /// The poll token of all exchanges. No connection, the listener nor the metrics port has this token.
 const EXCHANGE_TOKEN: usize = MOST_CONNECTIONS + 3;
 
-/// The application at an endpoint, and the exchange of each connection that waits for its answer.
+/// The application at an endpoint, the exchange of each connection that waits for its answer, and the notifications of
+/// ended sessions.
 #[derive(Drop)]
 pub(crate) struct Application {
     alloc: Global,
@@ -26,6 +30,7 @@ pub(crate) struct Application {
     /// How long a reply may take, in milliseconds.
     most: u64,
     exchanges: Exchanges<TcpStream>,
+    notifications: Notifications<TcpStream>,
     /// When the question of each exchange was asked, in milliseconds of the server's time.
     asked: [Option<u64>; MOST_CONNECTIONS],
 }
@@ -53,13 +58,13 @@ struct Watched<'a, N, W> {
 
 impl<N: Net, W: Watcher> AskingServer for Watched<'_, N, W> {
     ghost use Rattle.std.specs.Prelude.{◌≡◌, ⊤};
-    ghost use Rattle.service.specs.HostAnswers.{AsksHost, HandsAnswer, HearsFault, HearsReply, client_at};
+    ghost use Rattle.service.specs.HostAnswers.{AsksHost, HandsAnswer, HearsFault, HearsReply, TakesEnd, client_at, ended_if};
 
     type Stream = TcpStream;
 
     ghost served = { λ old panels. panels ≡ old.server.now.host.panels };
 
-    ghost asked = { λ old conn answer. AsksHost conn old.server.now.host answer };
+    ghost asked = { λ old conn answer. AsksHost conn old.server.now answer };
 
     ghost connected = { λ _ _. ⊤ };
 
@@ -70,13 +75,16 @@ impl<N: Net, W: Watcher> AskingServer for Watched<'_, N, W> {
         old.watcher.now answer new.watcher.now × (new.server.now ≡ old.server.now) };
 
     ghost noted = { λ old conn reply answer new. HearsReply W.noted (client_at conn old.server.now) reply
-        old.watcher.now answer new.watcher.now × (new.server.now ≡ old.server.now) };
+        old.watcher.now answer new.watcher.now × (new.server.now ≡ ended_if reply.end conn old.server.now) };
+
+    ghost ended = { λ old conn end new. TakesEnd old.server.now conn end new.server.now
+        × (new.watcher.now ≡ old.watcher.now) };
 
     fn panels(&self) -> &PanelSet {
         self.server.panels()
     }
 
-    fn question(&self, conn: usize) -> Result<Option<Question>, Fault> {
+    fn question(&self, conn: usize) -> Result<Option<Query>, Fault> {
         self.server.question(conn)
     }
 
@@ -98,9 +106,16 @@ impl<N: Net, W: Watcher> AskingServer for Watched<'_, N, W> {
         self.server.report_unanswered(conn, fault, self.watcher)
     }
 
-    fn report_replaced(&mut self, conn: usize, reply: &Reply) -> Result<(), Fault> {
-        self.server
-            .report_replaced(conn, replaced_in(reply), self.watcher)
+    fn note_shown(&mut self, conn: usize, reply: &Reply) -> Result<(), Fault> {
+        let heard = self
+            .server
+            .report_replaced(conn, replaced_in(reply), self.watcher);
+        self.server.end_if(conn, reply.end);
+        heard
+    }
+
+    fn take_end(&mut self, conn: usize) -> Option<EndedSession> {
+        self.server.take_end(conn)
     }
 }
 
@@ -140,12 +155,13 @@ impl Application {
             endpoint,
             most: u64::from(reply_time.get()) * 1000,
             exchanges: Exchanges::new(alloc)?,
+            notifications: Notifications::new(alloc)?,
             asked: [None; MOST_CONNECTIONS],
         })
     }
 
-    /// Takes a turn of the exchange of each connection. Answers whether a byte was read or written, or the host
-    /// answered. NoMemory if memory is refused; any fault of the watcher is returned.
+    /// Takes a turn of the exchange and the notification of each connection. Answers whether a byte was read or
+    /// written, or the host answered. NoMemory if memory is refused; any fault of the watcher is returned.
     pub(crate) fn turn<N: Net, W: Watcher>(
         &mut self,
         net: &N,
@@ -159,7 +175,7 @@ impl Application {
         Ok(moved)
     }
 
-    /// Takes a turn of one connection's exchange.
+    /// Takes a turn of one connection's exchange, and one of its notification.
     fn serve<N: Net, W: Watcher>(
         &mut self,
         net: &N,
@@ -188,8 +204,12 @@ impl Application {
         let did = self
             .exchanges
             .turn(asking, &mut watched, conn, has_operator)?;
+        if self.asked[conn].is_none() && (did || watched.outcome != Outcome::Open) {
+            watched.server.set_asked(conn);
+        }
+        let told = self.notifications.turn(asking, &mut watched, conn);
         let outcome = watched.outcome;
         report(&mut self.asked[conn], did, outcome, now, watcher)?;
-        Ok(did)
+        Ok(did | told)
     }
 }

@@ -1,12 +1,25 @@
 //! What a server records about each connection of its host.
 ghost use Rattle.std.specs.Prelude.{◌≡◌, ◌<◌, IfOk, None, Some, length, replicate, slice_index_or, slice_set};
 ghost use Rattle.host_core.specs.State.{most_connections};
-ghost use Rattle.service.specs.ConnectionInfos.{new_info, usage_of, with_event};
+ghost use Rattle.service.specs.ConnectionInfos.{new_info, session_end, usage_of, with_event};
 
+use applications::SessionName;
 use host_core::{HostEvent, MOST_CONNECTIONS};
-use service_events::{Activity, Client, Usage};
+use service_events::{Activity, Client, Ending, Usage};
 use std::alloc::{AllocError, Global};
 use std::marker::Model;
+use tn3270e_msg::Lu;
+
+/// The end of a session in which the application was asked.
+#[derive(Clone, Copy)]
+pub struct SessionEnd {
+    /// Its name.
+    pub session: SessionName,
+    /// The LU that its terminal was bound to.
+    pub lu: Lu,
+    /// Why it ended.
+    pub ending: Ending,
+}
 
 /// What a server records about a connection, beside its socket and the host's own state.
 #[derive(Clone, Copy)]
@@ -15,10 +28,16 @@ pub struct ConnectionInfo {
     pub client: Client,
     /// When it began, and when it was last active, in milliseconds of the server's time.
     pub activity: Activity,
-    /// Whether its terminal was bound to an LU.
-    pub bound: bool,
+    /// The LU that its terminal was bound to, if it was.
+    pub lu: Option<Lu>,
     /// How many screens were shown on it.
     pub screens: u64,
+    /// Whether the application was asked in its session and hasn't been told its end.
+    pub asked: bool,
+    /// Whether the application ends its session: the connection is closed once it waits for the operator.
+    pub ends: bool,
+    /// Why it is over; None while it is open.
+    pub ending: Option<Ending>,
 }
 
 impl ConnectionInfo {
@@ -29,8 +48,11 @@ impl ConnectionInfo {
         ConnectionInfo {
             client,
             activity: Activity::new(now),
-            bound: false,
+            lu: None,
             screens: 0,
+            asked: false,
+            ends: false,
+            ending: None,
         }
     }
 
@@ -39,7 +61,7 @@ impl ConnectionInfo {
         ensures { self.new ≡ with_event event.now self.old }
     {
         match event {
-            HostEvent::Bound(_) => self.bound = true,
+            HostEvent::Bound(lu) => self.lu = Some(*lu),
             HostEvent::Shown => self.screens = self.screens.saturating_add(1),
             HostEvent::Rejected(_) => {}
             HostEvent::KeyDropped(_) => {}
@@ -52,12 +74,26 @@ impl ConnectionInfo {
         ensures { result ≡ usage_of now sent received self.now }
     {
         Usage {
-            bound: self.bound,
+            bound: self.lu.is_some(),
             duration: now.saturating_sub(self.activity.began) / 1000,
             turns: self.screens.saturating_sub(1),
             sent,
             received,
         }
+    }
+
+    /// The end of its session, if it is over, and the application was asked in it and hasn't been told.
+    pub(crate) fn session_end(&self) -> Option<SessionEnd>
+        ensures { result ≡ session_end self.now }
+    {
+        if !self.asked {
+            return None;
+        }
+        Some(SessionEnd {
+            session: self.client.session,
+            lu: self.lu?,
+            ending: self.ending?,
+        })
     }
 }
 
@@ -79,15 +115,15 @@ impl Model for ConnectionInfos {
     ghost invariant = { λ infos. length infos.infos.items ≡ most_connections };
 }
 
-/// 64 numbers, none of which had a connection yet.
-fn no_infos(alloc: Global) -> Result<Vec<Option<ConnectionInfo>>, AllocError>
-    ensures { IfOk result (λ infos. infos.items ≡ replicate most_connections None) }
+/// None for each of 64 numbers.
+fn none_for_each<T: Drop>(alloc: Global) -> Result<Vec<Option<T>>, AllocError>
+    ensures { IfOk result (λ values. values.items ≡ replicate most_connections None) }
 {
-    let mut infos = Vec::with_capacity(alloc, MOST_CONNECTIONS)?;
+    let mut values = Vec::with_capacity(alloc, MOST_CONNECTIONS)?;
     for _ in 0..MOST_CONNECTIONS {
-        infos.push(None)?;
+        values.push(None)?;
     }
-    Ok(infos)
+    Ok(values)
 }
 
 impl ConnectionInfos {
@@ -96,7 +132,7 @@ impl ConnectionInfos {
         ensures { IfOk result (λ infos. infos ≡ replicate most_connections None) }
     {
         Ok(ConnectionInfos {
-            infos: no_infos(alloc)?,
+            infos: none_for_each(alloc)?,
         })
     }
 

@@ -15,6 +15,7 @@ mod connection_info;
 mod log;
 mod metered;
 mod metrics_port;
+mod proxy_listener;
 mod reporting;
 mod server;
 mod server_core;

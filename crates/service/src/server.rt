@@ -2,15 +2,17 @@
 ghost use Rattle.std.specs.Prelude.{◌≡◌, ◌<◌, IfOk};
 ghost use Rattle.host_core.specs.State.{most_connections};
 ghost use Rattle.socket_links.specs.Sockets.{is_connected, slot_at};
-ghost use Rattle.service.specs.HostAnswers.{AsksHost, HandsAnswer, HearsFault, HearsReplaced, client_at, usage_at};
+ghost use Rattle.service.specs.HostAnswers.{AsksHost, HandsAnswer, HearsFault, HearsReplaced, TakesEnd, asked_in, client_at, ended_if, usage_at};
 ghost use Rattle.service.specs.ServerTurns.{AcceptsWaiting, PollsAndServes, new_core};
 ghost use Rattle.service.specs.TimeTurns.{KeepsTime};
 
-use crate::accepting::{Accepted, Listener};
+use crate::accepting::{Accepted, Arrival, Listener};
+use crate::proxy_listener::{ConnectionAwaitingHeader, MOST_HELD, ProxyListener};
 use crate::server_core::ServerCore;
 use crate::watcher::Watcher;
-use applications::{ApplicationFault, Replaced};
-use host_core::{Acted, Answer, Host, MOST_CONNECTIONS, PanelSet, Question, Ticket};
+use applications::{ApplicationFault, EndedSession, Query, Replaced};
+use codes3270::Model as TerminalModel;
+use host_core::{Acted, Answer, Host, MOST_CONNECTIONS, PanelSet, Ticket};
 use job_streams::{Fault, RawRead, RawWrite};
 use jobs::TimeLimits;
 use mio::net::{TcpListener, TcpStream};
@@ -36,8 +38,7 @@ const CONNECTION: usize = 0;
 #[derive(Drop)]
 pub struct Server {
     core: ServerCore<TcpStream>,
-    listener: TcpListener,
-    poll: Poll,
+    door: ProxyListener<TcpStream, PolledListener>,
     events: Events,
 }
 
@@ -52,23 +53,23 @@ impl Model for Server {
 
 /// The listener of a server, and the poll to which accepted sockets are added.
 #[derive(Drop)]
-pub(crate) struct PolledListener<'a> {
-    listener: &'a TcpListener,
-    poll: &'a Poll,
+pub(crate) struct PolledListener {
+    listener: TcpListener,
+    poll: Poll,
 }
 
-impl Listener<TcpStream> for PolledListener<'_> {
+impl Listener<TcpStream> for PolledListener {
     ghost gave = { λ _ _ _. Unit {0} };
 
-    fn accept(&mut self) -> Option<Accepted<TcpStream>> {
+    fn accept(&mut self) -> Option<Arrival<TcpStream>> {
         let Ok((mut socket, peer)) = self.listener.accept() else {
             return None;
         };
         // Records are short, and their senders wait for answers. If one of these calls fails, the socket is still
         // served.
         let _ = socket.set_nodelay(true);
-        let _ = register(self.poll, &mut socket, CONNECTION);
-        Some(Accepted { socket, peer })
+        let _ = register(&self.poll, &mut socket, CONNECTION);
+        Some(Arrival::Begun(Accepted { socket, peer }))
     }
 }
 
@@ -79,12 +80,12 @@ fn register(poll: &Poll, socket: &mut TcpStream, token: usize) -> io::Result<()>
 }
 
 /// A listener at an address, and a poll that has it.
-fn listen(net: &impl Net, address: SocketAddr) -> io::Result<(TcpListener, Poll)> {
+fn listen(net: &impl Net, address: SocketAddr) -> io::Result<PolledListener> {
     let poll = Poll::new(net)?;
     let mut listener = TcpListener::bind(net, address)?;
     poll.registry()
         .register(&mut listener, LISTENER, Interest::READABLE)?;
-    Ok((listener, poll))
+    Ok(PolledListener { listener, poll })
 }
 
 impl Server {
@@ -106,21 +107,35 @@ impl Server {
         let Ok(events) = Events::with_capacity(alloc, MOST_EVENTS) else {
             return Err(Fault::NoMemory);
         };
-        let (listener, poll) = match listen(net, address) {
-            Ok(parts) => parts,
+        let Ok(held) = Vec::with_capacity(alloc, MOST_HELD) else {
+            return Err(Fault::NoMemory);
+        };
+        let listener = match listen(net, address) {
+            Ok(listener) => listener,
             Err(error) => return Err(Fault::CannotListen(address, error.kind())),
         };
         Ok(Server {
             core,
-            listener,
-            poll,
+            door: ProxyListener {
+                listener,
+                proxied: false,
+                held,
+                now: 0,
+            },
             events,
         })
     }
 
+    /// Expects a header of the PROXY protocol at the front of each connection that is accepted from now on.
+    pub(crate) fn expect_headers(&mut self)
+        ensures { self.new ≡ self.old }
+    {
+        self.door.proxied = true;
+    }
+
     /// The listener's address. An error if the system can't report it.
     pub fn address(&self) -> io::Result<SocketAddr> {
-        self.listener.local_addr()
+        self.door.listener.listener.local_addr()
     }
 
     /// The address of a connection's peer; None if there is no connection, or if the system can't report the address.
@@ -130,7 +145,7 @@ impl Server {
 
     /// Adds a socket to the server's poll.
     pub fn register(&self, socket: &mut TcpStream, token: usize) -> io::Result<()> {
-        register(&self.poll, socket, token)
+        register(&self.door.listener.poll, socket, token)
     }
 
     /// Adds a listener to the server's poll.
@@ -139,7 +154,9 @@ impl Server {
         listener: &mut TcpListener,
         token: usize,
     ) -> io::Result<()> {
-        self.poll
+        self.door
+            .listener
+            .poll
             .registry()
             .register(listener, Token(token), Interest::READABLE)
     }
@@ -180,15 +197,51 @@ impl Server {
         self.core.sockets.is_connected(conn)
     }
 
-    /// The open question of a connection, if there is one. NoMemory if memory is refused.
-    pub(crate) fn question(&self, conn: usize) -> Result<Option<Question>, Fault>
+    /// The open question of a connection and who asks it, if there is one. NoMemory if memory is refused.
+    pub(crate) fn question(&self, conn: usize) -> Result<Option<Query>, Fault>
         requires { conn < most_connections }
-        ensures { AsksHost conn self.now.host result }
+        ensures { AsksHost conn self.now result }
     {
         match self.core.host.question(conn) {
-            Ok(question) => Ok(question),
+            Ok(Some(question)) => Ok(Some(Query {
+                question,
+                model: self.core.host.model(conn).unwrap_or(TerminalModel::M2),
+                client: self.client(conn).map(|client| client.peer),
+            })),
+            Ok(None) => Ok(None),
             Err(_) => Err(Fault::NoMemory),
         }
+    }
+
+    /// Records that the application was asked in the session of a number's last connection.
+    pub(crate) fn set_asked(&mut self, conn: usize)
+        requires { conn < most_connections }
+        ensures { self.new ≡ asked_in conn self.old }
+    {
+        self.core.set_asked(conn);
+    }
+
+    /// Records whether a reply that was shown ends the session of a number's last connection: then the connection is
+    /// closed once its terminal has answered.
+    pub(crate) fn end_if(&mut self, conn: usize, end: bool)
+        requires { conn < most_connections }
+        ensures { self.new ≡ ended_if end conn self.old }
+    {
+        self.core.end_if(conn, end);
+    }
+
+    /// The end of the session of a number's last connection, if the application was asked in it. Each end is handed out
+    /// once.
+    pub(crate) fn take_end(&mut self, conn: usize) -> Option<EndedSession>
+        requires { conn < most_connections }
+        ensures { TakesEnd self.old conn result self.new }
+    {
+        let end = self.core.take_end(conn)?;
+        Some(EndedSession {
+            session: end.session,
+            lu: end.lu,
+            reason: end.ending.word(),
+        })
     }
 
     /// Hands the host the answer to a question, and reports what happened. A fault of the watcher is returned.
@@ -270,33 +323,31 @@ impl Server {
     ) -> Result<bool, Fault>
         ensures { PollsAndServes ⟦<TcpStream as RawRead>⟧.read_gave
             ⟦<TcpStream as RawWrite>⟧.write_took W.noticed W.showed
-            ⟦<PolledListener<'static> as Listener<TcpStream>>⟧.gave self.old watcher.old result self.new watcher.new }
+            ⟦<ProxyListener<TcpStream, PolledListener> as Listener<TcpStream>>⟧.gave self.old watcher.old result
+            self.new watcher.new }
     {
         if self
+            .door
+            .listener
             .poll
             .poll(&mut self.events, Some(poll_timeout))
             .is_err()
         {
             return Err(Fault::SocketFailed);
         }
-        let mut listener = PolledListener {
-            listener: &self.listener,
-            poll: &self.poll,
-        };
-        self.core.turn(&mut listener, watcher)
+        self.door.now = self.core.now;
+        self.core.turn(&mut self.door, watcher)
     }
 
     /// Accepts all waiting connections. A connection that the system can't accept now stays in its queue.
     pub fn accept_all<W: Watcher>(&mut self, watcher: &mut W) -> Result<(), Fault>
         ensures { AcceptsWaiting ⟦<TcpStream as RawRead>⟧.read_gave
             ⟦<TcpStream as RawWrite>⟧.write_took W.noticed W.showed
-            ⟦<PolledListener<'static> as Listener<TcpStream>>⟧.gave self.old watcher.old result self.new watcher.new }
+            ⟦<ProxyListener<TcpStream, PolledListener> as Listener<TcpStream>>⟧.gave self.old watcher.old result
+            self.new watcher.new }
     {
-        let mut listener = PolledListener {
-            listener: &self.listener,
-            poll: &self.poll,
-        };
-        self.core.accept_all(&mut listener, watcher)
+        self.door.now = self.core.now;
+        self.core.accept_all(&mut self.door, watcher)
     }
 
     /// Sets the server's time after a turn, in milliseconds, and applies the time limits (see `ServerCore::keep_time`).

@@ -2,16 +2,16 @@
 ghost use Rattle.std.specs.Prelude.{◌≡◌, ◌<◌, ◌∷◌, [], IfNone, IfOk, IfSome, None, slice_index_or};
 ghost use Rattle.host_core.specs.State.{most_connections};
 ghost use Rattle.socket_links.specs.Sockets.{AreTaken};
-ghost use Rattle.service.specs.Accepting.{Admits, AdmitsAll, IsLeastFree, door, most_accepted};
-ghost use Rattle.service.specs.HostAnswers.{HandsAnswer, ReportsOf, usage_at};
+ghost use Rattle.service.specs.Accepting.{Admits, AdmitsAll, IsLeastFree, Receives, door, most_accepted};
+ghost use Rattle.service.specs.HostAnswers.{HandsAnswer, ReportsOf, asked_in, end_at, end_told, ended_if, usage_at};
 ghost use Rattle.service.specs.NumberTurns.{ServesAt, ServesIfOpen, ended, given_back, open_at};
 ghost use Rattle.service.specs.ServerTurns.{TakesTurn, new_core};
-ghost use Rattle.service.specs.TimeTurns.{AppliesAt, AppliesIfOpen, KeepsTime, nop_sent, sends_nop};
+ghost use Rattle.service.specs.TimeTurns.{AppliesAt, AppliesUnless, DoesDue, KeepsTime, due_at, is_finished, nop_sent, sends_nop};
 ghost use Rattle.service.specs.Visits.{VisitsEach};
 ghost use Rattle.service.specs.Watching.{Told};
 
-use crate::accepting::{Accepted, Listener};
-use crate::connection_info::{ConnectionInfo, ConnectionInfos};
+use crate::accepting::{Accepted, Arrival, Listener};
+use crate::connection_info::{ConnectionInfo, ConnectionInfos, SessionEnd};
 use crate::reporting::report;
 use crate::watcher::Watcher;
 use applications::SessionName;
@@ -95,6 +95,17 @@ impl<S: RawRead + RawWrite + Drop> ServerCore<S> {
         watcher.notice(&Notice::Connected(client))
     }
 
+    /// Begins a connection that the listener hands on, or reports one that it refused. NoMemory if memory is refused;
+    /// any fault of the watcher is returned.
+    fn receive<W: Watcher>(&mut self, arrival: Arrival<S>, watcher: &mut W) -> Result<(), Fault>
+        ensures { Receives W.noticed W.showed arrival self.old watcher.old result self.new watcher.new }
+    {
+        match arrival {
+            Arrival::Begun(accepted) => self.admit(accepted, watcher),
+            Arrival::Refused(peer, why) => watcher.notice(&Notice::BadProxyHeader(peer, why)),
+        }
+    }
+
     /// Accepts all waiting connections. One that the listener can't accept now stays in the queue. NoMemory if memory
     /// is refused; any fault of the watcher is returned.
     pub(crate) fn accept_all<L: Listener<S>, W: Watcher>(
@@ -107,7 +118,7 @@ impl<S: RawRead + RawWrite + Drop> ServerCore<S> {
     {
         for _ in 0..MOST_ACCEPTED {
             match listener.accept() {
-                Some(accepted) => self.admit(accepted, watcher)?,
+                Some(arrival) => self.receive(arrival, watcher)?,
                 None => return Ok(()),
             }
         }
@@ -126,7 +137,8 @@ impl<S: RawRead + RawWrite + Drop> ServerCore<S> {
         }
     }
 
-    /// Ends a connection: frees its number and its LU, closes its socket, and then reports the end to the watcher.
+    /// Ends a connection: frees its number and its LU, closes its socket, records why, and then reports the end to the
+    /// watcher.
     fn end<W: Watcher>(
         &mut self,
         conn: usize,
@@ -137,12 +149,17 @@ impl<S: RawRead + RawWrite + Drop> ServerCore<S> {
         requires number { conn < most_connections }
         ensures told { Told W.noticed W.showed
             (ended conn info.now self.old ending ∷ []) watcher.old result watcher.new }
-        ensures given_back { self.new ≡ given_back conn self.old }
+        ensures given_back { self.new ≡ given_back conn info.now ending self.old }
     {
         let (sent, received) = (self.sockets.sent(conn), self.sockets.received(conn));
         let usage = info.usage(self.now, sent, received);
         self.host.closed(conn);
         self.sockets.close(conn);
+        let ended = ConnectionInfo {
+            ending: Some(ending),
+            ..*info
+        };
+        self.infos.set(conn, ended);
         watcher.notice(&Notice::Ended(info.client, ending, usage))
     }
 
@@ -246,6 +263,57 @@ impl<S: RawRead + RawWrite + Drop> ServerCore<S> {
         Ok(acted)
     }
 
+    /// Records that the application was asked in the session of a number's last connection.
+    pub(crate) fn set_asked(&mut self, conn: usize)
+        requires { conn < most_connections }
+        ensures { self.new ≡ asked_in conn self.old }
+    {
+        if let Some(info) = self.infos.at(conn) {
+            self.infos.set(
+                conn,
+                ConnectionInfo {
+                    asked: true,
+                    ..info
+                },
+            );
+        }
+    }
+
+    /// Records whether a reply that was shown ends the session of a number's last connection.
+    pub(crate) fn end_if(&mut self, conn: usize, end: bool)
+        requires { conn < most_connections }
+        ensures { self.new ≡ ended_if end conn self.old }
+    {
+        if let Some(info) = self.infos.at(conn) {
+            self.infos.set(
+                conn,
+                ConnectionInfo {
+                    ends: info.ends || end,
+                    ..info
+                },
+            );
+        }
+    }
+
+    /// The end of the session of a number's last connection, if the application was asked in it. Each end is handed out
+    /// once.
+    pub(crate) fn take_end(&mut self, conn: usize) -> Option<SessionEnd>
+        requires { conn < most_connections }
+        ensures end { result ≡ end_at conn self.old }
+        ensures told { self.new ≡ end_told (end_at conn self.old) conn self.old }
+    {
+        let info = self.infos.at(conn)?;
+        let end = info.session_end()?;
+        self.infos.set(
+            conn,
+            ConnectionInfo {
+                asked: false,
+                ..info
+            },
+        );
+        Some(end)
+    }
+
     /// What an open connection has used so far; None if the number has no connection.
     pub(crate) fn usage(&self, conn: usize) -> Option<Usage>
         requires { conn < most_connections }
@@ -274,8 +342,8 @@ impl<S: RawRead + RawWrite + Drop> ServerCore<S> {
         watcher: &mut W,
     ) -> Result<bool, Fault>
         requires number { conn < most_connections }
-        ensures { AppliesIfOpen W.noticed W.showed limits.now
-            (Some info.now) conn self.old watcher.old result self.new watcher.new }
+        ensures { DoesDue W.noticed W.showed (due_at limits.now conn info.now self.old) conn info.now self.old
+            watcher.old result self.new watcher.new }
     {
         let (received, sent) = (self.sockets.received(conn), self.sockets.sent(conn));
         let phase = self.host.phase(conn);
@@ -304,7 +372,39 @@ impl<S: RawRead + RawWrite + Drop> ServerCore<S> {
         }
     }
 
-    /// Applies the time limits to a number's connection, if it is open. Answers whether that did something.
+    /// Whether the application ends the session of an open connection, and it waits for the operator: the terminal has
+    /// answered the last screen.
+    fn is_finished(&self, conn: usize, info: &ConnectionInfo) -> bool
+        requires number { conn < most_connections }
+        ensures { result ≡ is_finished conn info.now self.entry.now }
+    {
+        let phase = self.host.phase(conn);
+        let awaited = awaited_on(&phase, self.host.turn(conn), self.host.pending(conn));
+        info.ends && awaited.is_operator()
+    }
+
+    /// Ends a connection whose session is finished; applies the time limits to any other. Answers whether that did
+    /// something.
+    fn apply_unless_finished<W: Watcher>(
+        &mut self,
+        conn: usize,
+        info: &ConnectionInfo,
+        limits: &TimeLimits,
+        watcher: &mut W,
+    ) -> Result<bool, Fault>
+        requires number { conn < most_connections }
+        ensures { AppliesUnless W.noticed W.showed limits.now (is_finished conn info.now self.old) info.now conn
+            self.old watcher.old result self.new watcher.new }
+    {
+        if self.is_finished(conn, info) {
+            self.end(conn, info, Ending::ByApplication, watcher)?;
+            Ok(true)
+        } else {
+            self.apply_limits(conn, info, limits, watcher)
+        }
+    }
+
+    /// Does what is due on a number's connection, if it is open. Answers whether that did something.
     fn apply_if_open<W: Watcher>(
         &mut self,
         conn: usize,
@@ -315,13 +415,13 @@ impl<S: RawRead + RawWrite + Drop> ServerCore<S> {
         ensures { AppliesAt W.noticed W.showed limits.now conn self.old watcher.old result self.new watcher.new }
     {
         match self.open_info(conn) {
-            Some(info) => self.apply_limits(conn, &info, limits, watcher),
+            Some(info) => self.apply_unless_finished(conn, &info, limits, watcher),
             None => Ok(false),
         }
     }
 
-    /// Applies the time limits to each open connection, in the order of the numbers. Answers whether that did
-    /// something. The first fault ends the call.
+    /// Does what is due on each open connection, in the order of the numbers. Answers whether that did something. The
+    /// first fault ends the call.
     fn apply_each<W: Watcher>(
         &mut self,
         limits: &TimeLimits,
@@ -337,11 +437,11 @@ impl<S: RawRead + RawWrite + Drop> ServerCore<S> {
         Ok(acted)
     }
 
-    /// Sets the time after a turn, in milliseconds, and applies the time limits if bytes moved or the host acted in the
-    /// turn (`moved`), or if 100 ms have passed since they were last applied. Applying them sends IAC NOP or drops a
-    /// connection. It also sends IAC NOP if bytes were received since and nothing was sent: the NOP carries the
-    /// acknowledgement that the peer's TCP waits for. Answers whether it did something. A fault of the watcher is
-    /// returned.
+    /// Sets the time after a turn, in milliseconds. If bytes moved or the host acted in the turn (`moved`), or if 100
+    /// ms have passed since this was last done, ends each connection whose session the application ends and that waits
+    /// for the operator, and applies the time limits to the others. Applying them sends IAC NOP or drops a connection.
+    /// It also sends IAC NOP if bytes were received since and nothing was sent: the NOP carries the acknowledgement
+    /// that the peer's TCP waits for. Answers whether it did something. A fault of the watcher is returned.
     pub(crate) fn keep_time<W: Watcher>(
         &mut self,
         now: u64,

@@ -6,6 +6,7 @@ use crate::accepting::Listener;
 use crate::application::Application;
 use crate::log::Log;
 use crate::metered::MetricsObserver;
+use crate::proxy_listener::ProxyListener;
 use crate::server::{PolledListener, Server};
 use crate::service_turn::{TurnParts, take_turns};
 use crate::uptime::Uptime;
@@ -223,8 +224,8 @@ impl<R: Net + Clock, W: Watcher> TurnParts for Shift<'_, R, W> {
 
     ghost served = { λ old _ answer new. PollsAndServes ⟦<TcpStream as RawRead>⟧.read_gave
         ⟦<TcpStream as RawWrite>⟧.write_took W.noticed W.showed
-        ⟦<PolledListener<'static> as Listener<TcpStream>>⟧.gave old.serving.now.server old.watcher.now answer
-        new.serving.now.server new.watcher.now
+        ⟦<ProxyListener<TcpStream, PolledListener> as Listener<TcpStream>>⟧.gave old.serving.now.server old.watcher.now
+        answer new.serving.now.server new.watcher.now
         × (new.uptime ≡ old.uptime) × (new.limits ≡ old.limits)
         × (new.serving.now.application ≡ old.serving.now.application) };
 
@@ -282,6 +283,9 @@ fn serve<R: Net + Clock + RandomSource, T: Iterator<Item = ()>, E: Sink>(
         server: server_on(rt, alloc, host, address)?,
         application,
     };
+    if service.proxy_protocol {
+        serving.server.expect_headers();
+    }
     let page = MetricsPage {
         metrics: Metrics::new(),
         version,

@@ -23,6 +23,7 @@ nothing_counted = record {
   lost = 0;
   idle = 0;
   no_agreement = 0;
+  by_application = 0;
   turned_away = 0;
   rejected = replicate 5 0;
   dropped_keys = 0;
@@ -55,6 +56,7 @@ ended_by (ending.Closed cause) counts = record counts { closed = raised_at (caus
 ended_by ending.Lost counts = record counts { lost = raised counts.lost 1 }
 ended_by (ending.Dropped overdue.Idle) counts = record counts { idle = raised counts.idle 1 }
 ended_by (ending.Dropped overdue.NoAgreement) counts = record counts { no_agreement = raised counts.no_agreement 1 }
+ended_by ending.ByApplication counts = record counts { by_application = raised counts.by_application 1 }
 
 -- one open connection fewer, and one more that ended in this way
 abbrev pub with_end : Ending → Metrics → Metrics
@@ -111,6 +113,7 @@ bucket_of millis = length (filter (λ bound. nat_lt bound millis) bounds)
 abbrev pub counted : Notice → Metrics → Metrics
 counted (notice.Listening address) counts = counts
 counted (notice.TurnedAway peer) counts = record counts { turned_away = raised counts.turned_away 1 }
+counted (notice.BadProxyHeader peer why) counts = counts
 counted (notice.Connected client) counts = with_begin counts
 counted (notice.Rejected client rejection) counts =
     record counts { rejected = raised_at (reason_place rejection.reason) counts.rejected }

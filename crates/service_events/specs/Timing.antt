@@ -33,6 +33,11 @@ is_agreed Agreement = false
 is_agreed Operator = true
 is_agreed Host = true
 
+abbrev pub is_operator : Awaited → Bool
+is_operator Agreement = false
+is_operator Operator = true
+is_operator Host = false
+
 abbrev pub is_host : Awaited → Bool
 is_host Agreement = false
 is_host Operator = false

@@ -1,6 +1,6 @@
 //! The time limits of a connection: when it is sent IAC NOP, and when it is dropped.
 ghost use Rattle.std.specs.Prelude.{◌≡◌};
-ghost use Rattle.service_events.specs.Timing.{are_applied, awaited_on, due, heard, is_agreed, is_host, is_over, is_unanswered, kept_alive, new_activity};
+ghost use Rattle.service_events.specs.Timing.{are_applied, awaited_on, due, heard, is_agreed, is_host, is_operator, is_over, is_unanswered, kept_alive, new_activity};
 
 use host_core::{Phase, Turn};
 use jobs::{Seconds, TimeLimits};
@@ -93,6 +93,16 @@ impl Awaited {
         match self {
             Awaited::Agreement => false,
             Awaited::Operator | Awaited::Host => true,
+        }
+    }
+
+    /// Whether the connection waits for the operator.
+    pub fn is_operator(self) -> bool
+        ensures { result ≡ is_operator self }
+    {
+        match self {
+            Awaited::Operator => true,
+            Awaited::Agreement | Awaited::Host => false,
         }
     }
 

@@ -29,6 +29,8 @@ pub struct Metrics {
     pub idle: u64,
     /// Connections that were dropped by the time limit `negotiate`.
     pub no_agreement: u64,
+    /// Connections that were closed because the application ended the session.
+    pub by_application: u64,
     /// Connections that were closed at once, because no number was free.
     pub turned_away: u64,
     /// Rejected requests for an LU, by reason: DEVICE-IN-USE, INV-NAME, INV-DEVICE-TYPE, UNSUPPORTED-REQ (RFC 1647,
@@ -124,6 +126,7 @@ impl Metrics {
             lost: 0,
             idle: 0,
             no_agreement: 0,
+            by_application: 0,
             turned_away: 0,
             rejected: [0; 5],
             dropped_keys: 0,
@@ -157,6 +160,7 @@ impl Metrics {
             Ending::Lost => raise(&mut self.lost, 1),
             Ending::Dropped(Overdue::Idle) => raise(&mut self.idle, 1),
             Ending::Dropped(Overdue::NoAgreement) => raise(&mut self.no_agreement, 1),
+            Ending::ByApplication => raise(&mut self.by_application, 1),
         }
     }
 
@@ -167,6 +171,7 @@ impl Metrics {
         match notice {
             Notice::Listening(_) => {}
             Notice::TurnedAway(_) => raise(&mut self.turned_away, 1),
+            Notice::BadProxyHeader(_, _) => {}
             Notice::Connected(_) => self.begin(),
             Notice::Rejected(_, rejection) => {
                 raise(&mut self.rejected[reason_place(rejection.reason)], 1)

@@ -74,12 +74,13 @@ panel3270_sessions_total {begun}
             )?;
         }
         let (lost, idle, no_agreement) = (self.lost, self.idle, self.no_agreement);
-        let turned_away = self.turned_away;
+        let (by_application, turned_away) = (self.by_application, self.turned_away);
         write!(
             f,
             "panel3270_session_ends_total{{end=\"lost\"}} {lost}
 panel3270_session_ends_total{{end=\"idle\"}} {idle}
 panel3270_session_ends_total{{end=\"no-agreement\"}} {no_agreement}
+panel3270_session_ends_total{{end=\"ended-by-application\"}} {by_application}
 # HELP panel3270_turned_away_total Connections closed at once because no number was free.
 # TYPE panel3270_turned_away_total counter
 panel3270_turned_away_total {turned_away}

@@ -1,10 +1,11 @@
 //! The lines of a server's log: what happened on its connections.
 ghost use Rattle.std.specs.Prelude.{◌≡◌};
-ghost use Rattle.service_events.specs.Notices.{ending_of};
+ghost use Rattle.service_events.specs.Notices.{ending_of, ending_word};
 
 use crate::limits::Overdue;
 use applications::{KeyName, SessionName};
 use host_core::{DroppedKey, Phase, Rejection, Rule, RuleBreak, Served};
+use proxy_protocol::HeaderFault;
 use std::fmt;
 use std::net::SocketAddr;
 use tn3270e_msg::{Cause, Lu};
@@ -29,6 +30,23 @@ pub enum Ending {
     Lost,
     /// It was dropped, because this limit was reached.
     Dropped(Overdue),
+    /// The application ended its session.
+    ByApplication,
+}
+
+impl Ending {
+    /// The event of the log, which is also the reason that an application gets.
+    pub fn word(self) -> &'static str
+        ensures { result.now ≡ ending_word self }
+    {
+        match self {
+            Ending::Closed(_) => "closed",
+            Ending::Lost => "lost",
+            Ending::Dropped(Overdue::NoAgreement) => "no-agreement",
+            Ending::Dropped(Overdue::Idle) => "idle",
+            Ending::ByApplication => "ended-by-application",
+        }
+    }
 }
 
 /// What a connection used until it was over.
@@ -46,6 +64,17 @@ pub struct Usage {
     pub received: u64,
 }
 
+/// Why a connection that must begin with a header of the PROXY protocol is closed.
+#[derive(Clone, Copy)]
+pub enum BadHeader {
+    /// The header is wrong, or there is none.
+    Wrong(HeaderFault),
+    /// It wasn't complete in time.
+    Late,
+    /// The peer closed the connection before it was complete, or the connection failed.
+    CutShort,
+}
+
 /// What happened at a server.
 #[derive(Clone, Copy)]
 pub enum Notice {
@@ -53,6 +82,8 @@ pub enum Notice {
     Listening(SocketAddr),
     /// A client at this address connected, and no number was free.
     TurnedAway(SocketAddr),
+    /// A connection from this address had no header of the PROXY protocol, and was closed.
+    BadProxyHeader(SocketAddr, BadHeader),
     /// A client connected.
     Connected(Client),
     /// The host rejected a request for an LU.
@@ -86,14 +117,13 @@ impl fmt::Display for Client {
 /// Prints as the event, with its cause if the host closed the connection.
 impl fmt::Display for Ending {
     fn fmt<W: fmt::Write>(&self, f: &mut fmt::Formatter<W>) -> fmt::Result {
+        f.write_str(self.word())?;
         match self {
             Ending::Closed(cause) => {
                 let number = cause.number();
-                write!(f, "closed cause={cause} number={number}")
+                write!(f, " cause={cause} number={number}")
             }
-            Ending::Lost => f.write_str("lost"),
-            Ending::Dropped(Overdue::NoAgreement) => f.write_str("no-agreement"),
-            Ending::Dropped(Overdue::Idle) => f.write_str("idle"),
+            Ending::Lost | Ending::Dropped(_) | Ending::ByApplication => Ok(()),
         }
     }
 }
@@ -118,12 +148,26 @@ impl fmt::Display for Usage {
     }
 }
 
+/// Prints as one word.
+impl fmt::Display for BadHeader {
+    fn fmt<W: fmt::Write>(&self, f: &mut fmt::Formatter<W>) -> fmt::Result {
+        match self {
+            BadHeader::Wrong(fault) => write!(f, "{fault}"),
+            BadHeader::Late => f.write_str("late"),
+            BadHeader::CutShort => f.write_str("cut-short"),
+        }
+    }
+}
+
 /// Prints where the server listens, or an event in logfmt, without the time.
 impl fmt::Display for Notice {
     fn fmt<W: fmt::Write>(&self, f: &mut fmt::Formatter<W>) -> fmt::Result {
         match self {
             Notice::Listening(address) => write!(f, "listening on {address}"),
             Notice::TurnedAway(peer) => write!(f, "peer={peer} event=turned-away"),
+            Notice::BadProxyHeader(peer, why) => {
+                write!(f, "peer={peer} event=bad-proxy-header reason={why}")
+            }
             Notice::Connected(client) => write!(f, "{client} event=connected"),
             Notice::Rejected(client, Rejection { lu, reason }) => match lu {
                 Some(lu) => write!(f, "{client} event=rejected lu={lu} reason={reason}"),

@@ -10,7 +10,7 @@ returns-in-Ok-clause-begins g c = record {
   are_served = c.panels.ensures;
   asks = search rules;
   connects = search rules;
-  exchange_is = c.new.ensures;
+  asked_is = search rules;
 }
 
 pub returns-in-Err-clause-cannot : goal.returns-in-Err-clause-cannot

@@ -10,4 +10,4 @@ returns-in-Still g c = waits c.go_on.new.self c.in-Still.ensures refl refl refl
 
 pub returns-in-Over : goal.returns-in-Over
 returns-in-Over g c =
-    ends c.in-Over.outcome c.go_on.new.self c.in-Over.ensures c.requires.empty (rw (← c.ticket-ticket.ensures, ← c.panel-panel.ensures) c.end.ensures)
+    ends c.in-Over.outcome c.go_on.new.self c.in-Over.ensures c.requires.empty c.end.ensures

@@ -4,10 +4,10 @@ use Rattle.applications.proofs.exchanges.show.Goals as goal
 
 pub returns-then-is_shown : goal.returns-then-is_shown
 returns-then-is_shown g c =
-    notes c.hand.new.server c.report_replaced.result
+    notes c.hand.new.server c.note_shown.result
     (subst (λ told. Hands g.A.AskingServer.answered g.A.AskingServer.reported c.args.server.now c.args.conn c.args.ticket c.args.answer.now (Ok told) c.hand.new.server)
     c.if-is_shown.true c.in-Ok.ensures)
-    c.report_replaced.ensures c.unless_failed.ensures
+    c.note_shown.ensures c.unless_failed.ensures
 
 pub returns-else-is_shown : goal.returns-else-is_shown
 returns-else-is_shown g c =

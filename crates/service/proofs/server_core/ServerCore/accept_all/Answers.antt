@@ -7,10 +7,10 @@ use Rattle.service.proofs.server_core.ServerCore.accept_all.Goals as goal
 pub loop-init : goal.loop-init
 loop-init g c = none_admitted g.W.Watcher.noticed g.W.Watcher.showed g.L.Listener.gave (door c.args.listener.now c.args.self.now c.args.watcher.now)
 
-pub returns-in_err-admit-in-Some : goal.returns-in_err-admit-in-Some
-returns-in_err-admit-in-Some g c =
+pub returns-in_err-receive-in-Some : goal.returns-in_err-receive-in-Some
+returns-in_err-receive-in-Some g c =
     let p = err_from_is_err_and c.from_residual.result c.from_residual.ensures.1 in
-    rw (p.1, p.2) (c.loop.counter, door c.loop.listener c.loop.self c.loop.watcher, c.in-Some.accepted, c.loop-test.true, c.loop.invariant, c.in-Some.ensures, c.in_err-admit-in-Some.ensures)
+    rw (p.1, p.2) (c.loop.counter, door c.loop.listener c.loop.self c.loop.watcher, c.in-Some.arrival, c.loop-test.true, c.loop.invariant, c.in-Some.ensures, c.in_err-receive-in-Some.ensures)
 
 pub returns-in-None : goal.returns-in-None
 returns-in-None g c =
@@ -20,7 +20,7 @@ returns-in-None g c =
 pub loop-preserved : goal.loop-preserved
 loop-preserved g c =
     one_admitted g.W.Watcher.noticed g.W.Watcher.showed g.L.Listener.gave c.loop.counter (door c.args.listener.now c.args.self.now c.args.watcher.now) (door c.loop.listener c.loop.self c.loop.watcher)
-    (door c.accept.new.self c.admit.new.self c.admit.new.watcher) c.in-Some.accepted c.loop.invariant c.in-Some.ensures c.in_ok-admit-in-Some.ensures
+    (door c.accept.new.self c.receive.new.self c.receive.new.watcher) c.in-Some.arrival c.loop.invariant c.in-Some.ensures c.in_ok-receive-in-Some.ensures
 
 pub returns : goal.returns
 returns g c =

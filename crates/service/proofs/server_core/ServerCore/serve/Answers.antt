@@ -4,10 +4,10 @@ use Rattle.host_core.specs.Serves.{Serves}
 use Rattle.host_core.specs.State.{connection_at, reports_at}
 use Rattle.host_core.specs.declared.serving.Served.TheVariants as served
 use Rattle.socket_links.specs.Sockets.{GivesAt, TakesAt}
-use Rattle.service.specs.NumberTurns.{core_reported, end_failed, end_in_turn, given_back, given_back_if, info_after, report_failed, reported, reports_of, starved}
+use Rattle.service.specs.NumberTurns.{core_reported, end_failed, end_in_turn, given_back_if, info_after, report_failed, reported, reports_of, starved}
 use Rattle.service.specs.Watching.{FailsAmong, HearsEach}
 use Rattle.service.proofs.Reports.{none_found, told_after}
-use Rattle.service.proofs.Turns.{core_is, end_events, no_end, ending_is, unsent_is}
+use Rattle.service.proofs.Turns.{core_is, end_events, given_back_is, no_end, ending_is, unsent_is}
 use Rattle.service.proofs.server_core.ServerCore.serve.Goals as goal
 
 pub returns-in-Memory : goal.returns-in-Memory
@@ -26,8 +26,8 @@ returns-in_err-end g c =
     c.in_ok-report.ensures.told
     (subst (λ it. FailsAmong g.W.Watcher.noticed g.W.Watcher.showed it c.report.new.watcher c.in_err-end.field-0.0 c.end.new.watcher) (end_events c.args.conn c.args.info.now c.args.self.now c.serve_turn-served.result c.serve_turn-served.new.host c.serve_turn-served.new.links c.report.new.info (record c.args.self.now { host = c.report.new.host; sockets = c.serve_turn-served.new.links; infos = c.set.new.self }) c.in-Some.ending c.in_ok-report.ensures.info
     (core_is c.args.self.now c.report.new.host (reported c.args.conn c.serve_turn-served.new.host) c.serve_turn-served.new.links c.set.new.self (slice_set c.args.self.now.infos c.args.conn (Some (info_after c.args.conn c.serve_turn-served.new.host c.args.info.now))) c.in_ok-report.ensures.taken (c.set.ensures ∙ ap (λ it. slice_set c.args.self.now.infos c.args.conn (Some it)) c.in_ok-report.ensures.info)) (sym (ending_is c.args.conn c.serve_turn-served.new.host c.serve_turn-served.result c.phase.result c.ending_of-ending.result c.ending_of-ending.ensures c.phase.ensures) ∙ c.in-Some.is)) c.in_err-end.ensures.told)
-    (c.end.ensures.given_back ∙ ap (given_back c.args.conn) (core_is c.args.self.now c.report.new.host (reported c.args.conn c.serve_turn-served.new.host) c.serve_turn-served.new.links c.set.new.self (slice_set c.args.self.now.infos c.args.conn (Some (info_after c.args.conn c.serve_turn-served.new.host c.args.info.now))) c.in_ok-report.ensures.taken (c.set.ensures ∙ ap (λ it. slice_set c.args.self.now.infos c.args.conn (Some it)) c.in_ok-report.ensures.info))
-    ∙ ap (λ it. given_back_if it c.args.conn (core_reported c.args.conn c.args.info.now c.args.self.now c.serve_turn-served.new.host c.serve_turn-served.new.links)) (sym (sym (ending_is c.args.conn c.serve_turn-served.new.host c.serve_turn-served.result c.phase.result c.ending_of-ending.result c.ending_of-ending.ensures c.phase.ensures) ∙ c.in-Some.is))))
+    (given_back_is c.args.conn c.args.info.now c.args.self.now c.serve_turn-served.result c.serve_turn-served.new.host c.serve_turn-served.new.links c.report.new.info (record c.args.self.now { host = c.report.new.host; sockets = c.serve_turn-served.new.links; infos = c.set.new.self }) c.end.new.self c.in-Some.ending c.in_ok-report.ensures.info
+    (core_is c.args.self.now c.report.new.host (reported c.args.conn c.serve_turn-served.new.host) c.serve_turn-served.new.links c.set.new.self (slice_set c.args.self.now.infos c.args.conn (Some (info_after c.args.conn c.serve_turn-served.new.host c.args.info.now))) c.in_ok-report.ensures.taken (c.set.ensures ∙ ap (λ it. slice_set c.args.self.now.infos c.args.conn (Some it)) c.in_ok-report.ensures.info)) (sym (ending_is c.args.conn c.serve_turn-served.new.host c.serve_turn-served.result c.phase.result c.ending_of-ending.result c.ending_of-ending.ensures c.phase.ensures) ∙ c.in-Some.is) c.end.ensures.given_back))
 
 pub returns-in_ok-end : goal.returns-in_ok-end
 returns-in_ok-end g c = record {
@@ -40,8 +40,8 @@ returns-in_ok-end g c = record {
   hears = told_after g.W.Watcher.noticed g.W.Watcher.showed (reports_of c.args.info.now.client c.args.conn c.serve_turn-served.new.host) (end_in_turn c.args.conn c.args.info.now c.args.self.now c.serve_turn-served.result c.serve_turn-served.new.host c.serve_turn-served.new.links) c.args.watcher.now c.report.new.watcher c.end.new.watcher (Ok tt) c.in_ok-report.ensures.told
       (subst (λ it. HearsEach g.W.Watcher.noticed g.W.Watcher.showed it c.report.new.watcher c.end.new.watcher) (end_events c.args.conn c.args.info.now c.args.self.now c.serve_turn-served.result c.serve_turn-served.new.host c.serve_turn-served.new.links c.report.new.info (record c.args.self.now { host = c.report.new.host; sockets = c.serve_turn-served.new.links; infos = c.set.new.self }) c.in-Some.ending c.in_ok-report.ensures.info
       (core_is c.args.self.now c.report.new.host (reported c.args.conn c.serve_turn-served.new.host) c.serve_turn-served.new.links c.set.new.self (slice_set c.args.self.now.infos c.args.conn (Some (info_after c.args.conn c.serve_turn-served.new.host c.args.info.now))) c.in_ok-report.ensures.taken (c.set.ensures ∙ ap (λ it. slice_set c.args.self.now.infos c.args.conn (Some it)) c.in_ok-report.ensures.info)) (sym (ending_is c.args.conn c.serve_turn-served.new.host c.serve_turn-served.result c.phase.result c.ending_of-ending.result c.ending_of-ending.ensures c.phase.ensures) ∙ c.in-Some.is)) c.in_ok-end.ensures.told);
-  becomes = (c.end.ensures.given_back ∙ ap (given_back c.args.conn) (core_is c.args.self.now c.report.new.host (reported c.args.conn c.serve_turn-served.new.host) c.serve_turn-served.new.links c.set.new.self (slice_set c.args.self.now.infos c.args.conn (Some (info_after c.args.conn c.serve_turn-served.new.host c.args.info.now))) c.in_ok-report.ensures.taken (c.set.ensures ∙ ap (λ it. slice_set c.args.self.now.infos c.args.conn (Some it)) c.in_ok-report.ensures.info))
-      ∙ ap (λ it. given_back_if it c.args.conn (core_reported c.args.conn c.args.info.now c.args.self.now c.serve_turn-served.new.host c.serve_turn-served.new.links)) (sym (sym (ending_is c.args.conn c.serve_turn-served.new.host c.serve_turn-served.result c.phase.result c.ending_of-ending.result c.ending_of-ending.ensures c.phase.ensures) ∙ c.in-Some.is)));
+  becomes = (given_back_is c.args.conn c.args.info.now c.args.self.now c.serve_turn-served.result c.serve_turn-served.new.host c.serve_turn-served.new.links c.report.new.info (record c.args.self.now { host = c.report.new.host; sockets = c.serve_turn-served.new.links; infos = c.set.new.self }) c.end.new.self c.in-Some.ending c.in_ok-report.ensures.info
+      (core_is c.args.self.now c.report.new.host (reported c.args.conn c.serve_turn-served.new.host) c.serve_turn-served.new.links c.set.new.self (slice_set c.args.self.now.infos c.args.conn (Some (info_after c.args.conn c.serve_turn-served.new.host c.args.info.now))) c.in_ok-report.ensures.taken (c.set.ensures ∙ ap (λ it. slice_set c.args.self.now.infos c.args.conn (Some it)) c.in_ok-report.ensures.info)) (sym (ending_is c.args.conn c.serve_turn-served.new.host c.serve_turn-served.result c.phase.result c.ending_of-ending.result c.ending_of-ending.ensures c.phase.ensures) ∙ c.in-Some.is) c.end.ensures.given_back);
 }
 
 pub returns-in_default-ending : goal.returns-in_default-ending
@@ -54,5 +54,5 @@ returns-in_default-ending g c = record {
   acts = (ap (λ it. not (nat_eq (length it) (length c.out-waiting.result.now))) c.out.ensures ∙ ap (λ it. not (nat_eq (length (connection_at c.args.conn c.serve_turn-served.new.host).out) (length it))) c.out-waiting.ensures);
   hears = told_after g.W.Watcher.noticed g.W.Watcher.showed (reports_of c.args.info.now.client c.args.conn c.serve_turn-served.new.host) (end_in_turn c.args.conn c.args.info.now c.args.self.now c.serve_turn-served.result c.serve_turn-served.new.host c.serve_turn-served.new.links) c.args.watcher.now c.report.new.watcher c.report.new.watcher (Ok tt) c.in_ok-report.ensures.told
       (no_end g.W.Watcher.noticed g.W.Watcher.showed c.args.conn c.args.info.now c.args.self.now c.serve_turn-served.result c.serve_turn-served.new.host c.serve_turn-served.new.links c.report.new.watcher (sym (ending_is c.args.conn c.serve_turn-served.new.host c.serve_turn-served.result c.phase.result c.ending_of-ending.result c.ending_of-ending.ensures c.phase.ensures) ∙ none_found c.ending_of-ending.result c.in_default-ending.not-Some));
-  becomes = ((core_is c.args.self.now c.report.new.host (reported c.args.conn c.serve_turn-served.new.host) c.serve_turn-served.new.links c.set.new.self (slice_set c.args.self.now.infos c.args.conn (Some (info_after c.args.conn c.serve_turn-served.new.host c.args.info.now))) c.in_ok-report.ensures.taken (c.set.ensures ∙ ap (λ it. slice_set c.args.self.now.infos c.args.conn (Some it)) c.in_ok-report.ensures.info)) ∙ ap (λ it. given_back_if it c.args.conn (core_reported c.args.conn c.args.info.now c.args.self.now c.serve_turn-served.new.host c.serve_turn-served.new.links)) (sym (sym (ending_is c.args.conn c.serve_turn-served.new.host c.serve_turn-served.result c.phase.result c.ending_of-ending.result c.ending_of-ending.ensures c.phase.ensures) ∙ none_found c.ending_of-ending.result c.in_default-ending.not-Some)));
+  becomes = ((core_is c.args.self.now c.report.new.host (reported c.args.conn c.serve_turn-served.new.host) c.serve_turn-served.new.links c.set.new.self (slice_set c.args.self.now.infos c.args.conn (Some (info_after c.args.conn c.serve_turn-served.new.host c.args.info.now))) c.in_ok-report.ensures.taken (c.set.ensures ∙ ap (λ it. slice_set c.args.self.now.infos c.args.conn (Some it)) c.in_ok-report.ensures.info)) ∙ ap (λ it. given_back_if it c.args.conn (info_after c.args.conn c.serve_turn-served.new.host c.args.info.now) (core_reported c.args.conn c.args.info.now c.args.self.now c.serve_turn-served.new.host c.serve_turn-served.new.links)) (sym (sym (ending_is c.args.conn c.serve_turn-served.new.host c.serve_turn-served.result c.phase.result c.ending_of-ending.result c.ending_of-ending.ensures c.phase.ensures) ∙ none_found c.ending_of-ending.result c.in_default-ending.not-Some)));
 }

@@ -1,0 +1,5 @@
+pub mod Fronts
+pub mod Line
+pub mod Block
+pub mod Header
+pub mod Reader
