@@ -22,6 +22,8 @@ SUITES = TOP / "tests/suites"
 RUN = TOP / "tests/run"
 # No part of a suite takes longer, unless the suite says so by `SECONDS`.
 MOST_SECONDS = 900
+# The suite that runs only if it is named, for as long as asked.
+SOAK = "soak"
 # The processes of the parts that run now.
 RUNNING: set[subprocess.Popen[str]] = set()
 # A value of one line that is longer is cut before and behind the first difference.
@@ -112,13 +114,12 @@ def failure_of(suite: str, name: str, at: Place, error: BaseException) -> Failur
             )
 
 
-def run_case(suite: str, case: Case) -> Failure | None:
-    """What is wrong with a case."""
+def run_case(suite: str, case: Case) -> Failure | object:
+    """What is wrong with a case, or what it answers: a text is a note."""
     try:
-        case.run()
+        return case.run()
     except Exception as error:
         return failure_of(suite, case.name, case.at, error)
-    return None
 
 
 def run_part(part: Part, words: list[str]) -> Outcome:
@@ -132,7 +133,8 @@ def run_part(part: Part, words: list[str]) -> Outcome:
             getattr(module_of(part.suite), "THREADS", 1)
         ) as pool:
             results = list(pool.map(lambda it: run_case(part.suite, it), cases))
-        outcome.failures = [it for it in results if it]
+        outcome.failures = [it for it in results if isinstance(it, Failure)]
+        outcome.notes = [f"{part.suite}: {it}" for it in results if isinstance(it, str)]
         outcome.passed = len(results) - len(outcome.failures)
         if not (words or part.index or outcome.passed or outcome.failures):
             raise BadCase("has no case")
@@ -168,11 +170,11 @@ def parts_of(suite: str) -> Iterator[Part]:
     return (Part(suite, index, parts) for index in range(parts))
 
 
-def all_parts() -> tuple[list[Part], list[Failure]]:
-    """The parts of all suites, those first that say they are `LONG`, and the suites that can't be
+def all_parts(suites: list[str]) -> tuple[list[Part], list[Failure]]:
+    """The parts of suites, those first that say they are `LONG`, and the suites that can't be
     loaded."""
     found, failures = [], []
-    for suite in suite_names():
+    for suite in suites:
         try:
             found.append((not getattr(module_of(suite), "LONG", False), list(parts_of(suite))))
         except Exception as error:
@@ -299,9 +301,9 @@ def show(failure: Failure) -> None:
     print(indented("came", shortened(failure.came, place)), flush=True)
 
 
-def run_all(words: list[str], jobs: int) -> int:
-    """Runs all suites. The exit status: 0 if no case failed, and one ran."""
-    parts, failures = all_parts()
+def run_all(suites: list[str], words: list[str], jobs: int) -> int:
+    """Runs suites. The exit status: 0 if no case failed, and one ran."""
+    parts, failures = all_parts(suites)
     parts = [part for part in parts if not words or may_have_cases(part, words)]
     if os.environ.get("TESTS_QUICK"):
         # Each is compiled once, before parts that run side by side ask for it.
@@ -340,6 +342,12 @@ def main() -> int:
         prog="tests/run", description="Runs the suites of tests/ side by side."
     )
     parser.add_argument(
+        "suites",
+        nargs="*",
+        metavar="SUITE",
+        help=f"only these suites; {SOAK} runs only if it is named",
+    )
+    parser.add_argument(
         "-k",
         metavar="WORDS",
         default="",
@@ -359,18 +367,25 @@ def main() -> int:
     parser.add_argument(
         "--quick", action="store_true", help="compile the programs without a proof, and keep them"
     )
+    parser.add_argument(
+        "--minutes", type=float, default=1, metavar="N", help=f"how long {SOAK} runs (1)"
+    )
     parser.add_argument("--part", nargs=3, help=argparse.SUPPRESS)
     given = parser.parse_args()
+    for it in set(given.suites) - {*suite_names()}:
+        parser.error(f"no suite has the name {it}")
     words = given.k.split()
     if given.quick:
         os.environ["TESTS_QUICK"] = "1"
     if given.part:
         suite, index, of = given.part
         return write_part(Part(suite, int(index), int(of)), words)
+    os.environ["TESTS_MINUTES"] = str(given.minutes)
+    suites = given.suites or [it for it in suite_names() if it != SOAK]
     if given.list:
-        for suite in suite_names():
+        for suite in suites:
             list_part(Part(suite), words)
         return 0
     for number in (signal.SIGINT, signal.SIGTERM):
         signal.signal(number, end_all)
-    return run_all(words, max(1, given.jobs))
+    return run_all(suites, words, max(1, given.jobs))

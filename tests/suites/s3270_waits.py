@@ -8,15 +8,14 @@ import contextlib
 import functools
 import itertools
 import re
-import shutil
 import socket
-import subprocess
 import threading
 import time
 import tomllib
 
 from harness import hosts
-from harness.case import TOP, Case, Difference, NotHere, Place, expect, relative
+from harness.case import TOP, Case, Difference, Place, expect, relative
+from harness.s3270 import S3270, is_wanted
 
 LONG = True
 # How many cases are run at once.
@@ -90,48 +89,13 @@ class Proxy:
             time.sleep(0.01)
 
 
-class Operator:
-    """An s3270 of a model that connects by a proxy, until the check is over."""
+class Operator(S3270):
+    """An operator who connects by a proxy, until the check is over."""
 
     def __init__(self, model, proxy):
+        super().__init__(model)
         self.proxy = proxy
-        words = [
-            "s3270",
-            "-utf8",
-            "-model",
-            f"3278-{model}",
-            "-clear",
-            "aidWait",
-            "-clear",
-            "unlockDelay",
-        ]
-        self.process = subprocess.Popen(
-            words,
-            stdin=subprocess.PIPE,
-            stdout=subprocess.PIPE,
-            stderr=subprocess.DEVNULL,
-            text=True,
-        )
-        self.does(f"Connect(127.0.0.1:{proxy.port})", "Wait(InputField)")
-
-    def __enter__(self):
-        return self
-
-    def __exit__(self, *_):
-        self.process.kill()
-        self.process.communicate()
-
-    def does(self, *actions):
-        """The lines of data that the last one of these actions prints."""
-        for action in actions:
-            self.process.stdin.write(action + "\n")
-            self.process.stdin.flush()
-            lines = [self.process.stdout.readline().rstrip("\n")]
-            while lines[-1] not in ("ok", "error", ""):
-                lines.append(self.process.stdout.readline().rstrip("\n"))
-            if lines[-1] != "ok":
-                raise Difference(f"s3270 answers ok to {action}", str(lines))
-        return [it.removeprefix("data: ").rstrip() for it in lines[:-2]]
+        self.does(f"Connect({hosts.LOCALHOST}:{proxy.port})", "Wait(InputField)")
 
     def fills_in(self, panel, texts):
         """Types the texts into these fields of a panel; the cursor ends behind the last."""
@@ -275,8 +239,7 @@ def in_the_wait(model, key, point, what, second):
 
 def cases():
     """The dialogues, if s3270 is installed."""
-    if not shutil.which("s3270"):
-        raise NotHere("s3270 isn't installed (apt-get install s3270)")
+    is_wanted("s3270")
     for model, (key, (_, _, points)), (what, second) in itertools.product(
         SIZES, KEYS.items(), IN_THE_WAIT
     ):

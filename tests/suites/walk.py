@@ -418,7 +418,7 @@ STEPS = {
     "warning: other machines": PRINTED,
     "[tn3270]\n": "is a text for stunnel: the suite s3270_sessions",
     "printf 'Connect(L:BANK04": "needs s3270 and stunnel: the suite s3270_sessions",
-    "backend hosts": lines_of("examples/haproxy.cfg"),
+    "bin/serve --processes": "needs HAProxy: the suite processes",
     # docs/APPLICATIONS.md
     'start = "SIGNON"': panels,
     "panel3270 serve --port 3270 --panels panels.toml": serves,

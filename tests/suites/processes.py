@@ -1,0 +1,143 @@
+"""`bin/serve --processes`: four processes behind HAProxy, with 200 sessions of s3270 at once.
+
+The LUs of a text are dealt out in its order, so that each fourth one is of the same process."""
+import contextlib
+import os
+import pathlib
+import re
+import signal
+import subprocess
+import sys
+import tempfile
+import threading
+
+from harness import hosts, programs
+from harness.case import TOP, Checks, Difference, expect
+from harness.s3270 import S3270, is_wanted
+
+LONG = True
+PROCESSES, SESSIONS, AT_ONCE = 4, 200, 16
+LUS = [f"LU{it:03}" for it in range(SESSIONS)]
+PANELS = f"""start = "WORD"
+lus = [
+    {', '.join(f'"{it}"' for it in LUS)},
+]
+[[panel]]
+name = "WORD"
+text = [{{row = 1, col = 2, text = "WORD"}}, {{row = 5, col = 2, show = "word", length = 8}}]
+field = [{{name = "word", row = 3, col = 8, length = 8}}]
+keys = {{enter = "WORD"}}
+"""
+
+check = Checks()
+
+
+class Service:
+    """bin/serve with the panels, at a port, in a folder of its own, until the check is over."""
+
+    def __init__(self, folder, *words):
+        self.folder, self.port = pathlib.Path(folder), hosts.free_port()
+        (self.folder / "panels.toml").write_text(PANELS)
+        words = ["--port", str(self.port), "--folder", folder, "--panels", f"{folder}/panels.toml", *words]
+        words = [sys.executable, TOP / "bin/serve", *words]
+        how = {"env": {**os.environ, "PANEL3270": str(programs.panel3270())}, "start_new_session": True}
+        with open(self.folder / "said", "wb") as said, open(self.folder / "out", "wb") as out:
+            self.process = subprocess.Popen(words, stderr=said, stdout=out, **how)
+
+    def __enter__(self):
+        return self
+
+    def __exit__(self, *_):
+        with contextlib.suppress(ProcessLookupError):
+            os.killpg(self.process.pid, signal.SIGKILL)
+        self.process.wait()
+
+    def process_of(self, number):
+        """The process that serves the panels of this number."""
+        children = pathlib.Path(f"/proc/{self.process.pid}/task/{self.process.pid}/children")
+        for child in children.read_text().split():
+            if f"{self.folder}/{number}.toml" in pathlib.Path(f"/proc/{child}/cmdline").read_text():
+                return int(child)
+        raise Difference(f"process {number}", "it doesn't run")
+
+    def connects(self, terminal, name="", port=None):
+        """A terminal is bound to an LU, and shown the panel; the name of the LU."""
+
+        def is_bound():
+            with contextlib.suppress(Difference):
+                terminal.is_connected() or terminal.does(
+                    f"Connect({name}{hosts.LOCALHOST}:{port or self.port})", "Wait(5,InputField)"
+                )
+            return terminal.is_connected() and terminal.shows()[0] == " WORD"
+
+        hosts.until("a terminal is shown the panel", is_bound)
+        return terminal.does("Query(LuName)")[0]
+
+
+def all_at_once(acts):
+    """Runs calls, some of them at once, and raises what one of them raised."""
+    left, wrong = list(acts), []
+
+    def works():
+        while left and not wrong:
+            try:
+                left.pop()()
+            except Exception as error:
+                wrong.append(error)
+
+    threads = [threading.Thread(target=works) for _ in range(AT_ONCE)]
+    for it in threads:
+        it.start()
+    for it in threads:
+        it.join()
+    for it in wrong:
+        raise it
+
+
+def works_on(terminal, text):
+    """Types a text and presses Enter, and sees it in the row that shows it."""
+    terminal.does("Home", "EraseEOF", f'String("{text}")', "Enter", "Wait(Unlock)")
+    hosts.until(f"{text} is shown", lambda: terminal.shows()[4] == f" {text}")
+
+
+@check
+def a_killed_process_disturbs_no_other():
+    """With 200 sessions one process is killed: the sessions of the others go on; its own operators
+    connect again, and all LUs are granted, each once. A port of a process has its names."""
+    with tempfile.TemporaryDirectory() as folder, Service(
+        folder, "--processes", str(PROCESSES)
+    ) as service, contextlib.ExitStack() as stack:
+        config = service.folder / "haproxy.cfg"
+        hosts.until("HAProxy's configuration", config.exists)
+        terminals, lus = [stack.enter_context(S3270(2)) for _ in LUS], {}
+        all_at_once(
+            lambda it=it: lus.update({it: service.connects(it)}) for it in terminals
+        )
+        expect("the LUs granted", sorted(lus.values()), LUS)
+        expect("what is printed", (service.folder / "out").read_text(), config.read_text())
+        os.kill(service.process_of(2), signal.SIGKILL)
+        others = [it for it in terminals if LUS.index(lus[it]) % PROCESSES != 1]
+        all_at_once(lambda it=it: works_on(it, lus[it]) for it in others)
+        lost = [it for it in terminals if it not in others]
+        for it in lost:
+            hosts.until("a session of the killed process ends", lambda it=it: not it.is_connected())
+        all_at_once(lambda it=it: lus.update({it: service.connects(it)}) for it in lost)
+        expect("the LUs granted", sorted(lus.values()), LUS)
+        expect("sessions of other processes that went on", all(it.is_connected() for it in others), True)
+        first = next(it for it in terminals if lus[it] == "LU002")
+        first.does("Disconnect")
+        expect("its LU by name", service.connects(first, "LU002@", service.port + 3), "LU002")
+
+
+@check
+def a_text_that_cannot_be_dealt_out_is_refused():
+    """Three processes can't have 200 LUs: 64 each."""
+    with tempfile.TemporaryDirectory() as folder, Service(folder, "--processes", "3") as service:
+        expect("its status", service.process.wait(hosts.PATIENCE), 1)
+        said = (service.folder / "said").read_text()
+        expect("what it says", bool(re.search(r"1 to 64 LUs for each of 3 processes", said)), True)
+
+
+def cases():
+    is_wanted("s3270", "haproxy")
+    return check.cases()
