@@ -140,6 +140,18 @@ def a_wrong_head_closes():
 
 
 @check
+def a_head_that_is_not_expected_closes():
+    """Without the option a connection ends that begins with a head, or else not with IAC."""
+    for head in (HEADS["a line of TCP4"][0], HEADS["a block of IPv4"][0], b"GET / HTTP/1.1\r\n"):
+        with Server("serve") as host:
+            client = host.client()
+            client.says(head)
+            client.hears(DO)
+            client.hears_the_end()
+            host.has_logged(event(0, client, "connected"), event(0, client, "lost"))
+
+
+@check
 def a_connection_that_leaves_before_its_head_is_logged():
     """A connection that ends or fails before its head is complete is logged."""
     with Server("serve", "--proxy-protocol") as host:

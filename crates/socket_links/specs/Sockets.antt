@@ -1,6 +1,6 @@
 -- The connections of a host over sockets (our profile): the socket of each connection number, and the effect of a read
 -- and a write.
-use Rattle.std.specs.Prelude.{◌≡◌, ◌≢◌, ◌<◌, ◌≤◌, ◌+◌, ◌-◌, ◌^◌, min, ◌&&◌, ◌||◌, ⊤, ℕ, Bool, true, false, not, ltb, List, [], length, replicate, slice_set, slice_index_or, Option, Some, None, is_some, Result}
+use Rattle.std.specs.Prelude.{◌≡◌, ◌≢◌, ◌<◌, ◌≤◌, ◌+◌, ◌-◌, ◌^◌, min, ◌&&◌, ◌||◌, ◌==◌, ⊤, ℕ, Bool, true, false, not, ltb, List, [], length, replicate, slice_index, slice_set, slice_index_or, Option, Some, None, is_some, Result}
 use Rattle.std.specs.declared.io.Error.{Error}
 use Rattle.host_core.specs.State.{Host, most_connections, phase_of, state_at}
 use Rattle.host_core.specs.declared.links.LinkRead.{LinkRead}
@@ -57,6 +57,10 @@ Raises false old new = (old ≡ last_count) × (new ≡ old)
 abbrev pub counted : (count more : ℕ) → ℕ
 counted count more = min (count + more) last_count
 
+-- whether these can be the first bytes of a terminal, which agrees on TN3270E by options, each behind IAC (RFC 854)
+abbrev pub begins_with_iac : List ℕ → Bool
+begins_with_iac bytes = slice_index bytes 0 == 255
+
 -- ---- one call of a socket
 
 -- holds for at least one byte, and at most as many as there is room for
@@ -99,14 +103,20 @@ module _ {S : Type 0} where
     pub once : IsReadOnce gave socket room bytes link_result after
     pub keeps_socket : new.socket ≡ Some after
 
+  -- holds if a read fails: that of the socket fails, or the first byte of the connection isn't IAC
+  pub data FailsToRead (gave : S → ℕ → List ℕ → Result ℕ Error → S → Type 0) (old : SocketSlot S) (room : ℕ)
+      (new : SocketSlot S) : Type 0 where
+    read_fails : ReadsSocket gave old room [] read.Failed new → FailsToRead gave old room new
+    no_telnet : (bytes : List ℕ) (count : ℕ) → ReadsSocket gave old room bytes (read.Got count) new → old.received ≡ 0
+        → begins_with_iac bytes ≡ false → FailsToRead gave old room new
+
   -- Holds if a read gives nothing: the socket isn't read, has nothing now, or a count of ends or failures can't rise.
   pub data GivesNothing (gave : S → ℕ → List ℕ → Result ℕ Error → S → Type 0) (old : SocketSlot S) (room : ℕ)
       (new : SocketSlot S) : Type 0 where
     unread : may_be_read old room ≡ false → new.socket ≡ old.socket → GivesNothing gave old room new
     gives_not_now : ReadsSocket gave old room [] read.NotNow new → GivesNothing gave old room new
     end_uncounted : ReadsSocket gave old room [] read.Ended new → old.ends ≡ last_count → GivesNothing gave old room new
-    failure_uncounted : ReadsSocket gave old room [] read.Failed new → old.failures ≡ last_count
-        → GivesNothing gave old room new
+    failure_uncounted : FailsToRead gave old room new → old.failures ≡ last_count → GivesNothing gave old room new
 
   -- Holds for a read and the slot after it. The bytes received are counted; an end or a failure raises its own count.
   abbrev pub Gives : (gave : S → ℕ → List ℕ → Result ℕ Error → S → Type 0) → SocketSlot S → ℕ → List ℕ → LinkRead
@@ -115,13 +125,14 @@ module _ {S : Type 0} where
       × (0 < count) × (length bytes ≡ count) × (new.waiting ≡ old.waiting) × (new.ends ≡ old.ends)
       × (new.failures ≡ old.failures)
       × (new.received ≡ counted old.received count) × (new.sent ≡ old.sent)
+      × (old.received ≡ 0 → begins_with_iac bytes ≡ true)
   Gives gave old room bytes read.NotNow new = GivesNothing gave old room new
       × (bytes ≡ []) × (new.waiting ≡ old.waiting) × (new.ends ≡ old.ends) × (new.failures ≡ old.failures)
       × (new.received ≡ old.received) × (new.sent ≡ old.sent)
   Gives gave old room bytes read.Ended new = ReadsSocket gave old room bytes read.Ended new
       × (bytes ≡ []) × (new.waiting ≡ old.waiting) × (new.ends ≡ old.ends + 1) × (new.failures ≡ old.failures)
       × (new.received ≡ old.received) × (new.sent ≡ old.sent)
-  Gives gave old room bytes read.Failed new = ReadsSocket gave old room bytes read.Failed new
+  Gives gave old room bytes read.Failed new = FailsToRead gave old room new
       × (bytes ≡ []) × (new.waiting ≡ old.waiting) × (new.ends ≡ old.ends) × (new.failures ≡ old.failures + 1)
       × (new.received ≡ old.received) × (new.sent ≡ old.sent)
 

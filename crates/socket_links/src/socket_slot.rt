@@ -1,8 +1,8 @@
 //! The slot of a connection number: the socket of its connection, if there is one, and its counts.
-ghost use Rattle.std.specs.Prelude.{◌≡◌, true, false, length};
+ghost use Rattle.std.specs.Prelude.{◌≡◌, ◌<◌, ◌==◌, ◌&&◌, true, false, not, length};
 ghost use Rattle.host_core.specs.Serves.{GotWithin, TookWithin, bytes_got};
 ghost use Rattle.job_streams.specs.RawCalls.{is_transient, link_read, link_write};
-ghost use Rattle.socket_links.specs.Sockets.{IsValidReadCount, Gives, IsReadOnce, IsWrittenOnce, Raises, Takes, TookSome, counted, emptied, is_connected, is_held_back, opened, unused, with_waiting};
+ghost use Rattle.socket_links.specs.Sockets.{IsValidReadCount, Gives, IsReadOnce, IsWrittenOnce, Raises, Takes, TookSome, begins_with_iac, counted, emptied, is_connected, is_held_back, opened, unused, with_waiting};
 
 use host_core::{LinkRead, LinkWrite};
 use job_streams::{RawRead, RawWrite};
@@ -13,6 +13,9 @@ use std::net::SocketAddr;
 
 /// Reads of a connection pause while more bytes than this are unsent on it.
 const MOST_WAITING: usize = 65_536;
+
+/// Interpret As Command, the byte before each command (RFC 854).
+const IAC: u8 = 255;
 
 /// Whether unsent output exceeds `MOST_WAITING`, which pauses reads. TCP's flow control then stops the peer.
 fn is_held_back(waiting: usize) -> bool
@@ -67,6 +70,14 @@ pub fn write_once<S: RawWrite>(socket: &mut S, bytes: &[u8]) -> LinkWrite
     ensures once { IsWrittenOnce S.write_took socket.old bytes.now result socket.new }
 {
     link_write(socket.write_once(bytes))
+}
+
+/// Whether bytes that came aren't a terminal's: nothing came before, and the first byte isn't IAC (RFC 854).
+fn is_no_telnet(received: u64, bytes: &[u8]) -> bool
+    requires { 0 < length bytes.now }
+    ensures { result ≡ (received == 0 && not (begins_with_iac bytes.now)) }
+{
+    received == 0 && bytes[0] != IAC
 }
 
 /// Raises a count by one, unless it is at its greatest value. Answers whether it did.
@@ -209,6 +220,13 @@ impl<S: RawRead + RawWrite + Drop> SocketSlot<S> {
         };
         match read_once(socket, buffer) {
             LinkRead::Got(count) => {
+                if is_no_telnet(self.received, &buffer[..count]) {
+                    return if raise(&mut self.failures) {
+                        LinkRead::Failed
+                    } else {
+                        LinkRead::NotNow
+                    };
+                }
                 add_bytes(&mut self.received, count);
                 LinkRead::Got(count)
             }
