@@ -271,6 +271,15 @@ def module_of(path: pathlib.Path, source: pathlib.Path) -> list[str]:
     return [] if names in (["lib"], ["main"]) else names
 
 
+def path_of(function: re.Match[str], module: list[str], owners: dict[str, list[str]]) -> str:
+    """The path of a function of a module below the crate; none if a trait or its `impl` has it."""
+    if not function["indent"]:
+        return "::".join([*module, function["name"]])
+    items = re.findall(r"^\w.*", function.string[: function.start()], re.MULTILINE)
+    of = INHERENT.fullmatch(items[-1])
+    return "::".join([*owners[of[1]], function["name"]]) if of else ""
+
+
 def cut_others(kept: set[str], room: pathlib.Path) -> None:
     """Cuts each function of a copy but these: it gets a body that calls nothing, and a file without
     a proof, so that none is looked for. What the `impl` of a trait has stays, a `const fn`, and a
@@ -282,23 +291,20 @@ def cut_others(kept: set[str], room: pathlib.Path) -> None:
         for path, text in texts.items()
         for name in TYPE.findall(text)
     }
+
+    def cut(module: list[str], function: re.Match[str]) -> str:
+        path = path_of(function, module, owners)
+        if not path or path in kept:
+            return function[0]
+        proof = room / proofs_of(path)
+        shutil.rmtree(proof, ignore_errors=True)
+        proof.mkdir(parents=True)
+        (proof / "Proof.antt").touch()
+        return f"{function['head']}{{ unreachable!() }}\n"
+
     for path, text in texts.items():
-
-        def cut(found: re.Match[str]) -> str:
-            item = re.findall(r"^\w.*", text[: found.start()], re.MULTILINE)[-1:]
-            of = INHERENT.fullmatch("".join(item)) if found["indent"] else None
-            if found["indent"] and not of:
-                return found[0]
-            function = "::".join([*(owners[of[1]] if of else module_of(path, source)), found["name"]])
-            if function in kept:
-                return found[0]
-            proof = room / proofs_of(function)
-            shutil.rmtree(proof, ignore_errors=True)
-            proof.mkdir(parents=True)
-            (proof / "Proof.antt").touch()
-            return f"{found['head']}{{ unreachable!() }}\n"
-
-        path.write_text(FUNCTION.sub(cut, text), encoding="utf-8")
+        cut_here = functools.partial(cut, module_of(path, source))
+        path.write_text(FUNCTION.sub(cut_here, text), encoding="utf-8")
 
 
 def uses() -> dict[str, list[str]]:
