@@ -21,14 +21,14 @@ invariant that is written for it (proofs/F/Invariants.antt): a correct body of a
 same effect. A line `    answers: none` has a mistake tried without the answers of its function, so
 that the prover looks for values at which their goals are false.
 
-A check proves what the mistakes' functions call, too, and what that calls. So a page names
-functions that are cut: in the copy they have their contracts, a body that calls nothing, and no
-proof. Only the first round has cuts: what isn't refused then is tried again in the crate as it is.
+A check proves what the mistakes' functions call, too, and what that calls. So in the first round
+each other function of the crate is cut: it has its contract, a body that calls nothing, and no
+proof. What isn't refused then is tried again in the crate as it is. The function that stays has to
+be one that calls no other of its crate.
 
 `tests/run -k "wrong_bodies CRATE WORD .."` tries those of a crate whose headings have these words.
-A page has a line `    stays: FUNCTION`, for each cut
-lines `    cut: FUNCTION`, `    file: src/FILE` and `    body: TEXT`, and for each mistake a
-           heading, a line `    function: FUNCTION`, and pairs
+A page has a line `    stays: FUNCTION`, and for each mistake a heading, a line
+`    function: FUNCTION`, and pairs
 `    old: TEXT`, `    new: TEXT` behind a line `    file: src/FILE`: each TEXT is one line or a part
                       of it, and the old one stands in that file once. FUNCTION
 is a path below the crate. A line `    beside: the others` says of a mistake in a constant that no
@@ -57,6 +57,14 @@ LONG, BY_FILE, SECONDS = True, True, 7200
 PAGE = "must-fail/wrong-bodies.md"
 # What is put behind the name of a function for one more that has another mistake.
 AGAIN = "_again"
+# A type, the head of an `impl` without a trait, and a function with a contract.
+TYPE = re.compile(r"^(?:pub(?:\(\w+\))? )?(?:struct|enum) (\w+)", re.MULTILINE)
+INHERENT = re.compile(r"impl(?:<.*>)? (\w+)(?:<.*>)? \{")
+FUNCTION = re.compile(
+    r"^(?P<head>(?P<indent> *)(?:pub(?:\(\w+\))? )?fn (?P<name>\w+)\b.*\n"
+    r"(?:(?:(?P=indent)[ )].*)?\n)*?(?P=indent))\{\n(?:.*\n)*?(?P=indent)\}\n",
+    re.MULTILINE,
+)
 
 
 @dataclass
@@ -90,23 +98,12 @@ def stands_in(text: str, part: str, function: str) -> bool:
 
 
 @dataclass
-class Cut:
-    """A function that mistakes' functions call, and the body that it has in place of its own: one
-    that calls nothing."""
-
-    function: str
-    file: str = ""
-    body: str = ""
-
-
-@dataclass
 class Page:
-    """The wrong bodies of a crate, a function that stays, and those that are cut."""
+    """The wrong bodies of a crate, and a function that stays."""
 
     crate: str
     stays: str
     mistakes: list[Mistake]
-    cuts: list[Cut] = field(default_factory=list)
 
 
 @dataclass
@@ -178,10 +175,6 @@ def page_of(crate: str) -> Page:
         key, _, text = line[4:].partition(": ") if line.startswith("    ") else ("", "", "")
         if key == "stays":
             page.stays = text
-        elif key == "cut":
-            page.cuts.append(Cut(text))
-        elif key in ("body", "body:"):
-            page.cuts[-1].file, page.cuts[-1].body = file, text
         elif key == "function":
             page.mistakes[-1].function = text
         elif key == "beside":
@@ -194,14 +187,7 @@ def page_of(crate: str) -> Page:
             old = text
         elif key in ("new", "new:"):
             page.mistakes[-1].changes.append((file, old, text))
-    lacking = [it.title for it in page.mistakes if not it.function or not it.changes] + [
-        it.function for it in page.cuts if not it.file
-    ]
-    kept = {page.stays, *[it.function for it in page.mistakes]} & {it.function for it in page.cuts}
-    if kept:
-        raise BadCase(
-            f"{', '.join(kept)} can't be cut: it is asked for", Place(f"crates/{crate}/{PAGE}", 1)
-        )
+    lacking = [it.title for it in page.mistakes if not it.function or not it.changes]
     if lacking or page.stays in ["", *[it.function for it in page.mistakes]] or not page.mistakes:
         raise BadCase(
             f"{', '.join(lacking) or 'the page'} lacks a line", Place(f"crates/{crate}/{PAGE}", 1)
@@ -279,21 +265,46 @@ def put_beside(mistake: Mistake, crate: str, room: pathlib.Path, again: str) -> 
     return True
 
 
-def put_cut(cut: Cut, room: pathlib.Path) -> bool:
-    """Cuts a function of a copy, if it is there: it gets its other body, and a file without a
-    proof, so that none is looked for."""
-    text, proof = (room / cut.file).read_text(encoding="utf-8"), room / proofs_of(cut.function)
-    whole = text_of(cut.function, text)
-    body = re.search(r"^( *)\{\n.*^\1\}\n\Z", whole, re.MULTILINE | re.DOTALL)
-    if not body:
-        return False
-    (room / cut.file).write_text(
-        text.replace(whole, f"{whole[: body.start()]}{body[1]}{{ {cut.body} }}\n"), encoding="utf-8"
-    )
-    shutil.rmtree(proof, ignore_errors=True)
-    proof.mkdir(parents=True)
-    (proof / "Proof.antt").touch()
-    return True
+def module_of(path: pathlib.Path, source: pathlib.Path) -> list[str]:
+    """The names of a file's module."""
+    names = list(path.relative_to(source).with_suffix("").parts)
+    return [] if names in (["lib"], ["main"]) else names
+
+
+def path_of(function: re.Match[str], module: list[str], owners: dict[str, list[str]]) -> str:
+    """The path of a function of a module below the crate; none if a trait or its `impl` has it."""
+    if not function["indent"]:
+        return "::".join([*module, function["name"]])
+    items = re.findall(r"^\w.*", function.string[: function.start()], re.MULTILINE)
+    of = INHERENT.fullmatch(items[-1])
+    return "::".join([*owners[of[1]], function["name"]]) if of else ""
+
+
+def cut_others(kept: set[str], room: pathlib.Path) -> None:
+    """Cuts each function of a copy but these: it gets a body that calls nothing, and a file without
+    a proof, so that none is looked for. What the `impl` of a trait has stays, a `const fn`, and a
+    function without a contract."""
+    source = room / "src"
+    texts = {path: path.read_text(encoding="utf-8") for path in source.rglob("*.rt")}
+    owners = {
+        name: [*module_of(path, source), name]
+        for path, text in texts.items()
+        for name in TYPE.findall(text)
+    }
+
+    def cut(module: list[str], function: re.Match[str]) -> str:
+        path = path_of(function, module, owners)
+        if not path or path in kept:
+            return function[0]
+        proof = room / proofs_of(path)
+        shutil.rmtree(proof, ignore_errors=True)
+        proof.mkdir(parents=True)
+        (proof / "Proof.antt").touch()
+        return f"{function['head']}{{ unreachable!() }}\n"
+
+    for path, text in texts.items():
+        cut_here = functools.partial(cut, module_of(path, source))
+        path.write_text(FUNCTION.sub(cut_here, text), encoding="utf-8")
 
 
 def uses() -> dict[str, list[str]]:
@@ -389,11 +400,12 @@ def said_of(crate: str, functions: list[str], room: pathlib.Path) -> str:
 
 
 def tried(
-    page: Page, mistakes: list[Mistake], cuts: list[Cut], room: pathlib.Path
+    page: Page, mistakes: list[Mistake], is_cut: bool, room: pathlib.Path
 ) -> tuple[dict[str, Mistake], dict[str, Verdict], str]:
-    """Checks a copy of the crate with these cuts and with those of these mistakes that go together.
-    Which went, by the function that each was put into, what was said by function, and all that was
-    said. What an earlier check proved there and the mistakes leave as it was isn't proved again."""
+    """Checks a copy of the crate with those of these mistakes that go together; if it is cut, then
+    without its other functions. Which went, by the function that each was put into, what was said
+    by function, and all that was said. What an earlier check proved there and the mistakes leave as
+    it was isn't proved again."""
     together: dict[str, Mistake] = {}
     for part in ("src", "specs", "proofs"):
         shutil.rmtree(room / part, ignore_errors=True)
@@ -405,12 +417,8 @@ def tried(
         again = AGAIN * sum(it.function == mistake.function for it in together.values())
         if put_beside(mistake, page.crate, room, again) if again else put(mistake, room):
             together[mistake.function + again] = mistake
-    lacking = [it.function for it in cuts if not put_cut(it, room)]
-    if lacking:
-        raise BadCase(
-            f"{', '.join(lacking)}, to be cut, isn't in its file",
-            Place(f"crates/{page.crate}/{PAGE}", 1),
-        )
+    if is_cut:
+        cut_others({page.stays, *together}, room)
     text = said_of(page.crate, [page.stays, *together], room)
     return together, verdicts(page.crate, text), text
 
@@ -424,9 +432,9 @@ def faults_of(page: Page) -> dict[Place, str]:
 
 def faults_in(page: Page, room: pathlib.Path) -> dict[Place, str]:
     """Tries a crate's mistakes in a folder: what is wrong with those that aren't refused."""
-    left, cuts, faults, at_once = page.mistakes, page.cuts, {}, None
+    left, is_cut, faults, at_once = page.mistakes, True, {}, None
     while left:
-        together, said, text = tried(page, left[:at_once], cuts, room)
+        together, said, text = tried(page, left[:at_once], is_cut, room)
         if not together:
             return faults | {
                 left[0].at: "an old text isn't there once, or is the new one"
@@ -445,8 +453,8 @@ def faults_in(page: Page, room: pathlib.Path) -> dict[Place, str]:
                 faults[mistake.at] = f"{mistake.function}: {verdict.without_evidence()}"
                 settled.append(mistake)
         left = [it for it in left if it not in settled]
-        at_once = None if settled or cuts else 1
-        cuts = []
+        at_once = None if settled or is_cut else 1
+        is_cut = False
     return faults
 
 

@@ -14,15 +14,15 @@ returns-then-is_no_telnet-clause-gives g c =
     let first : c.args.self.now.received ≡ 0 = search rules in
     let foreign : begins_with_iac came ≡ false = search rules in
     let fails : (new : SocketSlot _) → new.socket ≡ Some c.read_once.new.socket
-        → FailsToRead g.S.RawRead.read_gave c.args.self.now (length c.read_once.new.buffer) new =
-        λ new keeps. no_telnet came c.in-Got.count (record {
-          socket = c.in-Some.socket;
-          after = c.read_once.new.socket;
-          has_socket = search rules;
-          may = search rules;
-          once = search rules;
-          keeps_socket = keeps;
-        }) first foreign in
+    → FailsToRead g.S.RawRead.read_gave c.args.self.now (length c.read_once.new.buffer) new =
+    λ new keeps. no_telnet came c.in-Got.count (record {
+      socket = c.in-Some.socket;
+      after = c.read_once.new.socket;
+      has_socket = search rules;
+      may = search rules;
+      once = search rules;
+      keeps_socket = keeps;
+    }) first foreign in
     let new : SocketSlot _ = record {
       socket = Some c.read_once.new.socket;
       waiting = c.self.inside.waiting;
@@ -32,12 +32,12 @@ returns-then-is_no_telnet-clause-gives g c =
       sent = c.self.inside.sent;
     } in
     let gives : LinkRead → Type 0 =
-        λ it. Gives g.S.RawRead.read_gave c.args.self.now (length c.read_once.new.buffer) (bytes_got it c.read_once.new.buffer) it new in
+    λ it. Gives g.S.RawRead.read_gave c.args.self.now (length c.read_once.new.buffer) (bytes_got it c.read_once.new.buffer) it new in
     elim c.if-raise.branch [
-    | then-raise w ↦
-        subst gives (sym w.result-is)
-        (fails new refl, refl, search rules, search rules, search rules, search rules, search rules)
-    | else-raise w ↦
-        subst gives (sym w.result-is)
-        (failure_uncounted (fails new refl) search rules, refl, search rules, search rules, search rules, search rules, search rules)
+      | then-raise w ↦
+          subst gives (sym w.result-is)
+          (fails new refl, refl, search rules, search rules, search rules, search rules, search rules)
+      | else-raise w ↦
+          subst gives (sym w.result-is)
+          (failure_uncounted (fails new refl) search rules, refl, search rules, search rules, search rules, search rules, search rules)
     ]
