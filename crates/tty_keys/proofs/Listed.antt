@@ -10,7 +10,7 @@ use Rattle.std.proofs.lemmas.Slice.Eq.{bytes_eq-Decides}
 use Rattle.keyboard.specs.declared.key.Key.{Key as BoardKey}
 use Rattle.keyboard.specs.declared.key.Key.TheVariants.{Char, Tab, Pf, Pa}
 use Rattle.tty_keys.specs.declared.keystroke.Keystroke.{Keystroke}
-use Rattle.tty_keys.specs.declared.keystroke.Keystroke.TheVariants.{Key, Help, Size, Unknown}
+use Rattle.tty_keys.specs.declared.keystroke.Keystroke.TheVariants.{Key, Help, Unknown}
 use Rattle.tty_keys.specs.Table.{pf_sequences, pa_sequences, other_sequences, other_keys, place_of, key_or, escaped, meaning, size_report}
 use Rattle.tty_keys.specs.Laws.{one, SequencesAreRead, SequencesTypeNothing}
 use Rattle.tty_keys.proofs.Reports.{IsReported, report_is, report_is_read}
@@ -69,7 +69,7 @@ known_is_read sequence known =
     (λ place found. passes_at is_read other_sequences sequence place refl found)
     (λ found. passes is_read (codes "?" ∷ []) sequence refl found)
     (λ known. let read = report_is_read sequence known in
-        and_from (is_single [] (0x1B ∷ sequence)) (nat_le (length sequence) 11) read.0 (le-leb (length sequence) 11 (omega (arith, read.1))))
+    and_from (is_single [] (0x1B ∷ sequence)) (nat_le (length sequence) 11) read.0 (le-leb (length sequence) 11 (omega (arith, read.1))))
     known
 
 pub sequences_are_read : SequencesAreRead

@@ -1,16 +1,12 @@
 -- A control sequence of any length is one keystroke, and a control character breaks off what isn't complete.
-use Rattle.std.proofs.Common.{◌≡◌, ◌≢◌, ℕ, Bool, true, false, not, List, [], ◌∷◌, ◌++◌, take, refl, ap, sym, ◌∙◌, inl, inr, arith}
-use Rattle.std.specs.Prelude.{◌==◌}
+use Rattle.std.proofs.Common.{◌≡◌, ◌≢◌, ℕ, true, false, List, [], ◌∷◌, ◌++◌, refl, ap, sym, ◌∙◌, inl, inr, arith}
 use Rattle.std.specs.Char.{is_ascii_control}
-use Rattle.std.specs.Int.{IsInRange}
-use Rattle.std.specs.List.{AllByRecursion}
-use Rattle.std.proofs.lemmas.Bool.{cases_eq, false≢true}
+use Rattle.std.proofs.lemmas.Bool.{cases_eq}
 use Rattle.std.proofs.lemmas.Bool.Decides.{nat_tests}
 use Rattle.tty_keys.specs.declared.keystroke.Keystroke.TheVariants.{Key}
 use Rattle.keyboard.specs.declared.key.Key.TheVariants.{Char}
 use Rattle.tty_keys.specs.Table.{meaning}
-use Rattle.tty_keys.specs.Forms.{completes, may_continue}
-use Rattle.tty_keys.specs.Reading.{grown}
+use Rattle.tty_keys.specs.Forms.{may_continue}
 use Rattle.tty_keys.specs.Laws.{ControlSequencesAreOne, ControlsBreakOff}
 use Rattle.tty_keys.proofs.ControlSequences.{single_csi}
 use Rattle.tty_keys.proofs.Single.{all_grown, keeps_first, single_read}

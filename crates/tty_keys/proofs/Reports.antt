@@ -1,12 +1,12 @@
 -- A tty's report of its size is one keystroke, and types nothing.
-use Rattle.std.proofs.Common.{◌≡◌, ◌≢◌, ℕ, zero, suc, ◌+◌, ◌-◌, ◌<◌, ◌≤◌, Bool, true, false, ◌&&◌, nat_lt, nat_le, List, [], ◌∷◌, ◌++◌, drop, length, take, get_or, Option, Some, None, refl, ap, sym, subst, ◌∙◌, inl, inr, arith, length-append}
+use Rattle.std.proofs.Common.{◌≡◌, ◌≢◌, ℕ, suc, ◌+◌, ◌-◌, ◌<◌, ◌≤◌, Bool, true, false, ◌&&◌, nat_lt, List, [], ◌∷◌, ◌++◌, drop, length, take, get_or, Option, Some, None, refl, ap, sym, subst, ◌∙◌, arith, length-append}
 use Rattle.std.specs.Prelude.{◌==◌, if◌then◌else◌}
 use Rattle.std.specs.Int.{IsInRange}
 use Rattle.std.specs.List.{AllByRecursion, position}
 use Rattle.std.specs.Char.{is_ascii_digit}
 use Rattle.std.specs.Str.{all_ascii_digits}
 use Rattle.std.specs.Str.Parse.{digits_value}
-use Rattle.std.proofs.lemmas.Bool.{and_parts, false≢true, ltb-true}
+use Rattle.std.proofs.lemmas.Bool.{and_parts, ltb-true}
 use Rattle.std.proofs.lemmas.Bool.Decides.{nat_tests}
 use Rattle.std.proofs.lemmas.List.{drop_more, take-append-drop}
 use Rattle.std.proofs.lemmas.List.Quantifiers.{position-Some}
@@ -61,9 +61,10 @@ halves_are parameters (Some place) found known =
     let middle : IsInRange 0x20 0x3F (get_or parameters place 0) = grind (arith, nat_tests, at.1) in
     let whole : parameters ≡ front ++ (get_or parameters place 0 ∷ back) =
     sym (take-append-drop place parameters) ∙ ap (λ (rest : List ℕ). front ++ rest) (drop_more parameters place 0 at.0) in
-    let long = length-append front (get_or parameters place 0 ∷ back) in
-    (subst Parameters (sym whole) (joined_are front (get_or parameters place 0 ∷ back) rows.0 (middle, columns.0)),
-    subst (λ (it : List ℕ). length it ≤ 7) (sym whole) (omega (arith, long, rows.1, columns.1)))
+    let long = length-append front (get_or parameters place 0 ∷ back) in (
+      subst Parameters (sym whole) (joined_are front (get_or parameters place 0 ∷ back) rows.0 (middle, columns.0)),
+      subst (λ (it : List ℕ). length it ≤ 7) (sym whole) (omega (arith, long, rows.1, columns.1)),
+    )
 
 parameters_are : (parameters : List ℕ) → reported parameters ≢ Unknown → Parameters parameters × (length parameters ≤ 7)
 parameters_are parameters known = halves_are parameters (position is_semicolon parameters) refl known
@@ -112,9 +113,10 @@ report_by true sequence is known =
     let are = parameters_are parameters known in
     let shape = report_shape sequence is in
     let final : IsInRange 0x40 0x7E 0x52 = (omega arith, omega arith) in
-    let long = length-append parameters (0x52 ∷ []) in
-    (subst (λ (it : List ℕ). is_single [] (0x1B ∷ it) ≡ true) (sym shape) (single_csi parameters 0x52 are.0 final (λ none. λ same. absurd (omega (arith, same)))),
-    subst (λ (it : List ℕ). length it ≤ 9) (sym shape) (omega (arith, long, are.1)))
+    let long = length-append parameters (0x52 ∷ []) in (
+      subst (λ (it : List ℕ). is_single [] (0x1B ∷ it) ≡ true) (sym shape) (single_csi parameters 0x52 are.0 final (λ none. λ same. absurd (omega (arith, same)))),
+      subst (λ (it : List ℕ). length it ≤ 9) (sym shape) (omega (arith, long, are.1)),
+    )
 
 pub report_is_read : (sequence : List ℕ) → size_report sequence ≢ Unknown → (is_single [] (0x1B ∷ sequence) ≡ true) × (length sequence ≤ 9)
 report_is_read sequence known = report_by (is_report sequence) sequence refl known

@@ -114,7 +114,9 @@ fn side(hundreds: u8, tens: u8, ones: u8) -> Option<u16>
     if !(hundreds.is_ascii_digit() && tens.is_ascii_digit() && ones.is_ascii_digit()) {
         return None;
     }
-    let side = u16::from(hundreds - b'0') * 100 + u16::from(tens - b'0') * 10 + u16::from(ones - b'0');
+    let side = u16::from(hundreds - b'0') * 100
+        + u16::from(tens - b'0') * 10
+        + u16::from(ones - b'0');
     if side > 0 { Some(side) } else { None }
 }
 

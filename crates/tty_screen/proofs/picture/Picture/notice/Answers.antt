@@ -1,7 +1,8 @@
-use Rattle.std.proofs.Common.{◌≡◌, ◌++◌, ◌∙◌, ℕ, ◌*◌, ◌<◌, List, length, ap}
+use Rattle.std.proofs.Common.{◌≡◌, ◌++◌, ◌∙◌, ℕ, ◌*◌, List, length, ap}
 use Rattle.std.specs.List.{list_all}
 use Rattle.tty_screen.specs.declared.picture.PictureCell.{PictureCell}
 use Rattle.tty_screen.specs.Pictures.{has_graphic}
+use Rattle.tty_screen.specs.Painting.{notice_of}
 use Rattle.tty_screen.specs.StatusRow.{in_columns}
 use Rattle.tty_screen.proofs.Columns.{columns_counted, notice_made}
 use Rattle.tty_screen.proofs.Graphics.{text_graphic}
@@ -11,7 +12,7 @@ pub invariant_of-result : goal.invariant_of-result
 invariant_of-result c =
     let rows = c.notice_side-rows.result in
     let columns = c.notice_side-columns.result in
-    let text = c.args.text.now in
+    let text = c.as_bytes.result.now in
     let cells : c.put_text.new.cells.items ≡ in_columns (rows * columns) text =
     c.in_ok-put_text.ensures ∙ ap (λ (items : List PictureCell). items ++ in_columns (rows * columns) text) c.new-cells.ensures.items in
     record {
@@ -27,6 +28,7 @@ pub returns : goal.returns
 returns c =
     let rows = c.notice_side-rows.result in
     let columns = c.notice_side-columns.result in
-    let text = c.args.text.now in
+    let text = c.as_bytes.result.now in
     notice_made c.args.tty_rows c.args.tty_columns text rows columns c.put_text.new.cells.items c.notice_side-rows.ensures.value c.notice_side-columns.ensures.value
     (c.in_ok-put_text.ensures ∙ ap (λ (items : List PictureCell). items ++ in_columns (rows * columns) text) c.new-cells.ensures.items)
+    ∙ ap (λ (it : List ℕ). notice_of c.args.tty_rows c.args.tty_columns it) c.as_bytes.ensures.value
