@@ -35,7 +35,7 @@ BANK = TOP / "examples/bank.toml"
 
 ENTER, TAB, HOME, LEFT = b"\r", b"\t", b"\x1b[H", b"\x1b[D"
 RESET, ERASE_EOF, REDRAW, QUIT = b"\x12", b"\x05", b"\x0c", b"\x1d"
-STATUS, KEYS, READY = b"\x14", b"\x1b?", b"\x1b[0n"
+STATUS, KEYS = b"\x14", b"\x1b?"
 BACK_TAB, INSERT, PF3, CLEAR = b"\x1b[Z", b"\x1b[2~", b"\x1bOR", b"\x03"
 
 # ---- what a host says: RFC 1647, and GA23-0059 for the commands
@@ -61,7 +61,7 @@ class Screen:
 
     def __init__(self, rows, columns):
         self.rows, self.columns = rows, columns
-        self.alternate, self.bells, self.written, self.asked = False, 0, 0, 0
+        self.alternate, self.bells, self.written, self.reports = False, 0, 0, b""
         self.erase()
 
     def erase(self):
@@ -113,11 +113,14 @@ class Screen:
             return
         if final == b"H":
             row, column = (int(it or 1) for it in (numbers or ";").split(";"))
+            # The way to the last corner: elsewhere a place off the tty is a mistake.
+            if (row, column) == (999, 999):
+                row, column = self.rows, self.columns
             self.row, self.column = row - 1, column - 1
         elif final == b"m":
             self.look = numbers
-        elif final == b"n":
-            self.asked += 1
+        elif final == b"n" and numbers == "6":
+            self.reports += b"\x1b[%d;%dR" % (self.row + 1, self.column + 1)
         elif final == b"J":
             row, column = self.row, self.column
             self.erase()
@@ -180,6 +183,9 @@ class Operator:
         self.written += more
         data = self.kept + more
         self.kept = data[self.screen.takes(data) :]
+        if self.screen.reports:
+            os.write(self.master, self.screen.reports)
+            self.screen.reports = b""
         return True
 
     def types(self, *typed):
@@ -209,15 +215,17 @@ class Operator:
 
     def resizes(self, rows, columns):
         """The window has another size, and its content is lost."""
+        self.screen.rows, self.screen.columns = rows, columns
         self.screen.erase()
         fcntl.ioctl(self.master, termios.TIOCSWINSZ, struct.pack("HHHH", rows, columns, 0, 0))
 
-    def has_status(self, *words):
-        """The status row has these words alone, in this order, and which key shows the keys."""
+    def has_status(self, *words, row=None):
+        """The status row, the last one or this one, has these words alone, in this order, and which
+        key shows the keys."""
         wanted = " ".join((*words[:-1], "ESC ? shows keys", words[-1]))
         self.until(
             f"a status row has {wanted!r}",
-            lambda screen: " ".join(screen.line(screen.rows - 1).split()) == wanted,
+            lambda screen: " ".join(screen.line(row or screen.rows - 1).split()) == wanted,
         )
 
     def ends(self, status, *lines):

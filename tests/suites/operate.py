@@ -32,7 +32,6 @@ from harness.tty import (
     LEFT,
     Operator,
     QUIT,
-    READY,
     REDRAW,
     RESET,
     SCRIPT,
@@ -236,6 +235,16 @@ CONNECTED = put(25, 1, "connected")
 # At first the whole screen, which is blank.
 HINT = put(25, 56, "ESC") + put(25, 60, "?") + put(25, 62, "shows") + put(25, 68, "keys")
 FIRST = ERASE_ALL + CONNECTED + WAITS + HINT + put(25, 73, "001/001") + at(1, 1)
+# Later all, with what was typed.
+ALL = (
+    ERASE_ALL
+    + put(1, 1, "HIABCDE")
+    + CONNECTED
+    + put(25, 41, "PNL01")
+    + HINT
+    + put(25, 73, "001/008")
+    + at(1, 8)
+)
 # Turns of a session: the bytes of the host, those that are typed, and those that the tty is written
 # then. What is written are CUP, SGR and ED (ECMA-48): the cells that changed, and then the cursor's
 # place. The status row is the 25th.
@@ -267,18 +276,11 @@ TURNS = [
         put(1, 5, "CD") + FREE + put(25, 79, "7") + at(1, 7),
     ),
     (b"", b"E", put(1, 7, "E") + put(25, 79, "8") + at(1, 8)),
+    # The tty has 24 rows: all is drawn again, without a status row; and 25 again.
+    (b"", b"\x1b[24;80R", ERASE_ALL + put(1, 1, "HIABCDE") + at(1, 8)),
+    (b"", b"\x1b[25;080R", ALL),
     # The operator has the screen drawn again.
-    (
-        b"",
-        b"\x0c",
-        ERASE_ALL
-        + put(1, 1, "HIABCDE")
-        + CONNECTED
-        + put(25, 41, "PNL01")
-        + HINT
-        + put(25, 73, "001/008")
-        + at(1, 8),
-    ),
+    (b"", b"\x0c", ALL),
 ]
 # All that the terminal sends: its answers, the response to number 0, Enter with the text of a
 # screen without fields (GA23-0059, Read Modified), and the response to number 1.
@@ -509,17 +511,66 @@ def the_table_of_keys_is_shown():
 
 @check
 def a_resized_window_is_drawn_again():
-    """If the size of the window changes, the tty is asked whether it is ready; then all is drawn
-    again."""
-    with bound() as (operator, _):
-        for count in (1, 2):
-            operator.resizes(25, 100 + count)
-            operator.until("the tty is asked", lambda screen, count=count: screen.asked == count)
-            operator.types(READY)
+    """All is drawn again for the new size. The status row is shown if the window has a row for it;
+    if not, it gives way, and Ctrl-T shows it."""
+    with bound() as (operator, host):
+        for rows, columns in ((24, 80), (30, 100), (24, 132), (25, 80), (43, 80)):
+            operator.resizes(rows, columns)
             operator.until("the screen is drawn", lambda screen: screen.line(0) == " HI")
-            operator.has_status("connected", "PNL01", "001/005")
+            if rows == 24:
+                operator.types(REDRAW)
+                operator.until("the screen alone", lambda screen: screen.text() == " HI")
+                operator.types(STATUS)
+            operator.has_status("connected", "PNL01", "001/005", row=min(rows - 1, 24))
+        operator.types("A")
+        operator.until("a character is typed", lambda screen: screen.line(0) == " HI A")
+        host.hears_nothing(0.1)
         operator.types(QUIT)
         operator.ends(0)
+
+
+@check
+def a_window_that_becomes_too_small_says_so():
+    """A window without room for the screens of the model says so, as at the start, from row to row.
+    The terminal works on, and is shown once the window is large again."""
+    needs = "columns, and the screen needs 24 rows of 80"
+    with bound() as (operator, host):
+        for rows, columns, lines in (
+            (23, 80, [f"the tty has 23 rows of 80 {needs}"]),
+            (1, 100, [f"the tty has 1 rows of 100 {needs}"]),
+            (24, 40, ["the tty has 24 rows of 40 columns, and t", "he screen needs 24 rows of 80"]),
+            (2, 20, ["the tty has 2 rows o", "f 20 columns, and th"]),
+        ):
+            operator.resizes(rows, columns)
+            operator.until(
+                "the window is too small",
+                lambda screen, lines=lines: screen.text() == "\n".join(lines),
+            )
+        operator.types("A", KEYS, KEYS, STATUS)
+        operator.resizes(25, 80)
+        operator.until("the screen is drawn", lambda screen: screen.line(0) == " HI A")
+        operator.has_status("connected", "PNL01", "001/006")
+        host.hears_nothing(0.1)
+        operator.resizes(23, 80)
+        operator.sees("the tty has 23 rows of 80")
+        operator.types(QUIT)
+        operator.ends(0)
+    with Host() as host, Operator("--model", 5, host.port, rows=27, columns=132) as operator:
+        host.accepts()
+        operator.resizes(30, 131)
+        operator.sees("the tty has 30 rows of 131 columns, and the screen needs 27 rows of 132")
+
+
+@check
+def modified_f3_is_no_size():
+    """What xterm sends for F3 with Shift is PF15, and with other modifiers nothing, though it has
+    the form of a report of the cursor's place."""
+    with bound() as (operator, host):
+        operator.types("\x1b[1;5R", "\x1b[1;16R", "A")
+        operator.has_status("connected", "PNL01", "001/006")
+        operator.types("\x1b[1;2R")
+        # Number 0: PF15, the cursor at 5, and the field from 4 on.
+        host.hears(bytes.fromhex("00 00 00 00 00 C3 40 C5 11 40 C4 C1 FF EF"))
 
 
 @check

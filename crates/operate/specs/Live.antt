@@ -1,6 +1,6 @@
 -- A live terminal: the effect of bytes from the operator's tty and from the host, and the bytes written to the tty (our
 -- profile).
-use Rattle.std.specs.Prelude.{◌≡◌, ℕ, ◌&&◌, not, Bool, true, false, List, [], ◌∷◌, ◌++◌, length, nat_lt, Option, None, Some, codes, if◌then◌else◌}
+use Rattle.std.specs.Prelude.{◌≡◌, ℕ, ◌&&◌, not, Bool, true, false, List, [], ◌∷◌, ◌++◌, length, nat_le, nat_lt, Option, None, Some, codes, if◌then◌else◌}
 use Rattle.std.specs.Option.{option_to_list}
 use Rattle.keyboard.specs.declared.key.Key.{Key}
 use Rattle.keyboard.specs.declared.key.Key.TheVariants as key
@@ -12,20 +12,24 @@ use Rattle.keyboard.specs.declared.key.Refusal.{Refusal}
 use Rattle.keyboard.specs.declared.key.Refusal.TheVariants as refusal
 use Rattle.term_core.specs.Feeds.{Feeds}
 use Rattle.term_core.specs.Presses.{after_key, answer_to_key}
-use Rattle.term_core.specs.State.{Terminal, new_terminal, phase_of, silenced}
+use Rattle.term_core.specs.State.{Terminal, model_of, new_terminal, phase_of, silenced}
 use Rattle.term_core.specs.declared.phase.TermPhase.{TermPhase}
 use Rattle.term_core.specs.declared.phase.TermPhase.TheVariants as phase
+use Rattle.codes3270.specs.Size.{alternate_of}
 use Rattle.codes3270.specs.declared.size.Model.{Model}
+use Rattle.jobs.specs.declared.tty_size.TtySize.{TtySize}
 use Rattle.tn3270e_msg.specs.declared.cause.Fed.{Fed}
 use Rattle.tn3270e_msg.specs.declared.cause.Stop.TheVariants as stop
 use Rattle.tty_keys.specs.Reading.{after_pause, read_bytes}
 use Rattle.tty_keys.specs.declared.keystroke.Keystroke.{Keystroke}
 use Rattle.tty_keys.specs.declared.keystroke.Keystroke.TheVariants as stroke
 use Rattle.tty_screen.specs.Changes.{drawing_of}
-use Rattle.tty_screen.specs.Painting.{page_of, picture_of}
+use Rattle.tty_screen.specs.Painting.{notice_of, page_of, picture_of}
 use Rattle.tty_screen.specs.Pictures.{PictureParts}
 use Rattle.tty_screen.specs.Spelling.{all_spelt, encoded}
 use Rattle.tty_screen.specs.Tty.{Control}
+use Rattle.tty_screen.specs.TtyRoom.{too_small_text}
+use Rattle.tty_screen.specs.declared.room.TooSmall.{TooSmall}
 use Rattle.tty_screen.specs.declared.status.StatusPlace.{StatusPlace}
 use Rattle.tty_screen.specs.declared.status.StatusPlace.TheVariants as place
 use Rattle.operate.specs.KeyTable.{key_table}
@@ -35,7 +39,7 @@ use Rattle.operate.specs.declared.live.OperatorRequest.{OperatorRequest}
 use Rattle.operate.specs.declared.live.OperatorRequest.TheVariants as asked
 
 -- An operator's seat: the terminal, the keys that were typed ahead, the refusal that the status row shows, what is
--- shown over the screen, what the operator asks of the program, the rows of the tty, and the picture that it shows, if
+-- shown over the screen, what the operator asks of the program, the size of the tty, and the picture that it shows, if
 -- it is known.
 pub record Seat : Type 0 where
   pub terminal : Terminal
@@ -43,7 +47,7 @@ pub record Seat : Type 0 where
   pub refusal : Option Refusal
   pub overlay : Overlay
   pub asks : OperatorRequest
-  pub rows : ℕ
+  pub size : TtySize
   pub shown : Option PictureParts
 
 -- a seat, the bytes of an incomplete keystroke, and the capacity of the terminal's output buffer
@@ -53,14 +57,14 @@ pub record Live : Type 0 where
   pub room : ℕ
 
 -- the seat at the start; it isn't known what the tty shows
-abbrev pub first_seat : Model → (rows : ℕ) → Seat
-first_seat model rows = record {
+abbrev pub first_seat : Model → TtySize → Seat
+first_seat model size = record {
   terminal = new_terminal model;
   typeahead = [];
   refusal = None;
   overlay = over.Nothing;
   asks = asked.Nothing;
-  rows = rows;
+  size = size;
   shown = None;
 }
 
@@ -160,12 +164,17 @@ after_key_at key seat =
     let again : Seat = record seat { overlay = over.Nothing } in
     if is_keys seat.overlay then again else after_typing key again
 
+-- the seat after a report of the tty's size; what a tty shows after a change of its size isn't known
+abbrev pub resized : (rows columns : ℕ) → Seat → Seat
+resized rows columns seat = record seat { size = record { rows = rows; columns = columns }; shown = None }
+
 -- the seat after the action of a keystroke
 abbrev pub after_meaning : Keystroke → Seat → Seat
 after_meaning (stroke.Key key) seat = after_key_at key seat
 after_meaning stroke.Status seat = record seat { overlay = over.Status }
 after_meaning stroke.Help seat = record seat { overlay = after_help seat.overlay }
 after_meaning stroke.Redraw seat = record seat { shown = None }
+after_meaning (stroke.Size rows columns) seat = resized rows columns seat
 after_meaning stroke.Quit seat = record seat { asks = asked.Quit }
 after_meaning stroke.Unknown seat = seat
 
@@ -215,13 +224,32 @@ abbrev pub screen_at : Seat → PictureParts
 screen_at seat =
     let phase = phase_of seat.terminal.link in
     let screen = seat.terminal.station.screen in
-    picture_of (status_place seat.overlay seat.rows screen.size.rows) screen seat.terminal.station.keyboard
+    picture_of (status_place seat.overlay seat.size.rows screen.size.rows) screen seat.terminal.station.keyboard
     (is_connected phase) seat.refusal (lu_place phase)
 
--- the picture that the tty must show
+-- the picture of the screen, or of the table of keys, if that is shown
+abbrev pub page_at : Seat → PictureParts
+page_at seat = if is_keys seat.overlay then page_of seat.terminal.station.screen key_table else screen_at seat
+
+-- why the tty has no room for the screens of the terminal's model, the largest of which has its alternate size
+abbrev pub lack_at : Seat → Option TooSmall
+lack_at seat =
+    let needed = alternate_of (model_of seat.terminal) in
+    if nat_le needed.rows seat.size.rows && nat_le needed.columns seat.size.columns then None
+    else Some (record {
+      rows = seat.size.rows;
+      columns = seat.size.columns;
+      needed_rows = needed.rows;
+      needed_columns = needed.columns;
+    })
+
+-- the picture that the tty must show: a notice, if it is too small
+abbrev pub picture_under : Option TooSmall → Seat → PictureParts
+picture_under None seat = page_at seat
+picture_under (Some lack) seat = notice_of seat.size.rows seat.size.columns (too_small_text lack)
+
 abbrev pub picture_at : Seat → PictureParts
-picture_at seat =
-    if is_keys seat.overlay then page_of seat.terminal.station.screen key_table else screen_at seat
+picture_at seat = picture_under (lack_at seat) seat
 
 -- ---- a turn
 

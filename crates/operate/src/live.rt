@@ -4,12 +4,14 @@ ghost use Rattle.term_core.specs.Presses.{after_key, answer_to_key};
 ghost use Rattle.term_core.specs.Room.{out_room};
 ghost use Rattle.term_core.specs.State.{phase_of, connected, lost, model_of};
 ghost use Rattle.tty_keys.specs.Reading.{read_byte};
-ghost use Rattle.tty_screen.specs.Painting.{page_of};
+ghost use Rattle.tty_screen.specs.Painting.{notice_of, page_of};
+ghost use Rattle.tty_screen.specs.TtyRoom.{too_small_text};
 ghost use Rattle.operate.specs.KeyTable.{key_table};
-ghost use Rattle.operate.specs.Live.{Draws, Hears, ReadsTyped, Resumes, Sounds, TakesTurn, Types, after_help, after_key_at, after_keystroke, after_keystrokes, after_meaning, after_press, after_typing, all_typed, asks_after, first_seat, is_connected, is_enter, is_idle, is_keys, is_quit, is_reset, is_status, is_wait, lu_place, picture_at, refusal_after, screen_at, status_place, waits, with_key};
+ghost use Rattle.operate.specs.Live.{Draws, Hears, ReadsTyped, Resumes, Sounds, TakesTurn, Types, after_help, after_key_at, after_keystroke, after_keystrokes, after_meaning, after_press, after_typing, all_typed, asks_after, first_seat, is_connected, is_enter, is_idle, is_keys, is_quit, is_reset, is_status, is_wait, lack_at, lu_place, page_at, picture_at, refusal_after, resized, screen_at, status_place, waits, with_key};
 
 use crate::key_table::KEY_TABLE;
 use codes3270::Model;
+use jobs::TtySize;
 use keyboard::{Key, Lock, Pressed, Refusal};
 use presentation::Screen;
 use std::alloc::{AllocError, Global};
@@ -17,7 +19,7 @@ use std::marker;
 use term_core::{TermPhase, Terminal};
 use tn3270e_msg::{Lu, Stop};
 use tty_keys::{KeyReader, Keystroke};
-use tty_screen::{Drawing, Picture, Status, StatusPlace, put_bell};
+use tty_screen::{Drawing, Picture, Status, StatusPlace, TooSmall, check_room, put_bell};
 
 /// What an operator asks of the program.
 #[derive(Clone, Copy)]
@@ -48,7 +50,7 @@ const MOST_AHEAD: usize = 256;
 /// of both, and sends and writes what it returns.
 ///
 /// Contracts see its seat (the terminal, the keys that were typed ahead, the refusal that the status row shows, what is
-/// shown over the screen, the operator's request, the rows of the tty, and the picture that it shows), the bytes of an
+/// shown over the screen, the operator's request, the size of the tty, and the picture that it shows), the bytes of an
 /// incomplete keystroke, and the capacity of the terminal's output buffer in bytes.
 #[derive(Drop)]
 pub struct LiveTerminal {
@@ -60,8 +62,7 @@ pub struct LiveTerminal {
     refusal: Option<Refusal>,
     overlay: Overlay,
     asked: OperatorRequest,
-    /// The rows of the tty.
-    rows: usize,
+    size: TtySize,
 }
 
 impl marker::Model for LiveTerminal {
@@ -76,7 +77,7 @@ impl marker::Model for LiveTerminal {
         refusal = live.refusal;
         overlay = live.overlay;
         asks = live.asked;
-        rows = live.rows;
+        size = live.size;
         shown = live.drawing;
       };
       kept = live.reader;
@@ -164,10 +165,10 @@ fn after_help(overlay: Overlay) -> Overlay
 }
 
 /// Where the status row is, if this screen is shown on a tty with this many rows.
-fn status_place(overlay: Overlay, tty_rows: usize, screen: &Screen) -> StatusPlace
+fn status_place(overlay: Overlay, tty_rows: u16, screen: &Screen) -> StatusPlace
     ensures { result ≡ status_place overlay tty_rows screen.now.size.rows }
 {
-    if usize::from(screen.size().rows()) < tty_rows {
+    if screen.size().rows() < tty_rows {
         StatusPlace::Below
     } else if is_status(overlay) {
         StatusPlace::Over
@@ -246,10 +247,10 @@ fn lu_place(phase: &TermPhase) -> &[u8]
 }
 
 impl LiveTerminal {
-    /// A terminal of a model without a connection, at a tty with this many rows. It isn't known what the tty shows. An
-    /// error if memory is refused.
-    pub fn new(alloc: Global, model: Model, rows: u16) -> Result<LiveTerminal, AllocError>
-        ensures seat { IfOk result (λ live. live.seat ≡ first_seat model rows) }
+    /// A terminal of a model without a connection, at a tty of this size. It isn't known what the tty shows. An error if
+    /// memory is refused.
+    pub fn new(alloc: Global, model: Model, size: TtySize) -> Result<LiveTerminal, AllocError>
+        ensures seat { IfOk result (λ live. live.seat ≡ first_seat model size) }
         ensures kept { IfOk result (λ live. live.kept ≡ []) }
     {
         Ok(LiveTerminal {
@@ -260,7 +261,7 @@ impl LiveTerminal {
             refusal: None,
             overlay: Overlay::Nothing,
             asked: OperatorRequest::Nothing,
-            rows: usize::from(rows),
+            size,
         })
     }
 
@@ -404,6 +405,15 @@ impl LiveTerminal {
         self.type_key(key)
     }
 
+    /// Takes the new size of the tty, of which it isn't known any more what it shows.
+    fn resize(&mut self, rows: u16, columns: u16)
+        ensures seat { self.new.seat ≡ resized rows columns self.old.seat }
+        ensures kept { self.new.kept ≡ self.old.kept }
+    {
+        self.size = TtySize { rows, columns };
+        self.drawing.forget();
+    }
+
     /// Performs the action of a keystroke.
     fn act_on(&mut self, keystroke: Keystroke) -> Result<(), AllocError>
         ensures seat { OnOk result (self.new.seat ≡ after_meaning keystroke self.old.seat) }
@@ -421,6 +431,10 @@ impl LiveTerminal {
             }
             Keystroke::Redraw => {
                 self.drawing.forget();
+                Ok(())
+            }
+            Keystroke::Size { rows, columns } => {
+                self.resize(rows, columns);
                 Ok(())
             }
             Keystroke::Quit => {
@@ -497,9 +511,38 @@ impl LiveTerminal {
         }
     }
 
+    /// Why the tty has no room for the screens of the terminal's model; None if it has.
+    fn lack(&self) -> Option<TooSmall>
+        ensures { result ≡ lack_at self.now.seat }
+    {
+        let TtySize { rows, columns } = self.size;
+        let model = self.terminal.screen().model();
+        check_room(model.alternate(), rows, columns).err()
+    }
+
     /// What the tty must show.
     fn picture(&self, alloc: Global) -> Result<Picture, AllocError>
         ensures { IfOk result (λ picture. picture ≡ picture_at self.now.seat) }
+    {
+        match self.lack() {
+            Some(lack) => self.notice(alloc, lack),
+            None => self.page(alloc),
+        }
+    }
+
+    /// The picture that says what the tty lacks.
+    fn notice(&self, alloc: Global, lack: TooSmall) -> Result<Picture, AllocError>
+        ensures { let size = self.now.seat.size in
+            IfOk result (λ picture. picture ≡ notice_of size.rows size.columns (too_small_text lack)) }
+    {
+        let text = format!(in alloc; "{lack}")?;
+        let TtySize { rows, columns } = self.size;
+        Picture::notice(alloc, rows, columns, &text)
+    }
+
+    /// The picture of the screen, or of the table of keys, if that is shown.
+    fn page(&self, alloc: Global) -> Result<Picture, AllocError>
+        ensures { IfOk result (λ picture. picture ≡ page_at self.now.seat) }
     {
         if is_keys(self.overlay) {
             self.keys_picture(alloc)
@@ -522,7 +565,7 @@ impl LiveTerminal {
         let screen = self.terminal.screen();
         let phase = self.terminal.phase();
         let status = Status {
-            place: status_place(self.overlay, self.rows, screen),
+            place: status_place(self.overlay, self.size.rows, screen),
             connected: is_connected(&phase),
             refusal: self.refusal,
             lu: lu_place(&phase),

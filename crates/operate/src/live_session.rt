@@ -103,16 +103,16 @@ fn is_quiet(came: &[u8], typed: &[u8], stale: bool) -> bool
 }
 
 impl<S: RawRead + RawWrite + Drop, K: Source + Drop, T: Sink + Drop> OperatorSession<S, K, T> {
-    /// A terminal of a model without a connection, at a tty with this many rows. An error if memory is refused.
+    /// A terminal of a model without a connection, at a tty of this size. An error if memory is refused.
     pub fn new(
         alloc: Global,
         model: Model,
-        rows: u16,
+        size: TtySize,
         keys: K,
         tty: T,
     ) -> Result<OperatorSession<S, K, T>, Fault> {
         Ok(OperatorSession {
-            live: LiveTerminal::new(alloc, model, rows)?,
+            live: LiveTerminal::new(alloc, model, size)?,
             socket: SocketSlot::unused(),
             keys,
             tty,
@@ -380,13 +380,13 @@ fn take_turns<N: Net, K: Source + Drop, T: Sink + Drop>(
     Ok(())
 }
 
-/// The rows of the tty, if it has room for all screens of a model.
-fn tty_rows(model: Model, tty: Option<TtySize>) -> Result<u16, Fault> {
-    let Some(TtySize { rows, columns }) = tty else {
+/// The size of the tty, if it has room for all screens of a model.
+fn tty_size(model: Model, tty: Option<TtySize>) -> Result<TtySize, Fault> {
+    let Some(size) = tty else {
         return Err(Fault::Live(LiveFault::NotRaw));
     };
-    match check_room(model.alternate(), rows, columns) {
-        Ok(()) => Ok(rows),
+    match check_room(model.alternate(), size.rows, size.columns) {
+        Ok(()) => Ok(size),
         Err(fault) => Err(Fault::Live(LiveFault::TooSmall(fault))),
     }
 }
@@ -399,9 +399,9 @@ fn operate<N: Net, K: Source + Drop, T: Sink + Drop>(
     keys: K,
     tty: T,
 ) -> Result<(), Fault> {
-    let rows = tty_rows(options.model, options.tty)?;
+    let size = tty_size(options.model, options.tty)?;
     let mut dialer = Dialer::new(net, alloc, options)?;
-    let mut session = OperatorSession::new(alloc, options.model, rows, keys, tty)?;
+    let mut session = OperatorSession::new(alloc, options.model, size, keys, tty)?;
     take_turns(net, alloc, &mut dialer, &mut session)
 }
 

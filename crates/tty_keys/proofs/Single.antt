@@ -1,7 +1,7 @@
 -- Bytes that are one keystroke: each goes on, and the last one alone completes it.
 use Rattle.std.proofs.Common.{◌≡◌, ℕ, ◌+◌, ◌≤◌, Bool, true, false, ◌&&◌, not, List, [], ◌∷◌, ◌++◌, length, take, refl, ap, sym, ◌∙◌, append_assoc, append-nil, arith}
 use Rattle.std.proofs.lemmas.Bool.{and_parts, false≢true, not-true}
-use Rattle.std.proofs.lemmas.List.{length-append, take_all}
+use Rattle.std.proofs.lemmas.List.{length-append, take_all, take-append-le}
 use Rattle.tty_keys.specs.Table.{meaning}
 use Rattle.tty_keys.specs.Forms.{may_continue, completes}
 use Rattle.tty_keys.specs.Reading.{Reading, grown, joined, read_byte, read_bytes}
@@ -36,16 +36,20 @@ single_read kept (byte ∷ next ∷ bytes) is =
     ∙ single_read (grown kept byte) (next ∷ bytes) both.1
 
 -- as many bytes as are kept
-pub all_kept : (kept bytes : List ℕ) → length kept + length bytes ≤ 8 → all_grown kept bytes ≡ kept ++ bytes
+pub all_kept : (kept bytes : List ℕ) → length kept + length bytes ≤ 12 → all_grown kept bytes ≡ kept ++ bytes
 all_kept kept [] fits = sym (append-nil kept)
 all_kept kept (byte ∷ bytes) fits =
-    let room : length (kept ++ byte ∷ []) ≤ 8 = omega (arith, length-append kept (byte ∷ [])) in
-    let same : grown kept byte ≡ kept ++ byte ∷ [] = take_all 8 _ room in
+    let room : length (kept ++ byte ∷ []) ≤ 12 = omega (arith, length-append kept (byte ∷ [])) in
+    let same : grown kept byte ≡ kept ++ byte ∷ [] = take_all 12 _ room in
     ap (λ (now : List ℕ). all_grown now bytes) same
     ∙ all_kept (kept ++ byte ∷ []) bytes (omega (arith, length-append kept (byte ∷ [])))
     ∙ append_assoc kept (byte ∷ []) bytes
 
+-- no byte more than are kept
+pub full_stays : (kept : List ℕ) (byte : ℕ) → length kept ≡ 12 → kept ≡ grown kept byte
+full_stays kept byte full = sym (take-append-le 12 kept (byte ∷ []) (omega (arith, full)) ∙ take_all 12 kept (omega (arith, full)))
+
 -- the first byte stays
 pub keeps_first : (first : ℕ) (rest bytes : List ℕ) → (more : List ℕ) × (all_grown (first ∷ rest) bytes ≡ first ∷ more)
 keeps_first first rest [] = (rest, refl)
-keeps_first first rest (byte ∷ bytes) = keeps_first first (take 7 (rest ++ byte ∷ [])) bytes
+keeps_first first rest (byte ∷ bytes) = keeps_first first (take 11 (rest ++ byte ∷ [])) bytes

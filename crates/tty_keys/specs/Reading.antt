@@ -12,9 +12,9 @@ pub record Reading : Type 0 where
   pub keystrokes : List Keystroke
   pub kept : List ℕ
 
--- the kept bytes after one more byte: at most 8, since each sequence of the table is shorter
+-- the kept bytes after one more byte: at most 12, since each sequence that has a meaning is shorter
 abbrev pub grown : List ℕ → ℕ → List ℕ
-grown kept byte = take 8 (kept ++ byte ∷ [])
+grown kept byte = take 12 (kept ++ byte ∷ [])
 
 -- the reading of a byte that may follow the kept ones
 abbrev pub read_on : List ℕ → ℕ → Reading

@@ -5,15 +5,16 @@
 -- sequence for different keys, it has xterm's or the Linux console's meaning: `CSI 23~` and `CSI 24~` are F11 and F12,
 -- which rxvt also sends for Shift-F1 and Shift-F2, and `CSI 25~` to `CSI 34~` are the Linux console's Shift-F1 to
 -- Shift-F8, which rxvt sends for Shift-F3 to Shift-F10.
-use Rattle.std.specs.Prelude.{ℕ, ◌+◌, ◌==◌, List, [], ◌∷◌, Option, Some, None, if◌then◌else◌, bytes_eq, codes, get_or}
+use Rattle.std.specs.Prelude.{ℕ, ◌+◌, ◌-◌, ◌==◌, ◌&&◌, Bool, List, [], ◌∷◌, drop, length, take, nat_lt, Option, Some, None, if◌then◌else◌, bytes_eq, codes, get_or}
 use Rattle.std.specs.Char.{is_ascii_control}
 use Rattle.std.specs.List.{list_any, position}
 use Rattle.std.specs.Option.{option_map, option_or}
-use Rattle.std.specs.Str.{chars, is_utf8}
+use Rattle.std.specs.Str.{all_ascii_digits, chars, is_utf8}
+use Rattle.std.specs.Str.Parse.{digits_value}
 use Rattle.keyboard.specs.declared.key.Key.{Key as BoardKey}
 use Rattle.keyboard.specs.declared.key.Key.TheVariants.{Char, Tab, BackTab, NewLine, Home, CursorUp, CursorDown, CursorLeft, CursorRight, Backspace, Insert, Delete, EraseEof, EraseInput, Reset, Enter, Pf, Pa, Clear}
 use Rattle.tty_keys.specs.declared.keystroke.Keystroke.{Keystroke}
-use Rattle.tty_keys.specs.declared.keystroke.Keystroke.TheVariants.{Key, Redraw, Status, Help, Quit, Unknown}
+use Rattle.tty_keys.specs.declared.keystroke.Keystroke.TheVariants.{Key, Redraw, Size, Status, Help, Quit, Unknown}
 
 -- the keystroke that a control character means
 abbrev pub control : ℕ → Keystroke
@@ -101,13 +102,47 @@ pa_key sequence = option_map (λ place. Pa (place + 1)) (place_of pa_sequences s
 abbrev pub other_key : List ℕ → Option BoardKey
 other_key sequence = option_map (λ place. get_or other_keys place Tab) (place_of other_sequences sequence)
 
--- the keystroke that isn't a key of the 3278 and has this sequence; `CSI 0n` is DSR with parameter 0, by which a tty
--- says that it is ready (ECMA-48, 8.3.35)
+-- ---- a tty's report of its size
+
+-- the number of rows or columns that one to three decimal digits spell; None if they don't, or if it is 0
+abbrev pub side_of : List ℕ → Option ℕ
+side_of digits =
+    if nat_lt (length digits) 4 && (all_ascii_digits digits && nat_lt 0 (digits_value 10 digits))
+    then Some (digits_value 10 digits) else None
+
+-- whether these are the numbers in the sequence of F3 with a modifier: xterm sends `CSI 1 ; 2 R` to `CSI 1 ; 16 R`
+abbrev pub is_f3 : (rows columns : ℕ) → Bool
+is_f3 rows columns = rows == 1 && nat_lt columns 17
+
+abbrev pub size : Option ℕ → Option ℕ → Keystroke
+size (Some rows) (Some columns) = if is_f3 rows columns then Unknown else Size rows columns
+size (Some rows) None = Unknown
+size None columns = Unknown
+
+abbrev pub is_semicolon : ℕ → Bool
+is_semicolon byte = byte == 0x3B
+
+-- the size in the parameters of a report, which are rows and columns with a semicolon at this index between them
+abbrev pub reported_at : List ℕ → Option ℕ → Keystroke
+reported_at parameters None = Unknown
+reported_at parameters (Some place) = size (side_of (take place parameters)) (side_of (drop (place + 1) parameters))
+
+abbrev pub reported : List ℕ → Keystroke
+reported parameters = reported_at parameters (position is_semicolon parameters)
+
+-- whether a sequence is CPR, `CSI .. R` (ECMA-48, 8.3.14), with which a tty reports row and column of its cursor
+abbrev pub is_report : List ℕ → Bool
+is_report sequence = get_or sequence 0 0 == 0x5B && get_or sequence (length sequence - 1) 0 == 0x52
+
+-- The meaning of CPR: the tty's size, since the report is asked for once the cursor was sent to row 999 and column 999,
+-- and so is in the last row and column.
+abbrev pub size_report : List ℕ → Keystroke
+size_report sequence = if is_report sequence then reported (take (length sequence - 2) (drop 1 sequence)) else Unknown
+
+-- the keystroke that isn't a key of the 3278 and has this sequence
 abbrev pub other_keystroke : List ℕ → Keystroke
 other_keystroke sequence =
-    if list_any (λ text. bytes_eq text sequence) (codes "?" ∷ []) then Help
-    else if list_any (λ text. bytes_eq text sequence) (codes "[0n" ∷ []) then Redraw
-    else Unknown
+    if list_any (λ text. bytes_eq text sequence) (codes "?" ∷ []) then Help else size_report sequence
 
 abbrev pub key_or : Keystroke → Option BoardKey → Keystroke
 key_or other None = other

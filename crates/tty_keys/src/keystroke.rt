@@ -6,8 +6,15 @@ use keyboard::Key;
 pub enum Keystroke {
     /// A key of the 3278. A character outside of code page 037 is one, too: the keyboard refuses it.
     Key(Key),
-    /// Ctrl-L, or a tty's report that it is ready: the program must draw the whole screen again.
+    /// Ctrl-L: the program must draw the whole screen again.
     Redraw,
+    /// A tty's report of its size: the program must draw the whole screen again, for this size.
+    Size {
+        /// The number of rows, 1 to 999.
+        rows: u16,
+        /// The number of columns, 1 to 999.
+        columns: u16,
+    },
     /// Ctrl-T: the program must show the status row, if the tty has no row for it.
     Status,
     /// ESC and `?`: the program must show the table of keys.

@@ -9,11 +9,11 @@ use crate::table::meaning;
 use arrayvec::ArrayVec;
 use std::marker::Model;
 
-/// The most bytes that are kept of an incomplete sequence. Each sequence of the table is shorter.
-const MOST_KEPT: usize = 8;
+/// The most bytes that are kept of an incomplete sequence. Each sequence that has a meaning is shorter.
+const MOST_KEPT: usize = 12;
 
 /// Reads keystrokes from bytes, cut anywhere. Contracts see it as the bytes since the last complete
-/// keystroke, of which it keeps the first 8.
+/// keystroke, of which it keeps the first 12.
 #[derive(Debug, Drop)]
 pub struct KeyReader {
     kept: ArrayVec<u8, MOST_KEPT>,
@@ -63,6 +63,7 @@ impl KeyReader {
     }
 
     /// Keeps a byte, if there is room.
+    #[tactic(auto, using(crate::proofs::Single::full_stays))]
     fn keep(&mut self, byte: u8)
         ensures { self.new ≡ grown self.old byte }
     {

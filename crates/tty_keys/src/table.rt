@@ -1,8 +1,8 @@
 //! What the bytes of a complete keystroke mean.
-ghost use Rattle.std.specs.Prelude.{◌≡◌, ◌<◌, IfSome, bytes_eq, length, position};
+ghost use Rattle.std.specs.Prelude.{◌≡◌, ◌<◌, [], ◌∷◌, IfSome, Some, bytes_eq, length, position};
 ghost use Rattle.std.specs.List.{list_any};
 ghost use Rattle.std.specs.Str.{chars};
-ghost use Rattle.tty_keys.specs.Table.{control, character, escaped, first_of, meaning, other_key, other_keystroke, pa_key, pf_key};
+ghost use Rattle.tty_keys.specs.Table.{control, character, escaped, first_of, meaning, other_key, is_semicolon, other_keystroke, pa_key, pf_key, reported, side_of, size, size_report};
 
 use crate::forms::ESC;
 use crate::keystroke::Keystroke;
@@ -107,16 +107,91 @@ fn other_key(sequence: &[u8]) -> Option<Key>
     Some(OTHER_KEYS[place])
 }
 
+/// The number in three decimal digits; None if they aren't digits, or if it is 0.
+fn side(hundreds: u8, tens: u8, ones: u8) -> Option<u16>
+    ensures { result ≡ side_of (hundreds ∷ tens ∷ ones ∷ []) }
+{
+    if !(hundreds.is_ascii_digit() && tens.is_ascii_digit() && ones.is_ascii_digit()) {
+        return None;
+    }
+    let side = u16::from(hundreds - b'0') * 100
+        + u16::from(tens - b'0') * 10
+        + u16::from(ones - b'0');
+    if side > 0 { Some(side) } else { None }
+}
+
+/// The number of rows or columns that one to three decimal digits spell; None if they don't, or if it is 0.
+fn side_of(digits: &[u8]) -> Option<u16>
+    ensures { result ≡ side_of digits.now }
+{
+    match digits {
+        [ones] => side(b'0', b'0', *ones),
+        [tens, ones] => side(b'0', *tens, *ones),
+        [hundreds, tens, ones] => side(*hundreds, *tens, *ones),
+        _ => None,
+    }
+}
+
+/// A size; nothing if it is the sequence of F3 with a modifier.
+fn size(rows: u16, columns: u16) -> Keystroke
+    ensures { result ≡ size (Some rows) (Some columns) }
+{
+    if rows == 1 && columns < 17 {
+        Keystroke::Unknown
+    } else {
+        Keystroke::Size { rows, columns }
+    }
+}
+
+/// The size of these numbers of rows and columns.
+fn sized(rows: &[u8], columns: &[u8]) -> Keystroke
+    ensures { result ≡ size (side_of rows.now) (side_of columns.now) }
+{
+    let Some(rows) = side_of(rows) else {
+        return Keystroke::Unknown;
+    };
+    let Some(columns) = side_of(columns) else {
+        return Keystroke::Unknown;
+    };
+    size(rows, columns)
+}
+
+/// The index of the first semicolon.
+fn semicolon(parameters: &[u8]) -> Option<usize>
+    ensures place { result ≡ position is_semicolon parameters.now }
+    ensures in_range { IfSome result (λ place. place < length parameters.now) }
+{
+    parameters.iter().position(|byte| *byte == b';')
+}
+
+/// The size in the parameters of a report: the rows, `;` and the columns.
+fn reported(parameters: &[u8]) -> Keystroke
+    ensures { result ≡ reported parameters.now }
+{
+    match semicolon(parameters) {
+        None => Keystroke::Unknown,
+        Some(place) => sized(&parameters[..place], &parameters[place + 1..]),
+    }
+}
+
+/// The size in a tty's report of its cursor's place, which is in the last row and column.
+fn size_report(sequence: &[u8]) -> Keystroke
+    ensures { result ≡ size_report sequence.now }
+{
+    match sequence {
+        [b'[', parameters @ .., b'R'] => reported(parameters),
+        _ => Keystroke::Unknown,
+    }
+}
+
 /// The keystroke that isn't a key of the 3278 and has this sequence.
 fn other_keystroke(sequence: &[u8]) -> Keystroke
     ensures { result ≡ other_keystroke sequence.now }
 {
     if is_among(&["?"], sequence) {
         Keystroke::Help
-    } else if is_among(&["[0n"], sequence) {
-        Keystroke::Redraw
     } else {
-        Keystroke::Unknown
+        size_report(sequence)
     }
 }
 

@@ -1,5 +1,5 @@
 -- Cells that are added one after another.
-use Rattle.std.proofs.Common.{◌≡◌, ℕ, zero, suc, ◌+◌, ◌*◌, ◌-◌, ◌<◌, ◌≤◌, Bool, List, [], ◌∷◌, ◌++◌, length, map, take, get_or, Option, Result, Ok, Err, OnOk, arith, refl, sym, ◌∙◌, ap, append_assoc, append-nil, length-append}
+use Rattle.std.proofs.Common.{◌≡◌, ℕ, zero, suc, ◌+◌, ◌*◌, ◌-◌, ◌<◌, ◌≤◌, Bool, List, [], ◌∷◌, ◌++◌, length, map, take, get_or, Option, Result, Ok, Err, OnOk, arith, sym, ◌∙◌, ap, append_assoc, append-nil, length-append}
 use Rattle.std.specs.List.{flat_map, range_with_len}
 use Rattle.std.proofs.lemmas.List.{length-take-le}
 use Rattle.std.proofs.lemmas.List.FromFn.{map-range_with_len_more, length-map-range_with_len}
@@ -10,7 +10,7 @@ use Rattle.tty_screen.specs.declared.place.Place.{Place}
 use Rattle.presentation.specs.Sizes.{SizedScreen}
 use Rattle.tty_screen.specs.declared.picture.PictureCell.{PictureCell}
 use Rattle.tty_screen.specs.Pictures.{PictureParts, origin, plain}
-use Rattle.tty_screen.specs.Painting.{page_cells, page_of, painted_at, place_of, picture_of, screen_cells, status_rows, with_status}
+use Rattle.tty_screen.specs.Painting.{notice_of, notice_side, page_cells, page_of, painted_at, place_of, picture_of, screen_cells, status_rows, with_status}
 use Rattle.tty_screen.specs.StatusRow.{connection_word, reason, insert_word, in_columns, keys_hint, letter_at, position_text, status_cells}
 use Rattle.tty_screen.specs.declared.status.StatusPlace.{StatusPlace}
 use Rattle.tty_screen.specs.declared.status.StatusPlace.TheVariants as status
@@ -42,7 +42,7 @@ pub ok_then : {T E P Q : Type 0} (result : Result T E) → (P → Q) → OnOk re
 ok_then (Ok done) f h = f h
 ok_then (Err fault) f h = tt
 
-columns_counted : (count : ℕ) (text : List ℕ) → length (in_columns count text) ≡ count
+pub columns_counted : (count : ℕ) (text : List ℕ) → length (in_columns count text) ≡ count
 columns_counted count text = length-map-range_with_len (λ (column : ℕ). plain (letter_at text column)) 0 count
 
 status_counted : (columns : ℕ) (keyboard : Keyboard) (connected : Bool) (refusal : Option Refusal) (lu : List ℕ) (cursor : Place)
@@ -157,3 +157,12 @@ page_made sized lines rows columns cells high wide all =
     ap (λ (items : List PictureCell). parts rows columns items origin) all
     ∙ ap (λ (count : ℕ). parts count columns (page_cells count columns lines) origin) high
     ∙ ap (λ (width : ℕ). parts sized.size.rows width (page_cells sized.size.rows width lines) origin) wide
+
+pub notice_made : (tty_rows tty_columns : ℕ) (text : List ℕ) (rows columns : ℕ) (cells : List PictureCell)
+    → rows ≡ notice_side tty_rows → columns ≡ notice_side tty_columns → cells ≡ in_columns (rows * columns) text
+    → record { rows = rows; columns = columns; cells = cells; cursor = origin } ≡ notice_of tty_rows tty_columns text
+unfolding parts
+notice_made tty_rows tty_columns text rows columns cells high wide all =
+    ap (λ (items : List PictureCell). parts rows columns items origin) all
+    ∙ ap (λ (count : ℕ). parts count columns (in_columns (count * columns) text) origin) high
+    ∙ ap (λ (width : ℕ). parts (notice_side tty_rows) width (in_columns (notice_side tty_rows * width) text) origin) wide

@@ -70,7 +70,7 @@ letter_by false below byte low high = refl
 letter_by true false byte low high = refl
 letter_by true true byte low high = byte_graphic byte low high
 
-text_graphic : (count : ℕ) (text : List ℕ) → list_all has_graphic (in_columns count text) ≡ true
+pub text_graphic : (count : ℕ) (text : List ℕ) → list_all has_graphic (in_columns count text) ≡ true
 text_graphic count text =
     all_mapped (λ (column : ℕ). plain (letter_at text column)) 0 count
     (λ column. letter_by (nat_lt 0x20 (get_or text column 0x20)) (nat_lt (get_or text column 0x20) 0x7F) (get_or text column 0x20) refl refl)

@@ -1,5 +1,5 @@
 -- The picture of a screen, a keyboard and a status (our profile).
-use Rattle.std.specs.Prelude.{ℕ, ◌+◌, ◌-◌, ◌/◌, ◌%◌, Bool, List, [], ◌++◌, map, length, take, Option, get_or, slice_index_or}
+use Rattle.std.specs.Prelude.{ℕ, ◌+◌, ◌-◌, ◌*◌, ◌/◌, ◌%◌, Bool, List, [], ◌++◌, map, length, max, min, take, Option, get_or, slice_index_or}
 use Rattle.std.specs.List.{flat_map, range_with_len}
 use Rattle.codes3270.specs.declared.attribute.Cell.{Cell}
 use Rattle.codes3270.specs.declared.attribute.Cell.TheVariants.{Char}
@@ -64,5 +64,18 @@ page_of sized lines = record {
   rows = sized.size.rows;
   columns = sized.size.columns;
   cells = page_cells sized.size.rows sized.size.columns lines;
+  cursor = origin;
+}
+
+-- the rows or columns that a notice has on a tty with this many
+abbrev pub notice_side : ℕ → ℕ
+notice_side tty_side = max 1 (min 999 tty_side)
+
+-- the picture of a text on a tty of any size: it goes on from row to row, and the cursor is in the upper left corner
+abbrev pub notice_of : (tty_rows tty_columns : ℕ) → List ℕ → PictureParts
+notice_of tty_rows tty_columns text = record {
+  rows = notice_side tty_rows;
+  columns = notice_side tty_columns;
+  cells = in_columns (notice_side tty_rows * notice_side tty_columns) text;
   cursor = origin;
 }

@@ -8,11 +8,10 @@
 //! drawing.draw(picture, &mut out)?;
 //! ```
 //!
-//! A [`Picture`] is what an operator sees of a screen, a keyboard and a [`Status`], or a page of text: a list of cells,
-//! each a character and a [`Look`]. A [`Drawing`] remembers the picture that the tty shows, and [`Drawing::draw`]
-//! appends the bytes that
-//! turn it into the next picture: in each row only the cells that changed are written. [`Drawing::forget`] makes the
-//! next call draw all.
+//! A [`Picture`] is what an operator sees of a screen, a keyboard and a [`Status`], or a page of text, or a notice: a
+//! list of cells, each a character and a [`Look`]. A [`Drawing`] remembers the picture that the tty shows, and
+//! [`Drawing::draw`] appends the bytes that turn it into the next picture: in each row only the cells that changed are
+//! written. [`Drawing::forget`] makes the next call draw all.
 //!
 //! `specs/` has the definitions: `Tty` says what a tty does with the control functions that are used here (ECMA-48),
 //! `Spelling` how they are encoded, `Painting` what a picture shows, `StatusRow` its status row, and `Drawn` when a tty

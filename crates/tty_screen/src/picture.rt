@@ -3,7 +3,7 @@ ghost use Rattle.std.specs.Prelude.{◌≡◌, ◌<◌, ◌≤◌, ◌*◌, ◌+
 ghost use Rattle.codes3270.specs.Size.{cells_in};
 ghost use Rattle.tty_screen.specs.Pictures.{IsSized, blank_cell, same_cell, plain};
 ghost use Rattle.tty_screen.specs.Changes.{same_size};
-ghost use Rattle.tty_screen.specs.Painting.{page_cells, page_of, picture_of, painted_at, place_of, screen_cells, status_rows, with_status};
+ghost use Rattle.tty_screen.specs.Painting.{notice_of, notice_side, page_cells, page_of, picture_of, painted_at, place_of, screen_cells, status_rows, with_status};
 ghost use Rattle.tty_screen.specs.StatusRow.{in_columns, letter_at, three_digits, position_text, status_cells};
 
 use crate::look::{Look, look_of};
@@ -276,6 +276,15 @@ fn rows_of(screen: &Screen, place: StatusPlace) -> usize
     screen_rows(screen) + status_rows(place)
 }
 
+/// The number of rows or columns of a notice on a tty with this many.
+fn notice_side(tty_side: u16) -> usize
+    ensures value { result ≡ notice_side tty_side }
+    ensures some { 0 < result }
+    ensures few { result < 1000 }
+{
+    usize::from(tty_side.min(999).max(1))
+}
+
 /// The place of a screen's cursor.
 fn cursor_of(screen: &Screen) -> Place
     ensures value { result ≡ place_of screen.now.size.columns screen.now.screen.cursor }
@@ -331,6 +340,28 @@ impl Picture {
         let columns = columns_of(screen);
         let mut cells = Vec::new(alloc);
         put_page(&mut cells, rows, columns, lines)?;
+        Ok(Picture {
+            rows,
+            columns,
+            cells,
+            cursor: Place { row: 0, column: 0 },
+        })
+    }
+
+    /// A text in ASCII that fills a tty of any size, as far as it goes: rows and columns beyond 999 stay blank. The text
+    /// goes on from row to row, and the cursor is in the upper left corner. Err only if memory is refused.
+    pub fn notice(
+        alloc: Global,
+        tty_rows: u16,
+        tty_columns: u16,
+        text: &str,
+    ) -> Result<Picture, AllocError>
+        ensures { IfOk result (λ picture. picture ≡ notice_of tty_rows tty_columns text.now) }
+    {
+        let rows = notice_side(tty_rows);
+        let columns = notice_side(tty_columns);
+        let mut cells = Vec::new(alloc);
+        put_text(&mut cells, rows * columns, text.as_bytes())?;
         Ok(Picture {
             rows,
             columns,

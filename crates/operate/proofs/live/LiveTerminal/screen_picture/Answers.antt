@@ -9,5 +9,5 @@ pub returns : goal.returns
 returns c =
     let terminal : Terminal = c.self.inside.terminal.terminal in
     subst (λ (live : Live). IfOk c.new.result (λ picture. picture ≡ screen_at live.seat)) c.self.view_is
-    (subst (λ (screen : SizedScreen). IfOk c.new.result (λ picture. picture ≡ picture_of (status_place c.self.inside.overlay c.self.inside.rows screen.size.rows) screen terminal.station.keyboard (is_connected (phase_of terminal.link)) c.self.inside.refusal (lu_place (phase_of terminal.link)))) c.screen-screen.ensures
+    (subst (λ (screen : SizedScreen). IfOk c.new.result (λ picture. picture ≡ picture_of (status_place c.self.inside.overlay c.self.inside.size.rows screen.size.rows) screen terminal.station.keyboard (is_connected (phase_of terminal.link)) c.self.inside.refusal (lu_place (phase_of terminal.link)))) c.screen-screen.ensures
     (rw c.status_place.ensures at (rw c.phase-phase.ensures at (rw c.lu_place.ensures at (rw c.is_connected.ensures at (rw c.keyboard.ensures at c.new.ensures))))))
