@@ -57,10 +57,6 @@ Raises false old new = (old ≡ last_count) × (new ≡ old)
 abbrev pub counted : (count more : ℕ) → ℕ
 counted count more = min (count + more) last_count
 
--- whether these can be the first bytes of a terminal, which agrees on TN3270E by options, each behind IAC (RFC 854)
-abbrev pub begins_with_iac : List ℕ → Bool
-begins_with_iac bytes = slice_index bytes 0 == 255
-
 -- ---- one call of a socket
 
 -- holds for at least one byte, and at most as many as there is room for
@@ -69,6 +65,17 @@ IsValidReadCount (read.Got count) room = (0 < count) × (count ≤ room)
 IsValidReadCount read.NotNow room = ⊤
 IsValidReadCount read.Ended room = ⊤
 IsValidReadCount read.Failed room = ⊤
+
+-- whether bytes begin with IAC (RFC 854)
+abbrev pub begins_with_iac : List ℕ → Bool
+begins_with_iac bytes = slice_index bytes 0 == 255
+
+-- holds if the bytes of a read may be the first of a connection
+abbrev pub MayBegin : LinkRead → List ℕ → Type 0
+MayBegin (read.Got count) bytes = begins_with_iac bytes ≡ true
+MayBegin read.NotNow bytes = ⊤
+MayBegin read.Ended bytes = ⊤
+MayBegin read.Failed bytes = ⊤
 
 -- holds for at least one byte, and at most as many as the call was given
 abbrev pub TookSome : LinkWrite → ℕ → Type 0
@@ -83,6 +90,16 @@ module _ {S : Type 0} where
     pub answer : Result ℕ Error
     pub called : gave old room bytes answer new
     pub taken : link_result ≡ link_read answer
+
+  -- Holds if a socket is read once on which so many bytes were received before. The read fails, too, if the first byte
+  -- of the connection isn't IAC: a terminal agrees on TN3270E by options, each behind IAC (RFC 854).
+  pub data IsTelnetRead (gave : S → ℕ → List ℕ → Result ℕ Error → S → Type 0) (received : ℕ) (old : S) (room : ℕ)
+      (bytes : List ℕ) (link_result : LinkRead) (new : S) : Type 0 where
+    reads : IsReadOnce gave old room bytes link_result new → (received ≡ 0 → MayBegin link_result bytes)
+        → IsTelnetRead gave received old room bytes link_result new
+    no_telnet : (came : List ℕ) (count : ℕ) → IsReadOnce gave old room came (read.Got count) new → received ≡ 0
+        → begins_with_iac came ≡ false → bytes ≡ [] → link_result ≡ read.Failed
+        → IsTelnetRead gave received old room bytes link_result new
 
   -- holds if a socket is written once, and its answer has this meaning
   pub record IsWrittenOnce (took : S → List ℕ → Result ℕ Error → S → Type 0) (old : S) (bytes : List ℕ)
@@ -100,15 +117,8 @@ module _ {S : Type 0} where
     pub after : S
     pub has_socket : old.socket ≡ Some socket
     pub may : may_be_read old room ≡ true
-    pub once : IsReadOnce gave socket room bytes link_result after
+    pub once : IsTelnetRead gave old.received socket room bytes link_result after
     pub keeps_socket : new.socket ≡ Some after
-
-  -- holds if a read fails: that of the socket fails, or the first byte of the connection isn't IAC
-  pub data FailsToRead (gave : S → ℕ → List ℕ → Result ℕ Error → S → Type 0) (old : SocketSlot S) (room : ℕ)
-      (new : SocketSlot S) : Type 0 where
-    read_fails : ReadsSocket gave old room [] read.Failed new → FailsToRead gave old room new
-    no_telnet : (bytes : List ℕ) (count : ℕ) → ReadsSocket gave old room bytes (read.Got count) new → old.received ≡ 0
-        → begins_with_iac bytes ≡ false → FailsToRead gave old room new
 
   -- Holds if a read gives nothing: the socket isn't read, has nothing now, or a count of ends or failures can't rise.
   pub data GivesNothing (gave : S → ℕ → List ℕ → Result ℕ Error → S → Type 0) (old : SocketSlot S) (room : ℕ)
@@ -116,7 +126,8 @@ module _ {S : Type 0} where
     unread : may_be_read old room ≡ false → new.socket ≡ old.socket → GivesNothing gave old room new
     gives_not_now : ReadsSocket gave old room [] read.NotNow new → GivesNothing gave old room new
     end_uncounted : ReadsSocket gave old room [] read.Ended new → old.ends ≡ last_count → GivesNothing gave old room new
-    failure_uncounted : FailsToRead gave old room new → old.failures ≡ last_count → GivesNothing gave old room new
+    failure_uncounted : ReadsSocket gave old room [] read.Failed new → old.failures ≡ last_count
+        → GivesNothing gave old room new
 
   -- Holds for a read and the slot after it. The bytes received are counted; an end or a failure raises its own count.
   abbrev pub Gives : (gave : S → ℕ → List ℕ → Result ℕ Error → S → Type 0) → SocketSlot S → ℕ → List ℕ → LinkRead
@@ -125,14 +136,13 @@ module _ {S : Type 0} where
       × (0 < count) × (length bytes ≡ count) × (new.waiting ≡ old.waiting) × (new.ends ≡ old.ends)
       × (new.failures ≡ old.failures)
       × (new.received ≡ counted old.received count) × (new.sent ≡ old.sent)
-      × (old.received ≡ 0 → begins_with_iac bytes ≡ true)
   Gives gave old room bytes read.NotNow new = GivesNothing gave old room new
       × (bytes ≡ []) × (new.waiting ≡ old.waiting) × (new.ends ≡ old.ends) × (new.failures ≡ old.failures)
       × (new.received ≡ old.received) × (new.sent ≡ old.sent)
   Gives gave old room bytes read.Ended new = ReadsSocket gave old room bytes read.Ended new
       × (bytes ≡ []) × (new.waiting ≡ old.waiting) × (new.ends ≡ old.ends + 1) × (new.failures ≡ old.failures)
       × (new.received ≡ old.received) × (new.sent ≡ old.sent)
-  Gives gave old room bytes read.Failed new = FailsToRead gave old room new
+  Gives gave old room bytes read.Failed new = ReadsSocket gave old room bytes read.Failed new
       × (bytes ≡ []) × (new.waiting ≡ old.waiting) × (new.ends ≡ old.ends) × (new.failures ≡ old.failures + 1)
       × (new.received ≡ old.received) × (new.sent ≡ old.sent)
 

@@ -1,8 +1,8 @@
 //! The slot of a connection number: the socket of its connection, if there is one, and its counts.
-ghost use Rattle.std.specs.Prelude.{◌≡◌, ◌<◌, ◌==◌, ◌&&◌, true, false, not, length};
+ghost use Rattle.std.specs.Prelude.{◌≡◌, ◌<◌, true, false, length};
 ghost use Rattle.host_core.specs.Serves.{GotWithin, TookWithin, bytes_got};
 ghost use Rattle.job_streams.specs.RawCalls.{is_transient, link_read, link_write};
-ghost use Rattle.socket_links.specs.Sockets.{IsValidReadCount, Gives, IsReadOnce, IsWrittenOnce, Raises, Takes, TookSome, begins_with_iac, counted, emptied, is_connected, is_held_back, opened, unused, with_waiting};
+ghost use Rattle.socket_links.specs.Sockets.{IsValidReadCount, Gives, IsReadOnce, IsTelnetRead, IsWrittenOnce, Raises, Takes, TookSome, begins_with_iac, counted, emptied, is_connected, is_held_back, opened, unused, with_waiting};
 
 use host_core::{LinkRead, LinkWrite};
 use job_streams::{RawRead, RawWrite};
@@ -72,12 +72,27 @@ pub fn write_once<S: RawWrite>(socket: &mut S, bytes: &[u8]) -> LinkWrite
     link_write(socket.write_once(bytes))
 }
 
-/// Whether bytes that came aren't a terminal's: nothing came before, and the first byte isn't IAC (RFC 854).
-fn is_no_telnet(received: u64, bytes: &[u8]) -> bool
+/// Whether the bytes begin with IAC.
+fn begins_with_iac(bytes: &[u8]) -> bool
     requires { 0 < length bytes.now }
-    ensures { result ≡ (received == 0 && not (begins_with_iac bytes.now)) }
+    ensures { result ≡ begins_with_iac bytes.now }
 {
-    received == 0 && bytes[0] != IAC
+    bytes[0] == IAC
+}
+
+/// Reads a socket once, on which so many bytes were received before. Failed, too, if the first byte isn't IAC.
+fn read_telnet<S: RawRead>(socket: &mut S, received: u64, buffer: &mut [u8]) -> LinkRead
+    requires { 0 < length buffer.old }
+    ensures within { IsValidReadCount result (length buffer.new) }
+    ensures once { IsTelnetRead S.read_gave received socket.old (length buffer.new)
+        (bytes_got result buffer.new) result socket.new }
+{
+    match read_once(socket, buffer) {
+        LinkRead::Got(count) if received == 0 && !begins_with_iac(&buffer[..count]) => {
+            LinkRead::Failed
+        }
+        answer => answer,
+    }
 }
 
 /// Raises a count by one, unless it is at its greatest value. Answers whether it did.
@@ -218,15 +233,8 @@ impl<S: RawRead + RawWrite + Drop> SocketSlot<S> {
         let Some(socket) = &mut self.socket else {
             return LinkRead::NotNow;
         };
-        match read_once(socket, buffer) {
+        match read_telnet(socket, self.received, buffer) {
             LinkRead::Got(count) => {
-                if is_no_telnet(self.received, &buffer[..count]) {
-                    return if raise(&mut self.failures) {
-                        LinkRead::Failed
-                    } else {
-                        LinkRead::NotNow
-                    };
-                }
                 add_bytes(&mut self.received, count);
                 LinkRead::Got(count)
             }
