@@ -3,12 +3,15 @@
 A check is the operator: it types bytes, as xterm, tmux and the Linux console send them, and looks
 at the screen. The host is `serve`, or a socket of the check itself."""
 import os
+import pathlib
 import signal
 import subprocess
+import tempfile
 import time
+from collections.abc import Iterator
 
-from harness import programs
-from harness.case import Checks, expect
+from harness import documents, programs
+from harness.case import Case, Checks, expect, of_function
 from harness.hosts import (
     DEVICE_IN_USE,
     DO,
@@ -41,9 +44,10 @@ from harness.tty import (
     bound,
     serve_bank,
 )
+from suites import s3270_sessions
 
 check = Checks()
-cases = check.cases
+OPERATING = "docs/OPERATING.md"
 
 
 def run_alone(*words):
@@ -621,3 +625,33 @@ def it_says_how_it_is_started():
         (["1", "A", "B"], "usage: bin/operate [OPTION ..] [HOST:]PORT|HOST [LU]"),
     ):
         expect("bin/operate", run_alone(SCRIPT, *words), (2, "", line + "\n"))
+
+
+def an_operator_works_over_tls():
+    """stunnel before the operator, with the lines that docs/OPERATING.md has for it, reaches the
+    host behind its own."""
+    lines = documents.block(OPERATING, "stunnel on the operator's machine has these lines:")
+    with tempfile.TemporaryDirectory() as name, serve_bank() as host:
+        folder, port = pathlib.Path(name), free_port()
+        with s3270_sessions.encrypted(s3270_sessions.TLS_ADDRESS, host.port, folder) as front:
+            for old, new in (
+                ("127.0.0.1:3271", f"127.0.0.1:{port}"),
+                ("mainframe:992", front),
+                ("/etc/stunnel/host-certificate.pem", "cert.pem"),
+                ("mainframe", "localhost"),
+            ):
+                expect(f"{old} is in the lines", old in lines, True)
+                lines = lines.replace(old, new)
+            with s3270_sessions.tunnel(folder, port, lines), Operator(port) as operator:
+                operator.sees("FIRST NATIONAL BANK")
+                operator.has_status("connected", "BANK01", "005/030")
+                operator.types(QUIT)
+                operator.ends(0)
+
+
+def cases() -> Iterator[Case]:
+    yield from check.cases()
+    if s3270_sessions.TLS in s3270_sessions.HOSTS:
+        yield of_function(an_operator_works_over_tls)
+    else:
+        print("operate: stunnel or openssl isn't installed (apt-get install stunnel4 openssl)")

@@ -74,6 +74,22 @@ def host_with(panels: str) -> Iterator[hosts.Server]:
 
 
 @contextlib.contextmanager
+def tunnel(folder: pathlib.Path, port: int, lines: str) -> Iterator[None]:
+    """stunnel in a folder, which by these lines of its configuration listens at a port."""
+    name = f"stunnel-{port}.conf"
+    (folder / name).write_text(f"foreground = yes\npid =\n{lines}\n")
+    process = subprocess.Popen(
+        ["stunnel", name], cwd=folder, stdout=subprocess.DEVNULL, stderr=subprocess.DEVNULL
+    )
+    try:
+        hosts.until("stunnel listens", lambda: bank.is_listening(port))
+        yield
+    finally:
+        process.kill()
+        process.wait()
+
+
+@contextlib.contextmanager
 def encrypted(command: str, port: int, folder: pathlib.Path) -> Iterator[str]:
     """The command at the port of an stunnel before a host, whose certificate is the folder's
     cert.pem."""
@@ -96,21 +112,9 @@ def encrypted(command: str, port: int, folder: pathlib.Path) -> Iterator[str]:
         stderr=subprocess.DEVNULL,
     )
     front = hosts.free_port()
-    lines = f"foreground = yes\npid =\n[tn3270]\naccept = 127.0.0.1:{front}\n"
-    lines += f"connect = 127.0.0.1:{port}\ncert = cert.pem\nkey = key.pem\n"
-    (folder / "stunnel.conf").write_text(lines)
-    tunnel = subprocess.Popen(
-        ["stunnel", "stunnel.conf"],
-        cwd=folder,
-        stdout=subprocess.DEVNULL,
-        stderr=subprocess.DEVNULL,
-    )
-    try:
-        hosts.until("stunnel listens", lambda: bank.is_listening(front))
+    lines = f"[tn3270]\naccept = 127.0.0.1:{front}\nconnect = 127.0.0.1:{port}\n"
+    with tunnel(folder, front, lines + "cert = cert.pem\nkey = key.pem"):
         yield command.replace(TLS_ADDRESS, f"localhost:{front}")
-    finally:
-        tunnel.kill()
-        tunnel.wait()
 
 
 def log(text: str) -> str:

@@ -247,8 +247,8 @@ fn lu_place(phase: &TermPhase) -> &[u8]
 }
 
 impl LiveTerminal {
-    /// A terminal of a model without a connection, at a tty of this size. It isn't known what the tty shows. An error if
-    /// memory is refused.
+    /// A terminal of a model without a connection, at a tty of this size, of which it isn't known what it shows. An
+    /// error if memory is refused.
     pub fn new(alloc: Global, model: Model, size: TtySize) -> Result<LiveTerminal, AllocError>
         ensures seat { IfOk result (λ live. live.seat ≡ first_seat model size) }
         ensures kept { IfOk result (λ live. live.kept ≡ []) }

@@ -348,8 +348,8 @@ impl Picture {
         })
     }
 
-    /// A text in ASCII that fills a tty of any size, as far as it goes: rows and columns beyond 999 stay blank. The text
-    /// goes on from row to row, and the cursor is in the upper left corner. Err only if memory is refused.
+    /// A text in ASCII that fills a tty of any size, as far as it goes; rows and columns beyond 999 stay blank. It goes
+    /// on from row to row, and the cursor is in the upper left corner. Err only if memory is refused.
     pub fn notice(
         alloc: Global,
         tty_rows: u16,
