@@ -204,10 +204,13 @@ class TerminalHeard(Client):
 
 
 def free_port() -> int:
-    """A port that is free, and that this process hasn't had yet."""
+    """A port that is free, and that this process hasn't had yet. It is bound, and not listened at: a
+    program that another thread starts meanwhile has the socket, too, for some milliseconds."""
     while True:
         port = FIRST_PORT + next(TAKEN) % PORTS
-        with contextlib.suppress(OSError), socket.create_server((LOCALHOST, port)):
+        with contextlib.suppress(OSError), socket.socket() as it:
+            it.setsockopt(socket.SOL_SOCKET, socket.SO_REUSEADDR, 1)
+            it.bind((LOCALHOST, port))
             return port
 
 

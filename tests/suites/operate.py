@@ -526,6 +526,8 @@ def a_resized_window_is_drawn_again():
                 operator.until("the screen alone", lambda screen: screen.text() == " HI")
                 operator.types(STATUS)
             operator.has_status("connected", "PNL01", "001/005", row=min(rows - 1, 24))
+            # The next key ends what Ctrl-T shows.
+            operator.types(RESET)
         operator.types("A")
         operator.until("a character is typed", lambda screen: screen.line(0) == " HI A")
         host.hears_nothing(0.1)

@@ -417,6 +417,7 @@ STEPS = {
     "listening on 127.0.0.1:3270\ntime=": "is the log of s3270: the suite s3270_sessions",
     "warning: other machines": PRINTED,
     "[tn3270]\n": "is a text for stunnel: the suite s3270_sessions",
+    "[operate]\n": "is a text for stunnel: the suite operate",
     "printf 'Connect(L:BANK04": "needs s3270 and stunnel: the suite s3270_sessions",
     "bin/serve --processes": "needs HAProxy: the suite processes",
     # docs/APPLICATIONS.md
