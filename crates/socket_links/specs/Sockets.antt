@@ -91,8 +91,8 @@ module _ {S : Type 0} where
     pub called : gave old room bytes answer new
     pub taken : link_result ≡ link_read answer
 
-  -- Holds if a socket is read once on which so many bytes were received before. The read fails, too, if the first byte
-  -- of the connection isn't IAC: a terminal agrees on TN3270E by options, each behind IAC (RFC 854).
+  -- Holds if a socket is read once, and `received` bytes came before. The read fails, too, if the first byte of the
+  -- connection isn't IAC: a terminal agrees on TN3270E by options, each behind IAC (RFC 854).
   pub data IsTelnetRead (gave : S → ℕ → List ℕ → Result ℕ Error → S → Type 0) (received : ℕ) (old : S) (room : ℕ)
       (bytes : List ℕ) (link_result : LinkRead) (new : S) : Type 0 where
     reads : IsReadOnce gave old room bytes link_result new → (received ≡ 0 → MayBegin link_result bytes)

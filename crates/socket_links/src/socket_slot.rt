@@ -80,7 +80,7 @@ fn begins_with_iac(bytes: &[u8]) -> bool
     bytes[0] == IAC
 }
 
-/// Reads a socket once, on which so many bytes were received before. Failed, too, if the first byte isn't IAC.
+/// Reads a socket once; `received` bytes came before. Failed, too, if the connection's first byte isn't IAC (RFC 854).
 fn read_telnet<S: RawRead>(socket: &mut S, received: u64, buffer: &mut [u8]) -> LinkRead
     requires { 0 < length buffer.old }
     ensures within { IsValidReadCount result (length buffer.new) }
