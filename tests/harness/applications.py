@@ -93,13 +93,16 @@ class Operator(hosts.Client):
             expect(f"a screen with {text!r}", text in shown, True)
         return shown
 
-    def signs_on(self, lu, device="IBM-3278-2"):
+    def binds(self, lu, device="IBM-3278-2"):
         self.is_asked()
         self.says(hosts.device_type(7, None, device))
         self.hears(hosts.device_type(4, lu, device))
         self.says(hosts.FUNCTIONS_REQUEST)
         self.hears(hosts.FUNCTIONS_IS)
-        self.sees("FIRST PANEL")
+        return self
+
+    def signs_on(self, lu, device="IBM-3278-2"):
+        self.binds(lu, device).sees("FIRST PANEL")
         return self
 
     def presses(self, key, word="", secret=""):
@@ -189,7 +192,7 @@ def reply(content, status="200 OK"):
 class Host(hosts.Server):
     """A host with an application and two operators."""
 
-    def __init__(self, url, *words, seconds=LIMIT, **how):
+    def __init__(self, url, *words, seconds=LIMIT, text=PANELS, **how):
         super().__init__(
             "serve",
             "--application",
@@ -197,7 +200,7 @@ class Host(hosts.Server):
             "--application-timeout",
             str(seconds),
             *words,
-            text=PANELS,
+            text=text,
             **how,
         )
 

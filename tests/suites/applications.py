@@ -5,6 +5,7 @@ import contextlib
 import json
 import pathlib
 import re
+import select
 import socket
 import time
 
@@ -62,6 +63,60 @@ def an_application_is_told_what_is_seen_and_decides():
         )
         exchange.sends({})
         second.sees()
+        application.has_no_other()
+
+
+@check
+def an_application_decides_what_is_shown_first_and_after_clear():
+    """At connect it is asked before anything is painted, once, and at Clear; both times without
+    fields, with the cursor at 1, 1. Its reply is shown on the panel that it names, else on the
+    question's; so is a failure."""
+    both = PANELS.replace(b'asks = ["enter"', b'asks = ["connect", "clear", "enter"')
+    parts = ("turn", "lu", "panel", "key", "cursor", "fields")
+    corner = {"row": 1, "col": 1}
+    application = Application()
+    with Host(application.url, OWN, text=both) as host:
+        first = Operator(host.port).binds("PNL01")
+        exchange = application.takes()
+        expect(
+            "at connect",
+            [exchange.asked[it] for it in parts],
+            [0, "PNL01", "WORD", "connect", corner, {}],
+        )
+        expect("a paint before the reply", select.select([first.socket], [], [], 0.2)[0], [])
+        exchange.sends({"panel": "MENU", "fields": {"choice": "42"}, "message": "3 ORDERS"})
+        first.sees("SECOND PANEL", "42", "3 ORDERS")
+        second = Operator(host.port).binds("PNL02")
+        application.takes().sends({}, "500 NO")
+        second.sees("FIRST PANEL", ERROR)
+        application.has_no_other()
+        second.says(b"\x00\x00\x00\x00\x00\x6d\xff\xef")
+        exchange = application.takes()
+        expect(
+            "at Clear",
+            [exchange.asked[it] for it in parts],
+            [1, "PNL02", "WORD", "clear", corner, {}],
+        )
+        exchange.sends({"fields": {"word": "ADA"}, "message": "AGAIN"})
+        second.sees("FIRST PANEL", "ADA", "AGAIN")
+        second.presses("pf3")
+        second.sees("SECOND PANEL")
+        application.has_no_other()
+
+
+@check
+def a_key_before_the_first_screen_is_dropped():
+    """A terminal that doesn't wait sends Enter while the application is asked at connect: the key
+    is dropped and logged, and the question stays open."""
+    application = Application()
+    text = PANELS.replace(b'asks = ["enter"', b'asks = ["connect", "enter"')
+    with Host(application.url, text=text) as host:
+        host.first, host.second = Operator(host.port).binds("PNL01"), None
+        exchange = application.takes()
+        host.first.presses("enter", "ADA")
+        host.has_said("key-dropped key=enter")
+        exchange.sends({"message": "GOOD MORNING"})
+        host.first.sees("FIRST PANEL", "GOOD MORNING")
         application.has_no_other()
 
 
@@ -508,14 +563,20 @@ def no_reply_grows_the_memory_of_the_host():
 
 @check
 def without_an_application_panels_that_ask_are_refused():
-    """serve and host name the first panel that asks, and its first key, Enter before PA keys and PF
-    keys, and don't listen."""
+    """serve and host name the first panel that asks, and its first key, Enter before Clear, PA keys
+    and PF keys, and connect before these, and don't listen."""
     first = PANELS.replace(b'["enter", "pf1", "pa1"]', b'["pf12", "pf9", "pa3"]')
+    clear = PANELS.replace(b'["enter", "pf1", "pa1"]', b'["pa1", "clear"]')
+    connect = PANELS.replace(b'["enter", "pf1", "pa1"]', b'["enter", "connect"]')
     second = PANELS.replace(b'asks = ["enter", "pf1", "pa1"]\n', b"").replace(
         b'name = "MENU"\n', b'name = "MENU"\nasks = ["pf24"]\n'
     )
     for text, panel, key in (
-        (PANELS, "WORD", "enter"), (first, "WORD", "pa3"), (second, "MENU", "pf24")
+        (PANELS, "WORD", "enter"),
+        (first, "WORD", "pa3"),
+        (clear, "WORD", "clear"),
+        (connect, "WORD", "connect"),
+        (second, "MENU", "pf24"),
     ):
         asks = f"panel {panel} asks the application about {key}"
         for words, advice in (

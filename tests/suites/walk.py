@@ -287,6 +287,16 @@ def serves_with_a_log(walk, command):
     walk.shows(command, SIGN_ON, "TRANSFER OF FUNDS")
 
 
+def serves_with_a_socket(walk, command):
+    serves(walk, command, log=walk.clone / "serve.log")
+
+
+def tells(walk, command):
+    out, said, status = walk.ran(walk.here(command.text))
+    command.expects("what `tell` prints", out.rstrip(), command.prints)
+    command.expects("its status", status, int(out.startswith("error")))
+
+
 def asks_for_an_lu(walk, command):
     """The page's file of commands is the reader's own."""
     (walk.clone / "commands").write_text("wait\nstatus\n")
@@ -407,6 +417,8 @@ STEPS = {
     # docs/OPERATING.md
     "# install ": installs,
     "panel3270 serve --port 3270 --panels examples/bank.toml": serves_with_a_log,
+    "panel3270 serve --port 3270 --control control": serves_with_a_socket,
+    "panel3270 tell ": tells,
     "s3270 ": S3270,
     "cat > sizes.s3270": S3270,
     "c3270 ": "needs c3270",

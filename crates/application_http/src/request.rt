@@ -39,7 +39,7 @@ pub struct Request<'a> {
     pub lu: &'a str,
     /// The panel's name.
     pub panel: &'a str,
-    /// The key: `enter`, `pf1` to `pf24`, `pa1` to `pa3`.
+    /// The key: `enter`, `clear`, `pf1` to `pf24`, `pa1` to `pa3`; `connect` before a first panel is shown.
     pub key: &'a str,
     /// The cursor's row, 1-based.
     pub row: u16,

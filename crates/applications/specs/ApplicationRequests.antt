@@ -9,6 +9,7 @@ use Rattle.application_http.specs.declared.request.Terminal.{Terminal}
 use Rattle.codes3270.specs.Size.{alternate_of}
 use Rattle.codes3270.specs.declared.size.Model.{Model}
 use Rattle.codes3270.specs.declared.size.Model.TheVariants.{M2, M3, M4, M5}
+use Rattle.host_core.specs.Questions.{fields_asked}
 use Rattle.host_core.specs.declared.question.Question.{Question}
 use Rattle.panels.specs.Panel.{PanelParts, Panels, size_of}
 use Rattle.panels.specs.Screen.{Values}
@@ -55,7 +56,7 @@ pub record AsksQuestion (boot : ℕ) (panel : PanelParts) (question : Question) 
   pub key : request.key.now ≡ key_name question.aid
   pub row : request.row ≡ row_of question.cursor (size_of panel)
   pub col : request.col ≡ column_of question.cursor (size_of panel)
-  pub fields : map field_text request.fields.now ≡ texts_asked question.values panel.fields
+  pub fields : map field_text request.fields.now ≡ texts_asked question.values (fields_asked question.aid panel.fields)
 
 -- holds if the request says whose question it is: which terminal it is, and the address of its client
 pub record SaysWhoAsks (query : Query) (request : Request) : Type 0 where

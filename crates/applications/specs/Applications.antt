@@ -39,9 +39,9 @@ no_character = 65533
 abbrev pub shown_character : ℕ → ℕ
 shown_character byte = unwrap_or (character_of byte) no_character
 
--- the name of a key in panel texts
+-- the name of a key in panel texts; with no AID that of the question before a first panel is shown
 abbrev pub key_name : Aid → List ℕ
-key_name aid.NoAid = []
+key_name aid.NoAid = codes "connect"
 key_name aid.Enter = codes "enter"
 key_name aid.Clear = codes "clear"
 key_name (aid.Pf number) = codes "pf" ++ decimal number

@@ -3,7 +3,7 @@ use Rattle.std.specs.Prelude.{ℕ, List, [], ◌∷◌, ◌++◌, map, codes, Op
 use Rattle.std.specs.List.{find, range_with_len}
 use Rattle.std.specs.Option.{option_map_or, option_or}
 use Rattle.codes3270.specs.declared.attention.Aid.{Aid}
-use Rattle.codes3270.specs.declared.attention.Aid.TheVariants.{Enter, Pa, Pf}
+use Rattle.codes3270.specs.declared.attention.Aid.TheVariants.{NoAid, Enter, Clear, Pa, Pf}
 use Rattle.panels.specs.Panel.{PanelParts, is_asked}
 use Rattle.applications.specs.Applications.{key_name}
 use Rattle.applications.specs.declared.asked_key.JobWithoutApplication.{JobWithoutApplication}
@@ -13,10 +13,13 @@ use Rattle.applications.specs.declared.asked_key.JobWithoutApplication.TheVarian
 abbrev pub asked_among : PanelParts → List Aid → Option Aid
 asked_among panel keys = find (is_asked panel) keys
 
--- The first key that a panel asks about, in the order Enter, PA1 to PA3, PF1 to PF24. No panel asks about Clear.
+-- The first key that a panel asks about, in the order Enter, Clear, PA1 to PA3, PF1 to PF24; before all keys no AID, if
+-- it asks at connect.
 abbrev pub asked_key : PanelParts → Option Aid
 asked_key panel =
-    if is_asked panel Enter then Some Enter
+    if is_asked panel NoAid then Some NoAid
+    else if is_asked panel Enter then Some Enter
+    else if is_asked panel Clear then Some Clear
     else option_or (asked_among panel (map Pa (range_with_len 1 3))) (asked_among panel (map Pf (range_with_len 1 24)))
 
 -- the name of the first panel that asks, and its first such key

@@ -6,7 +6,7 @@ use Rattle.std.specs.List.{flat_map}
 use Rattle.std.specs.Option.{option_map_or}
 use Rattle.codes3270.specs.Size.{ScreenSize}
 use Rattle.host_core.specs.Application.{application_of}
-use Rattle.host_core.specs.Questions.{question_of}
+use Rattle.host_core.specs.Questions.{fields_asked, question_of}
 use Rattle.host_core.specs.State.{Host, most_connections, state_at, session_at}
 use Rattle.host_core.specs.declared.question.Question.{Question}
 use Rattle.host_core.specs.declared.question.Ticket.{Ticket}
@@ -57,9 +57,10 @@ field_line values field =
     field.name ++ (codes "=\"" ++ (unicode_of (unwrap_or (value_of values field.number) []) ++ codes "\"\n"))
 
 abbrev pub panel_text : PanelParts → Question → List ℕ
-panel_text panel question = heading panel question ++ flat_map (field_line question.values) panel.fields
+panel_text panel question =
+    heading panel question ++ flat_map (field_line question.values) (fields_asked question.aid panel.fields)
 
--- a line for the question, and one for each field of its panel, in the panel's order
+-- a line for the question, and one for each field that it has, in the panel's order
 abbrev pub question_text : Panels → Option Question → List ℕ
 question_text panels None = codes "no question\n"
 question_text panels (Some question) = option_map_or (λ panel. panel_text panel question)

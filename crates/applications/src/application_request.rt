@@ -6,6 +6,7 @@ ghost use Rattle.application_http.specs.Requests.{request_bytes};
 ghost use Rattle.tn3270e_msg.specs.Words.{lu_text};
 ghost use Rattle.applications.specs.ApplicationRequests.{AsksQuestion, IsRequestFor, IsRequestOn, SaysWhoAsks, model_number, session_asking, terminal_of, text_asked, texts_asked};
 ghost use Rattle.applications.specs.Applications.{key_name, shown_character};
+ghost use Rattle.host_core.specs.Questions.{fields_asked};
 ghost use Rattle.applications.specs.QuestionLines.{column_of, row_of, unicode_of};
 ghost use Rattle.applications.specs.SessionNames.{session_text};
 
@@ -51,7 +52,7 @@ pub(crate) fn unicode_of(alloc: Global, bytes: &[u8]) -> Result<String, AllocErr
     Ok(text)
 }
 
-/// An AID that prints as the key's name in a panel text. The AID for no key prints as nothing.
+/// An AID that prints as its name in `asks` of a panel text: the key's, or `connect` for no key.
 #[derive(Clone, Copy)]
 pub struct KeyName(pub Aid);
 
@@ -63,7 +64,7 @@ impl fmt::Display for KeyName {
 
     fn fmt<W: fmt::Write>(&self, f: &mut fmt::Formatter<W>) -> fmt::Result {
         match self.0 {
-            Aid::NoAid => Ok(()),
+            Aid::NoAid => f.write_str("connect"),
             Aid::Enter => f.write_str("enter"),
             Aid::Clear => f.write_str("clear"),
             Aid::Pf(number) => {
@@ -179,7 +180,8 @@ fn request_by<'a>(
     requires session { session.now ≡ session_text (session_asking boot query.now.question) }
     requires lu { lu.now ≡ lu_text query.now.question.lu }
     requires key { key.now ≡ key_name query.now.question.aid }
-    requires fields { map field_text fields.now ≡ texts_asked query.now.question.values panel.now.fields }
+    requires fields { map field_text fields.now
+        ≡ texts_asked query.now.question.values (fields_asked query.now.question.aid panel.now.fields) }
     requires client { option_map (λ it. it.now) client ≡ option_map socket_text query.now.client }
     ensures asks { AsksQuestion boot panel.now query.now.question result }
     ensures says_who { SaysWhoAsks query.now result }
@@ -216,7 +218,7 @@ fn request_on(
     let lu = question.lu;
     let lu = format!(in alloc; "{lu}")?;
     let key = key_name(alloc, question.aid)?;
-    let fields = texts_asked(alloc, panel.fields(), &question.values)?;
+    let fields = texts_asked(alloc, question.fields(panel), &question.values)?;
     let client = client_text(alloc, query.client)?;
     let request = request_by(
         panel,

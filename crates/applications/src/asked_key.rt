@@ -24,7 +24,8 @@ pub enum JobWithoutApplication {
     Host,
 }
 
-/// A key about which a panel asks, in a job that has no application. Prints as the line that refuses the panels.
+/// A key about which a panel asks, or NoAid if it asks at connect, in a job that has no application. Prints as the line
+/// that refuses the panels.
 #[derive(Clone, Copy)]
 struct AskedKey<'a> {
     /// The panel's name.
@@ -92,12 +93,19 @@ fn asked_pf(panel: &Panel) -> Option<Aid>
     None
 }
 
-/// The first key that a panel asks about, in the order Enter, PA1 to PA3, PF1 to PF24; None if it asks about none.
+/// The first key that a panel asks about, in the order Enter, Clear, PA1 to PA3, PF1 to PF24; before all keys NoAid, if
+/// it asks at connect. None if it asks about none.
 fn asked_key(panel: &Panel) -> Option<Aid>
     ensures { result ≡ asked_key panel.now }
 {
+    if is_asked(panel, Aid::NoAid) {
+        return Some(Aid::NoAid);
+    }
     if is_asked(panel, Aid::Enter) {
         return Some(Aid::Enter);
+    }
+    if is_asked(panel, Aid::Clear) {
+        return Some(Aid::Clear);
     }
     match asked_pa(panel) {
         Some(key) => Some(key),

@@ -90,10 +90,10 @@ fn put_panel(
     ensures { OnOk result (string_bytes text.new ≡ string_bytes text.old ++ panel_text panel.now question.now) }
 {
     put_heading(alloc, text, panel, question)?;
-    put_fields(alloc, text, panel.fields(), &question.values)
+    put_fields(alloc, text, question.fields(panel), &question.values)
 }
 
-/// Adds a line for the question and one for each field of its panel, or `no question` if there is none.
+/// Adds a line for the question and one for each field that it has, or `no question` if there is none.
 pub fn put_question(
     alloc: Global,
     text: &mut String,

@@ -15,8 +15,8 @@ use Rattle.clap.specs.declared.error.kind.ErrorKind.{ErrorKind}
 use Rattle.clap.specs.declared.error.kind.ErrorKind.TheVariants as kind
 use Rattle.clap.specs.declared.parser.matches.ArgMatches.{ArgMatches}
 use Rattle.clap.proofs.OnLiterals.{clap_on_literals}
-use Rattle.cli.specs.Topics.{name_of, operand_of, options_of, row_of}
-use Rattle.cli.specs.Words.{IsJobOf, program, job_by_kind, job_shape, job_taken, operand_rules, option_rule}
+use Rattle.cli.specs.Topics.{name_of, options_of, row_of}
+use Rattle.cli.specs.Words.{IsJobOf, program, job_by_kind, job_shape, job_taken, option_rule}
 use Rattle.cli.specs.ClapCommands.{AddsJobs, AddsArguments, IsCommand, IsJob, IsArgument, IsMatch, MayFail}
 use Rattle.jobs.specs.declared.job.Job.{Job}
 use Rattle.jobs.specs.declared.job.HelpTopic.{HelpTopic}
@@ -38,9 +38,6 @@ takes shape rule old new option old_is option_is adds = record {
   local = adds.globals ∙ ap₂ (λ (a b : Bool). a || b) old_is.local option_is.local;
 }
 
-pub one_added : (rule : Rule) (argument : Arg) (old new : Command) → IsArgument rule argument → AddsArg old argument new → AddsArguments (rule ∷ []) old new
-one_added rule argument old new is adds = (argument, new, is, adds, refl)
-
 pub all_taken : (shape : Shape) (rules : List Rule) (old new : Command) → IsJob shape old → AddsArguments rules old new
     → IsJob (record shape { rules = shape.rules ++ rules }) new
 all_taken shape [] old new old_is adds = rw (append-nil shape.rules) (subst (IsJob shape) adds old_is)
@@ -52,19 +49,16 @@ rules_of_rows : (options : List JobOption) → map (λ option. option_rule (row_
 rules_of_rows [] = refl
 rules_of_rows (option ∷ options) = ap (λ (rules : List Rule). option_rule (row_of option) ∷ rules) (rules_of_rows options)
 
--- a job of this name, with these options and then this operand
-pub job_made : (topic : HelpTopic) (name : List ℕ) (options : List JobOption) (operand : Option (List ℕ)) (old mid new : Command)
-    → name ≡ name_of topic → map row_of options ≡ options_of topic → operand ≡ operand_of topic
-    → IsJob (new_shape name) old → AddsArguments (map (λ option. option_rule (row_of option)) options) old mid → AddsArguments (operand_rules operand) mid new
+-- a job of this name with these options
+pub job_made : (topic : HelpTopic) (name : List ℕ) (options : List JobOption) (old new : Command)
+    → name ≡ name_of topic → map row_of options ≡ options_of topic
+    → IsJob (new_shape name) old → AddsArguments (map (λ option. option_rule (row_of option)) options) old new
     → IsJob (job_shape topic) new
-job_made topic name options operand old mid new name_is options_are operand_is old_is adds_options adds_operand =
-    let with_options = all_taken (new_shape name) (map (λ option. option_rule (row_of option)) options) old mid old_is adds_options in
-    let with_operand = all_taken (record (new_shape name) { rules = map (λ option. option_rule (row_of option)) options }) (operand_rules operand) mid new with_options
-    adds_operand in
+job_made topic name options old new name_is options_are old_is adds_options =
     subst (λ (shape : Shape). IsJob shape new)
     (ap₂ (λ (name : List ℕ) (rules : List Rule). record (new_shape name) { rules = rules }) name_is
-    (ap₂ (λ (front back : List Rule). front ++ back) (rules_of_rows options ∙ ap (map option_rule) options_are) (ap operand_rules operand_is)))
-    with_operand
+    (rules_of_rows options ∙ ap (map option_rule) options_are))
+    (all_taken (new_shape name) (map (λ option. option_rule (row_of option)) options) old new old_is adds_options)
 
 -- a command that gains jobs of these shapes
 abbrev pub with_jobs : App → List Shape → App

@@ -1,4 +1,4 @@
--- The jobs: their names and options (our profile).
+-- The jobs: their names, options and operands (our profile).
 use Rattle.std.specs.Prelude.{ℕ, Bool, true, false, List, [], ◌∷◌, Option, Some, None, codes, bytes_eq, if◌then◌else◌}
 use Rattle.jobs.specs.declared.job.HelpTopic.{HelpTopic}
 use Rattle.jobs.specs.declared.job.HelpTopic.TheVariants as topic
@@ -19,6 +19,7 @@ name_of topic.Selfrun = codes "selfrun"
 name_of topic.Check = codes "check"
 name_of topic.Host = codes "host"
 name_of topic.Serve = codes "serve"
+name_of topic.Tell = codes "tell"
 name_of topic.Term = codes "term"
 name_of topic.Operate = codes "operate"
 name_of topic.Help = codes "help"
@@ -26,9 +27,8 @@ name_of topic.Version = codes "version"
 
 -- the jobs of the program
 abbrev pub jobs : List HelpTopic
-jobs = topic.Script ∷ topic.Selfrun ∷ topic.Show ∷ topic.Check ∷ topic.Host ∷ topic.Serve ∷ topic.Term ∷ topic.Operate
-    ∷ topic.Help
-    ∷ topic.Version ∷ []
+jobs = topic.Script ∷ topic.Selfrun ∷ topic.Show ∷ topic.Check ∷ topic.Host ∷ topic.Serve ∷ topic.Tell
+    ∷ topic.Term ∷ topic.Operate ∷ topic.Help ∷ topic.Version ∷ []
 
 -- the job with this name
 abbrev pub topic_named : List ℕ → Option HelpTopic
@@ -39,6 +39,7 @@ topic_named name =
     if bytes_eq name (codes "check") then Some topic.Check else
     if bytes_eq name (codes "host") then Some topic.Host else
     if bytes_eq name (codes "serve") then Some topic.Serve else
+    if bytes_eq name (codes "tell") then Some topic.Tell else
     if bytes_eq name (codes "term") then Some topic.Term else
     if bytes_eq name (codes "operate") then Some topic.Operate else
     if bytes_eq name (codes "help") then Some topic.Help else
@@ -52,7 +53,12 @@ abbrev pub takes_value : ValueKind → Bool
 takes_value kind.Flag = false
 takes_value _ = true
 
--- an option: its name, the kind of its value, and whether it must be given
+-- whether it is an operand, a word without an option's name
+abbrev pub is_operand : ValueKind → Bool
+is_operand kind.Operand = true
+is_operand _ = false
+
+-- an option or operand: its name, the kind of its value, and whether it must be given
 pub record OptionRow : Type 0 where
   pub name : List ℕ
   pub kind : ValueKind
@@ -67,7 +73,7 @@ needed name kind = record { name = name; kind = kind; required = true }
 abbrev pub optional : List ℕ → ValueKind → OptionRow
 optional name kind = record { name = name; kind = kind; required = false }
 
--- the options of a job
+-- the options of a job, and behind them its operands
 abbrev pub options_of : HelpTopic → List OptionRow
 options_of topic.Script = optional (codes "any-terminal") kind.Flag ∷ []
 options_of topic.Show = optional (codes "model") kind.Model ∷ []
@@ -79,7 +85,8 @@ options_of topic.Serve =
     ∷ optional (codes "negotiate") kind.Seconds ∷ optional (codes "keepalive") kind.Seconds
     ∷ optional (codes "idle") kind.Seconds
     ∷ optional (codes "application") kind.Url ∷ optional (codes "application-timeout") kind.ReplyTime
-    ∷ optional (codes "metrics") kind.ServicePort ∷ optional (codes "proxy-protocol") kind.Flag
+    ∷ optional (codes "metrics") kind.ServicePort ∷ optional (codes "control") kind.File
+    ∷ optional (codes "drain") kind.Seconds ∷ optional (codes "proxy-protocol") kind.Flag
     ∷ optional (codes "own-terminals") kind.Flag ∷ optional (codes "verify") kind.Flag
     ∷ optional (codes "quiet") kind.Flag ∷ []
 options_of topic.Term = needed (codes "port") kind.Port ∷ optional (codes "lu") kind.LuName
@@ -87,10 +94,8 @@ options_of topic.Term = needed (codes "port") kind.Port ∷ optional (codes "lu"
 options_of topic.Operate =
     needed (codes "port") kind.ServicePort ∷ optional (codes "host") kind.Address ∷ optional (codes "lu") kind.LuName
     ∷ optional (codes "model") kind.Model ∷ optional (codes "raw") kind.TtySize ∷ []
+options_of topic.Check = optional (codes "file") kind.Operand ∷ []
+options_of topic.Tell = needed (codes "socket") kind.Operand ∷ needed (codes "command") kind.Operand
+    ∷ optional (codes "first") kind.Operand ∷ optional (codes "second") kind.Operand ∷ []
+options_of topic.Help = optional (codes "job") kind.Operand ∷ []
 options_of _ = []
-
--- the name of a job's operand, a word without an option name: the job after `help`, the file after `check`
-abbrev pub operand_of : HelpTopic → Option (List ℕ)
-operand_of topic.Help = Some (codes "job")
-operand_of topic.Check = Some (codes "file")
-operand_of _ = None

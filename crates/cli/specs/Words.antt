@@ -2,7 +2,7 @@
 -- each at most once. How arguments spell a subcommand and its options is defined in the crate clap's specs/Walk and
 -- specs/Faults; the subcommands and options are defined in Topics. clap itself adds `--help` and `-h` at any place, and
 -- `--version` in place of a job.
-use Rattle.std.specs.Prelude.{◌≡◌, ◌⊎◌, ℕ, Bool, true, false, List, [], ◌∷◌, ◌++◌, map, Option, Some, None, codes, bytes_eq, option_map, unwrap_or, if◌then◌else◌}
+use Rattle.std.specs.Prelude.{◌≡◌, ◌⊎◌, ℕ, Bool, true, false, List, [], ◌∷◌, map, Option, Some, None, codes, bytes_eq, option_map, unwrap_or, if◌then◌else◌}
 use Rattle.std.specs.Option.{option_and_then, option_map_or}
 use Rattle.std.specs.declared.net.ip_addr.IpAddr.{IpAddr}
 use Rattle.clap.specs.Kinds.{IsAmong}
@@ -16,14 +16,16 @@ use Rattle.codes3270.specs.declared.size.Model.{Model}
 use Rattle.host_core.specs.declared.terminals.Terminals.{Terminals}
 use Rattle.host_core.specs.declared.terminals.Terminals.TheVariants.{Any, Verified, Waiting}
 use Rattle.tn3270e_msg.specs.Lu.{lu_of}
-use Rattle.jobs.specs.OptionValues.{address_of, is_same_port, model_of, port_of, reply_time_of, seconds_of, service_port_of, this_machine, tty_size_of, turns_of, usual_idle, usual_keepalive, usual_model, usual_negotiate, usual_reply_time, usual_turns}
-use Rattle.cli.specs.Topics.{OptionRow, jobs, name_of, operand_of, options_of, takes_value, topic_named}
+use Rattle.jobs.specs.OptionValues.{address_of, is_same_port, model_of, port_of, reply_time_of, seconds_of, service_port_of, this_machine, tty_size_of, turns_of, usual_drain, usual_idle, usual_keepalive, usual_model, usual_negotiate, usual_reply_time, usual_turns}
+use Rattle.cli.specs.Topics.{OptionRow, is_operand, jobs, name_of, options_of, takes_value, topic_named}
 use Rattle.jobs.specs.declared.job.Job.{Job}
 use Rattle.jobs.specs.declared.job.Job.TheVariants as job
+use Rattle.jobs.specs.declared.job.CommandWords.{CommandWords}
 use Rattle.jobs.specs.declared.job.OperateOptions.{OperateOptions}
 use Rattle.jobs.specs.declared.job.HelpTopic.{HelpTopic}
 use Rattle.jobs.specs.declared.job.HelpTopic.TheVariants as topic
 use Rattle.jobs.specs.declared.service.ApplicationChoice.{ApplicationChoice}
+use Rattle.jobs.specs.declared.service.ControlChoice.{ControlChoice}
 use Rattle.jobs.specs.declared.service.Service.{Service}
 use Rattle.jobs.specs.declared.service.TimeLimits.{TimeLimits}
 use Rattle.jobs.specs.declared.tty_size.TtySize.{TtySize}
@@ -32,22 +34,18 @@ use Rattle.cli.specs.declared.refusal.WordFault.TheVariants.{Memory}
 
 -- ---- the command line
 
--- the rule of an option, given as `--port 5000` or `--port=5000`; a flag has no value
+-- the rule of an option, given as `--port 5000` or `--port=5000`; a flag has no value, and an operand is a value alone
 abbrev pub option_rule : OptionRow → Rule
 option_rule option = record (new_rule option.name) {
-  long = Some option.name;
+  long = if is_operand option.kind then None else Some option.name;
   required = option.required;
   action = if takes_value option.kind then None else Some SetTrue;
 }
 
-abbrev pub operand_rules : Option (List ℕ) → List Rule
-operand_rules None = []
-operand_rules (Some name) = new_rule name ∷ []
-
--- a job's shape: its name, options and operand
+-- a job's shape: its name, options and operands
 abbrev pub job_shape : HelpTopic → Shape
 job_shape topic = record (new_shape (name_of topic)) {
-  rules = map option_rule (options_of topic) ++ operand_rules (operand_of topic);
+  rules = map option_rule (options_of topic);
 }
 
 -- the program; clap's own subcommand `help` isn't used
@@ -165,6 +163,19 @@ given_application options =
     option_map (λ reply_time. record { url = first_of (codes "application") options; reply_time = reply_time })
     (given_reply_time options)
 
+-- how the service is controlled
+abbrev pub given_control : List Row → Option ControlChoice
+given_control options = option_map (λ drain. record { socket = first_of (codes "control") options; drain = drain })
+    (given_seconds (codes "drain") usual_drain options)
+
+-- the words of the command that `tell` sends
+abbrev pub given_command : List Row → Option CommandWords
+given_command options = option_map (λ name. record {
+  name = name;
+  first = first_of (codes "first") options;
+  second = first_of (codes "second") options;
+}) (first_of (codes "command") options)
+
 -- the topic after `help`: the whole program if no job is named
 abbrev pub given_topic : List Row → Option HelpTopic
 given_topic options = option_map_or topic_named (first_of (codes "job") options) (Some topic.Program)
@@ -181,9 +192,11 @@ job_of topic.Check options = Some (job.Check (first_of (codes "file") options))
 job_of topic.Host options = option_and_then (λ port. option_map (λ turns. job.Host port turns) (given_turns options))
     (given_port options)
 job_of topic.Serve options =
-    option_and_then (λ service. option_map
-    (λ application. job.Serve service (first_of (codes "panels") options) application) (given_application options))
-    (sound_service options)
+    option_and_then (λ service. option_and_then (λ application. option_map
+    (λ control. job.Serve service (first_of (codes "panels") options) application control) (given_control options))
+    (given_application options)) (sound_service options)
+job_of topic.Tell options = option_and_then (λ socket. option_map (λ command. job.Tell socket command)
+    (given_command options)) (first_of (codes "socket") options)
 job_of topic.Term options =
     option_and_then (λ port. option_and_then (λ lu. option_map (λ model. job.Term port lu model) (given_model options))
     (given_lu options)) (given_port options)

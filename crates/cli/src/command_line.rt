@@ -1,24 +1,24 @@
 //! Parses the program's arguments.
-ghost use Rattle.std.specs.Prelude.{◌≡◌, [], IfOk, IfErr, Some, codes, false, map, option_map, string_bytes, true};
+ghost use Rattle.std.specs.Prelude.{◌≡◌, [], IfOk, IfErr, codes, false, map, option_map, string_bytes, true};
 ghost use Rattle.clap.specs.Matches.{found_of};
 ghost use Rattle.clap.specs.Simple.{subcommand_rows_of};
 ghost use Rattle.clap.specs.Values.{kind_of};
 ghost use Rattle.clap.specs.Walk.{first_of, rows_of};
 ghost use Rattle.jobs.specs.OptionValues.{is_same_port};
 ghost use Rattle.cli.specs.Topics.{row_of};
-ghost use Rattle.cli.specs.Words.{HasNoJob, IsJobOf, program, job_by, job_by_kind, job_named, job_of, given_address, given_application, given_limits, given_live_options, given_lu, given_metrics, given_model, given_port, given_reply_time, given_script_terminals, given_seconds, given_service, given_service_port, given_terminals, given_topic, given_tty, given_turns, ends_by_dashes, is_given, job_shape, job_taken, operand_rules, option_rule, sound_service, topic_of, terminals_by};
+ghost use Rattle.cli.specs.Words.{HasNoJob, IsJobOf, program, job_by, job_by_kind, job_named, job_of, given_address, given_application, given_command, given_control, given_limits, given_live_options, given_lu, given_metrics, given_model, given_port, given_reply_time, given_script_terminals, given_seconds, given_service, given_service_port, given_terminals, given_topic, given_tty, given_turns, ends_by_dashes, is_given, job_shape, job_taken, option_rule, sound_service, topic_of, terminals_by};
 ghost use Rattle.cli.specs.ClapCommands.{AddsArguments, AddsJobs, IsArgument, IsCommand, IsJob, IsMatch, MayFail};
 
 use crate::help::VERSION;
-use crate::job_table::{JOBS, JobOption, name_of, operand_of, options_of, topic_named};
+use crate::job_table::{JOBS, JobOption, ValueKind, name_of, options_of, topic_named};
 use crate::refusal::{WordFault, not_taken, refusal_of};
 use clap::error::ErrorKind;
 use clap::{Arg, ArgAction, ArgMatches, Command};
 use codes3270::Model;
 use host_core::Terminals;
 use jobs::{
-    ApplicationChoice, HelpTopic, Job, Operand, OperateOptions, Port, ReplyTime, Seconds, Service,
-    ServicePort, TimeLimits, TtySize, Turns, address_of, model_of,
+    ApplicationChoice, CommandWords, ControlChoice, HelpTopic, Job, Operand, OperateOptions, Port,
+    ReplyTime, Seconds, Service, ServicePort, TimeLimits, TtySize, Turns, address_of, model_of,
 };
 use std::alloc::{AllocError, Global};
 use std::net::{IpAddr, Ipv4Addr};
@@ -26,17 +26,15 @@ use tn3270e_msg::Lu;
 
 // ---- the command line
 
-/// The clap argument of an option.
+/// The clap argument of an option or operand.
 fn argument<'a>(alloc: Global, option: &JobOption<'a>) -> Arg<'a>
     ensures { IsArgument (option_rule (row_of option.now)) result }
 {
-    let argument = Arg::new(alloc, option.name)
-        .long(option.name)
-        .required(option.required);
-    if option.kind.takes_value() {
-        argument
-    } else {
-        argument.action(ArgAction::SetTrue)
+    let argument = Arg::new(alloc, option.name).required(option.required);
+    match option.kind {
+        ValueKind::Operand => argument,
+        ValueKind::Flag => argument.long(option.name).action(ArgAction::SetTrue),
+        _ => argument.long(option.name),
     }
 }
 
@@ -55,35 +53,12 @@ fn with_options<'a>(
     Ok(job)
 }
 
-/// A job's subcommand with an operand: a word without an option name.
-fn with_word<'a>(alloc: Global, job: Command<'a>, name: &'a str) -> Result<Command<'a>, AllocError>
-    ensures { IfOk result (AddsArguments (operand_rules (Some name.entry.now)) job.entry) }
-{
-    let word = Arg::new(alloc, name);
-    job.arg(word)
-}
-
-/// A job's subcommand with its operand, if the job has one.
-fn with_operand<'a>(
-    alloc: Global,
-    job: Command<'a>,
-    operand: Option<&'a str>,
-) -> Result<Command<'a>, AllocError>
-    ensures { IfOk result (AddsArguments (operand_rules (option_map (λ name. name.now) operand.entry)) job.entry) }
-{
-    match operand {
-        Some(name) => with_word(alloc, job, name),
-        None => Ok(job),
-    }
-}
-
-/// A job's subcommand with its options and its operand.
+/// A job's subcommand with its options and operands.
 fn job<'a>(alloc: Global, topic: HelpTopic) -> Result<Command<'a>, AllocError>
     ensures { IfOk result (IsJob (job_shape topic)) }
 {
     let bare = Command::new(alloc, name_of(topic));
-    let job = with_options(alloc, bare, options_of(topic))?;
-    with_operand(alloc, job, operand_of(topic))
+    with_options(alloc, bare, options_of(topic))
 }
 
 /// A command with these jobs as subcommands.
@@ -345,6 +320,27 @@ fn application_in<'a>(options: &ArgMatches<'a>) -> Option<ApplicationChoice<'a>>
     })
 }
 
+/// How the service is controlled.
+fn control_in<'a>(options: &ArgMatches<'a>) -> Option<ControlChoice<'a>>
+    ensures { result ≡ given_control (rows_of (found_of options.now)) }
+{
+    Some(ControlChoice {
+        socket: text_in(options, "control"),
+        drain: seconds_in(options, "drain", Seconds::of(0))?,
+    })
+}
+
+/// The words of the command that `tell` sends.
+fn command_in<'a>(options: &ArgMatches<'a>) -> Option<CommandWords<'a>>
+    ensures { result ≡ given_command (rows_of (found_of options.now)) }
+{
+    Some(CommandWords {
+        name: text_in(options, "command")?,
+        first: text_in(options, "first"),
+        second: text_in(options, "second"),
+    })
+}
+
 /// The topic after `help`: the whole program if no job is named. None if the word isn't the name of a job.
 fn topic_in(options: &ArgMatches<'_>) -> Option<HelpTopic>
     ensures { result ≡ given_topic (rows_of (found_of options.now)) }
@@ -391,6 +387,11 @@ fn job_of<'a>(topic: HelpTopic, options: &ArgMatches<'a>) -> Option<Job<'a>>
             service: sound_service_in(options)?,
             panels: text_in(options, "panels"),
             application: application_in(options)?,
+            control: control_in(options)?,
+        },
+        HelpTopic::Tell => Job::Tell {
+            socket: text_in(options, "socket")?,
+            command: command_in(options)?,
         },
         HelpTopic::Term => Job::Term {
             port: port_in(options)?,

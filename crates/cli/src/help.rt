@@ -81,6 +81,16 @@ fn text_of(topic: HelpTopic) -> JobText {
             purpose: "Serve panels to terminals that connect, without end, and log each connection on standard error.",
             notes: "\n\nOther SECONDS are 0 to 1000000; 0 is no limit.\nINPUT is panels in TOML.",
         },
+        HelpTopic::Tell => JobText {
+            summary: "send a command to a running service, and print its answer",
+            purpose: "Send a command to the service that has this control socket, and print its answer.",
+            notes: "\n\nCOMMAND is one of:\n  \
+                sessions         list the sessions\n  \
+                note LU|* TEXT   show TEXT in the last row of an LU's screen, or of each screen\n  \
+                drain [TEXT]     take no new session, show TEXT on each screen, and end after the last session\n  \
+                stop             end\n\
+                TEXT is one word: quote it. It has at most 131 characters.",
+        },
         HelpTopic::Term => JobText {
             summary: "be a terminal of the host at 127.0.0.1, and do commands",
             purpose: "Be a terminal of the host at 127.0.0.1, and do commands.",
@@ -111,6 +121,7 @@ fn after_options(topic: HelpTopic) -> &'static str {
     match topic {
         HelpTopic::Check => " [FILE]",
         HelpTopic::Help => " [JOB]",
+        HelpTopic::Tell => " SOCKET COMMAND",
         HelpTopic::Program | HelpTopic::Operate | HelpTopic::Version => "",
         _ => " < INPUT",
     }
@@ -127,6 +138,9 @@ impl fmt::Display for Usage<'_> {
     fn fmt<W: fmt::Write>(&self, f: &mut fmt::Formatter<W>) -> fmt::Result {
         let lists_all = self.0.len() <= MOST_LISTED;
         for option in self.0 {
+            if option.kind.is_operand() {
+                continue;
+            }
             let (name, value) = (option.name, option.kind.placeholder());
             if option.required {
                 write!(f, " --{name}{value}")?;
@@ -147,10 +161,13 @@ struct OptionList<'a>(&'a [JobOption<'a>]);
 
 impl fmt::Display for OptionList<'_> {
     fn fmt<W: fmt::Write>(&self, f: &mut fmt::Formatter<W>) -> fmt::Result {
-        if !self.0.is_empty() {
+        if self.0.iter().any(|option| !option.kind.is_operand()) {
             f.write_str("\n\noptions:")?;
         }
         for option in self.0 {
+            if option.kind.is_operand() {
+                continue;
+            }
             let (name, value, help) = (option.name, option.kind.placeholder(), option.help);
             let width = OPTION_WIDTH.saturating_sub(name.len());
             write!(f, "\n  --{name}{value:<width$}   {help}")?;

@@ -1,10 +1,10 @@
-//! The jobs: their names, their options, and the help texts of these.
-ghost use Rattle.std.specs.Prelude.{◌≡◌, map, option_map};
-ghost use Rattle.cli.specs.Topics.{name_of, operand_of, options_of, row_of, takes_value, topic_named};
+//! The jobs: their names, their options and operands, and the help texts of these.
+ghost use Rattle.std.specs.Prelude.{◌≡◌, map};
+ghost use Rattle.cli.specs.Topics.{is_operand, name_of, options_of, row_of, takes_value, topic_named};
 
 use jobs::HelpTopic;
 
-/// The kind of an option's value. A flag has none.
+/// The kind of an option's value. A flag has none; an operand is a value without an option's name.
 #[derive(Clone, Copy)]
 pub(crate) enum ValueKind {
     Port,
@@ -19,6 +19,7 @@ pub(crate) enum ValueKind {
     File,
     TtySize,
     Flag,
+    Operand,
 }
 
 impl ValueKind {
@@ -27,6 +28,13 @@ impl ValueKind {
         ensures { result ≡ takes_value self }
     {
         !matches!(self, ValueKind::Flag)
+    }
+
+    /// Whether this is the kind of an operand.
+    pub(crate) fn is_operand(self) -> bool
+        ensures { result ≡ is_operand self }
+    {
+        matches!(self, ValueKind::Operand)
     }
 
     /// The text for the value in usage lines, with a blank before it.
@@ -41,12 +49,12 @@ impl ValueKind {
             ValueKind::Url => " URL",
             ValueKind::File => " FILE",
             ValueKind::TtySize => " ROWSxCOLUMNS",
-            ValueKind::Flag => "",
+            ValueKind::Flag | ValueKind::Operand => "",
         }
     }
 }
 
-/// An option of a job.
+/// An option of a job, or an operand.
 #[derive(Clone, Copy)]
 pub(crate) struct JobOption<'a> {
     /// Its name, without the two dashes.
@@ -55,17 +63,24 @@ pub(crate) struct JobOption<'a> {
     pub(crate) kind: ValueKind,
     /// Whether it must be given.
     pub(crate) required: bool,
-    /// Its help text.
+    /// Its help text; that of an operand is in the job's help.
     pub(crate) help: &'a str,
 }
 
-/// An option that a job `needs` or `takes`: its name, the kind of its value, and its help text.
+/// An option that a job `needs` or `takes`: its name, the kind of its value, and its help text. An operand has only a
+/// name.
 macro_rules! option {
     (needs $name:literal: $kind:ident, $help:literal) => {
         JobOption { name: $name, kind: ValueKind::$kind, required: true, help: $help }
     };
     (takes $name:literal: $kind:ident, $help:literal) => {
         JobOption { name: $name, kind: ValueKind::$kind, required: false, help: $help }
+    };
+    (needs $name:literal) => {
+        JobOption { name: $name, kind: ValueKind::Operand, required: true, help: "" }
+    };
+    (takes $name:literal) => {
+        JobOption { name: $name, kind: ValueKind::Operand, required: false, help: "" }
     };
 }
 
@@ -91,7 +106,7 @@ static SELFRUN: [JobOption<'static>; 1] = [TURNS];
 
 static HOST: [JobOption<'static>; 2] = [PORT, TURNS];
 
-static SERVE: [JobOption<'static>; 13] = [
+static SERVE: [JobOption<'static>; 15] = [
     option!(needs "port": ServicePort, "the port, 1 to 65535"),
     option!(takes "listen": Address,
         "the IPv4 or IPv6 address to listen on; localhost is 127.0.0.1 [default: 127.0.0.1]"),
@@ -104,6 +119,8 @@ static SERVE: [JobOption<'static>; 13] = [
     option!(takes "application-timeout": ReplyTime, "the time that an answer may take, 1 to 3600 [default: 30]"),
     option!(takes "metrics": ServicePort,
         "the port of 127.0.0.1 that answers with metrics, 1 to 65535, not that of --port"),
+    option!(takes "control": File, "the socket for commands of the job tell: a file that serve makes"),
+    option!(takes "drain": Seconds, "end the sessions that are left this time after the command drain [default: 0]"),
     option!(takes "proxy-protocol": Flag,
         "each connection comes from a proxy, and begins with a header of the PROXY protocol, version 1 or 2"),
     option!(takes "own-terminals": Flag,
@@ -112,6 +129,17 @@ static SERVE: [JobOption<'static>; 13] = [
         "read the screen after each key, and drop a terminal that broke a rule; without --own-terminals"),
     option!(takes "quiet": Flag, "log no connection"),
 ];
+
+static CHECK: [JobOption<'static>; 1] = [option!(takes "file")];
+
+static TELL: [JobOption<'static>; 4] = [
+    option!(needs "socket"),
+    option!(needs "command"),
+    option!(takes "first"),
+    option!(takes "second"),
+];
+
+static HELP: [JobOption<'static>; 1] = [option!(takes "job")];
 
 static TERM: [JobOption<'static>; 3] = [PORT, LU, MODEL];
 
@@ -125,20 +153,21 @@ static OPERATE: [JobOption<'static>; 5] = [
 ];
 
 /// The jobs of the program.
-pub(crate) static JOBS: [HelpTopic; 10] = [
+pub(crate) static JOBS: [HelpTopic; 11] = [
     HelpTopic::Script,
     HelpTopic::Selfrun,
     HelpTopic::Show,
     HelpTopic::Check,
     HelpTopic::Host,
     HelpTopic::Serve,
+    HelpTopic::Tell,
     HelpTopic::Term,
     HelpTopic::Operate,
     HelpTopic::Help,
     HelpTopic::Version,
 ];
 
-/// The options of a job.
+/// The options of a job, and behind them its operands.
 pub(crate) fn options_of(topic: HelpTopic) -> &'static [JobOption<'static>]
     ensures { map row_of result.now ≡ options_of topic }
 {
@@ -147,24 +176,13 @@ pub(crate) fn options_of(topic: HelpTopic) -> &'static [JobOption<'static>]
         HelpTopic::Show => &SHOW,
         HelpTopic::Selfrun => &SELFRUN,
         HelpTopic::Host => &HOST,
+        HelpTopic::Check => &CHECK,
         HelpTopic::Serve => &SERVE,
+        HelpTopic::Tell => &TELL,
+        HelpTopic::Help => &HELP,
         HelpTopic::Term => &TERM,
         HelpTopic::Operate => &OPERATE,
-        HelpTopic::Program | HelpTopic::Check => &[],
-        HelpTopic::Help | HelpTopic::Version => &[],
-    }
-}
-
-/// The name of the operand of a job, which is a word without an option name; None if the job has none.
-pub(crate) fn operand_of<'a>(topic: HelpTopic) -> Option<&'a str>
-    ensures { option_map (λ name. name.now) result ≡ operand_of topic }
-{
-    match topic {
-        HelpTopic::Help => Some("job"),
-        HelpTopic::Check => Some("file"),
-        HelpTopic::Program | HelpTopic::Script | HelpTopic::Show | HelpTopic::Selfrun => None,
-        HelpTopic::Host | HelpTopic::Serve | HelpTopic::Term | HelpTopic::Operate => None,
-        HelpTopic::Version => None,
+        HelpTopic::Program | HelpTopic::Version => &[],
     }
 }
 
@@ -180,6 +198,7 @@ pub(crate) fn name_of<'a>(topic: HelpTopic) -> &'a str
         HelpTopic::Check => "check",
         HelpTopic::Host => "host",
         HelpTopic::Serve => "serve",
+        HelpTopic::Tell => "tell",
         HelpTopic::Term => "term",
         HelpTopic::Operate => "operate",
         HelpTopic::Help => "help",
@@ -198,6 +217,7 @@ pub(crate) fn topic_named(name: &str) -> Option<HelpTopic>
         "check" => Some(HelpTopic::Check),
         "host" => Some(HelpTopic::Host),
         "serve" => Some(HelpTopic::Serve),
+        "tell" => Some(HelpTopic::Tell),
         "term" => Some(HelpTopic::Term),
         "operate" => Some(HelpTopic::Operate),
         "help" => Some(HelpTopic::Help),

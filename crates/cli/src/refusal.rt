@@ -98,7 +98,7 @@ fn is_value(kind: ValueKind, word: &str) -> bool {
         ValueKind::Model => model_of(word).is_some(),
         ValueKind::ReplyTime => ReplyTime::read(word).is_some(),
         ValueKind::TtySize => TtySize::read(word).is_some(),
-        ValueKind::Url | ValueKind::File | ValueKind::Flag => true,
+        ValueKind::Url | ValueKind::File | ValueKind::Flag | ValueKind::Operand => true,
     }
 }
 

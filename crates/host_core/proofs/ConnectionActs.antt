@@ -12,7 +12,7 @@ use Rattle.host_core.specs.Does.{AnswerMayWantMemory, Does, DoesAnswer, MayWantM
 use Rattle.host_core.specs.Representation.{AnswerWantsMemory, AnswersOn, DoesOn, WantsMemory, shown_by}
 use Rattle.host_core.specs.Connections.{IsSoundConnection, service_of}
 use Rattle.host_core.specs.Notes.{noted, noted_as, may_note}
-use Rattle.host_core.specs.Questions.{act_by, answered_in, has_its_panel, is_asking, is_ticket, ticket_of}
+use Rattle.host_core.specs.Questions.{act_by, answered_in, has_its_panel, is_asking, is_ticket, panel_for, ticket_of}
 use Rattle.host_core.specs.Rooms.{out_room}
 use Rattle.host_core.specs.Session.{Session, is_agreed}
 use Rattle.host_core.specs.State.{Service, Connection, lu_of}
@@ -165,7 +165,7 @@ module _ (now : Connection) (service : ServiceValue) (box : Box HostEnd Global) 
       → granted new.talk.state ≡ lu_of now.service
   answer_holds app session ticket said does =
       same_claim (answer_keeps app said (answered_in app session ticket said old.session) old.session new before after answered
-      (answered_talks app old.session (act_by app old.session said said.panel) (is_ticket ticket (ticket_of session old.session)) (is_asking app old.session && has_its_panel app said)) does)
+      (answered_talks app old.session (act_by app old.session said (panel_for app old.session said)) (is_ticket ticket (ticket_of session old.session)) (is_asking app old.session && has_its_panel app said)) does)
 
   pub note_holds : (text : List ℕ) → DoesOn (noted text old.session) old.session before answered new after → granted new.talk.state ≡ lu_of now.service
   note_holds text does =

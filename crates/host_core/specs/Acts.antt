@@ -3,7 +3,7 @@ use Rattle.std.specs.Prelude.{◌==◌, ◌-◌, ◌&&◌, ◌||◌, not, ℕ, B
 use Rattle.std.specs.List.{list_any, list_all}
 use Rattle.std.specs.Option.{option_map_or}
 use Rattle.codes3270.specs.declared.attention.Aid.{Aid}
-use Rattle.codes3270.specs.declared.attention.Aid.TheVariants.{Enter, Clear, Pa}
+use Rattle.codes3270.specs.declared.attention.Aid.TheVariants.{NoAid, Enter, Clear, Pa}
 use Rattle.codes3270.specs.Size.{cells_in}
 use Rattle.datastream.specs.Wanted.{WantedScreen}
 use Rattle.shadow.specs.Queries.{field_at}
@@ -109,10 +109,16 @@ on_key app conn values aid (Go target) =
     once_filled_in app conn (Decision.Do (Act.Show target Fresh false values)) values aid
 on_key app conn values aid Ask = once_filled_in app conn Decision.Asks values aid
 
--- the panel that is shown after Clear: the target of that key, else the same panel
-abbrev pub target_or : ℕ → Next → ℕ
-target_or panel (Go target) = target
-target_or panel _ = panel
+-- the first panel, in the form for the terminal's model
+abbrev pub first_panel : Application → Session → ℕ
+first_panel app conn = app.shown (model_in conn) app.start
+
+-- The decision while no panel is on the screen, after agreement or Clear: this panel, or the one to which that leads,
+-- is shown fresh; or the application is asked.
+abbrev pub on_empty : ℕ → Values → Next → Decision
+on_empty panel values Again = Decision.Do (Act.Show panel Fresh false values)
+on_empty panel values (Go target) = Decision.Do (Act.Show target Fresh false values)
+on_empty panel values Ask = Decision.Asks
 
 -- the message that a panel is shown again with after a refusal
 abbrev pub repeated : Message → Message
@@ -124,15 +130,16 @@ repeated (Told text field) = Told text field
 
 -- the decision after a key; the flag says whether the screen was read since
 abbrev pub after_key : Application → Session → Aid → Bool → Decision
-after_key app conn Clear buffered =
-    Decision.Do (Act.Show (target_or conn.panel (app.next conn.panel Clear)) Fresh false conn.values)
+after_key app conn Clear buffered = on_empty conn.panel conn.values (app.next conn.panel Clear)
 after_key app conn aid buffered =
     if is_to_be_read app conn aid && not buffered then Decision.Do Act.Read
     else on_key app conn (learned conn.shadow (app.fields conn.panel) conn.values) aid (app.next conn.panel aid)
 
--- the decision by the reason for the turn: after agreement the first panel, after a refusal the same panel, whole
+-- The decision by the reason for the turn. After agreement the first panel is shown, or the application is asked, if
+-- the panel asks it at connect. After a refusal the same panel is shown, whole.
 abbrev pub decision_on : Application → Session → TurnReason → Decision
-decision_on app conn turn_reasons.Agreement = Decision.Do (Act.Show app.start Fresh false conn.values)
+decision_on app conn turn_reasons.Agreement =
+    on_empty app.start conn.values (app.next (first_panel app conn) NoAid)
 decision_on app conn (turn_reasons.Key aid buffered) = after_key app conn aid buffered
 decision_on app conn turn_reasons.Refusal = Decision.Do (Act.Show conn.panel (repeated conn.message) false conn.values)
 

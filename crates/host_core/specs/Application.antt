@@ -24,7 +24,8 @@ use Rattle.panels.specs.Screen.{Values, screen_of}
 --
 -- Panels are named by 0-based numbers: `start` is the first one; `has_panel` says which exist; `shown` is the one that
 -- a terminal of a model is shown if a panel is asked for; `fields` are a panel's; `next` is where a key leads from it,
--- and `screen` is the screen that it asks for; with `keep`, fields keep what the operator left there.
+-- or, with no AID, what is shown at connect in its place; and `screen` is the screen that it asks for; with `keep`,
+-- fields keep what the operator left there.
 pub record Application : Type 0 where
   pub begins : ScreenSize
   pub alternate : Model → ScreenSize
@@ -103,8 +104,17 @@ WantsProperScreens app =
 
 -- a panel without texts and fields, for a number that no panel has
 abbrev pub no_panel : PanelParts
-no_panel =
-    record { name = []; model = M2; otherwise = None; texts = []; fields = []; cursor = 0; targets = []; asked = [] }
+no_panel = record {
+  name = [];
+  model = M2;
+  otherwise = None;
+  texts = [];
+  fields = [];
+  cursor = 0;
+  targets = [];
+  asked = [];
+  asked_at_connect = false;
+}
 
 -- the panel with a number
 abbrev pub panel_at : Panels → ℕ → PanelParts

@@ -1,5 +1,5 @@
 -- The events that a connection keeps until they are reported (our profile).
-use Rattle.std.specs.Prelude.{ℕ, Bool, true, false, ◌||◌, List, [], ◌∷◌, ◌++◌, map, Option, Some, None, length, ltb, if◌then◌else◌}
+use Rattle.std.specs.Prelude.{ℕ, Bool, false, ◌||◌, List, [], ◌∷◌, ◌++◌, map, Option, Some, None, length, ltb, if◌then◌else◌}
 use Rattle.std.specs.Option.{option_or}
 use Rattle.shadow.specs.declared.rule_break.RuleBreak.{RuleBreak}
 use Rattle.host_core.specs.declared.dropped_key.DroppedKey.{DroppedKey}

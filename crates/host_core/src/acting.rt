@@ -1,5 +1,5 @@
 //! The host's turn: what it decides, and how it acts on that.
-ghost use Rattle.std.specs.Prelude.{◌≡◌, ◌≤◌, ◌<◌, ℕ, Bool, false, true, Some, OnOk, OnErr, length, ◌≢◌, [], IfOk, is_some, not, ◌&&◌};
+ghost use Rattle.std.specs.Prelude.{◌≡◌, ◌≤◌, ◌<◌, ℕ, Bool, false, true, Some, OnOk, OnErr, length, ◌≢◌, [], IfOk, IfSome, is_some, not, ◌&&◌};
 ghost use Rattle.std.specs.List.{list_any};
 ghost use Rattle.std.specs.Vec.{vec_capacity};
 ghost use Rattle.codes3270.specs.Size.{cells_in};
@@ -8,7 +8,7 @@ ghost use Rattle.panels.specs.Keys.{IsKey};
 ghost use Rattle.panels.specs.Panel.{Panels, HaveNumbersApart};
 ghost use Rattle.panels.specs.declared.message.Message.TheVariants.{Fresh};
 ghost use Rattle.panels.specs.declared.next.Next.TheVariants.{Go};
-ghost use Rattle.host_core.specs.Acts.{Act as ActValue, Decision as DecisionValue, acted, after_key, decision_in, decision_on, done, is_in_doubt as in_doubt, is_to_be_read, on_key, may_act, once_filled_in, repeated, target_or, check_required, learned};
+ghost use Rattle.host_core.specs.Acts.{Act as ActValue, Decision as DecisionValue, acted, after_key, decision_in, decision_on, done, first_panel, is_in_doubt as in_doubt, is_to_be_read, on_empty, on_key, may_act, once_filled_in, repeated, check_required, learned};
 ghost use Rattle.shadow.specs.Belief.{IsOfSize};
 ghost use Rattle.host_core.specs.Application.{Application, application_of, panel_at};
 ghost use Rattle.host_core.specs.Choices.{CanBeDone, CanBeShown, act_of, decision_of, values_with};
@@ -20,19 +20,19 @@ ghost use Rattle.host_core.specs.Sound.{IsShownOn};
 ghost use Rattle.host_core.specs.declared.acting.Decision.TheVariants.{Show};
 ghost use Rattle.panels.specs.Values.{value_of, without_fields};
 ghost use Rattle.shadow.specs.Storable.{CanBeStored};
-ghost use Rattle.host_core.specs.Questions.{HasTexts, act_by, answered_in, answered_on, has_its_panel, has_value_of, is_asking, key_of, named_fields, question_in, ticket_of, values_for};
+ghost use Rattle.host_core.specs.Questions.{HasTexts, act_by, answered_in, answered_on, has_its_panel, has_value_of, cursor_asked, is_asking, key_of, named_fields, panel_asked, panel_for, question_in, texts_asked, ticket_of, values_for};
 
 use crate::acted::Acted;
 use crate::asking::{has_its_panel, has_value_of, key_of, learn_without};
 use crate::learning::{first_missing, is_in_doubt, learn_all, texts_known};
 use crate::pending::Pending;
-use crate::question::{Answer, Question, Ticket, is_ticket};
+use crate::question::{Answer, Question, Ticket, is_screen_empty, is_ticket};
 use crate::room::{COMMAND_ROOM, READ_BUFFER_ROOM};
 use crate::sending::panel_in;
 use crate::session::Session;
 use crate::turn::Turn;
 use crate::turn_reason::TurnReason;
-use codes3270::Aid;
+use codes3270::{Addr, Aid};
 use panels::{Field, Message, Next, PanelSet, Values};
 use shadow::Shadow;
 use telnet_wire::Memory;
@@ -215,20 +215,30 @@ impl Session {
         }
     }
 
-    /// The decision after Clear: the target of that key is shown, else the same panel.
-    fn after_clear(&self, panels: &PanelSet) -> Decision
-        requires panel { IsShownOn panels.now self.now }
+    /// The decision while no panel is on the screen, after agreement or Clear: this panel, or the one to which that
+    /// leads, is shown fresh; or the application is asked.
+    fn on_empty(&self, panels: &PanelSet, panel: usize, next: Next) -> Decision
         requires known { IsOfSize (cells_in self.now.size) self.now.shadow }
+        requires panel { panel < length panels.now.panels }
+        requires target { (target : ℕ) → next ≡ Go target → target < length panels.now.panels }
         ensures decision { decision_of (application_of panels.now) self.now result
-            ≡ Some (DecisionValue.Do (ActValue.Show
-            (target_or self.now.panel ((application_of panels.now).next self.now.panel Clear))
-            Fresh false self.now.values)) }
+            ≡ Some (on_empty panel self.now.values next) }
         ensures can_be_done { CanBeDone panels.now self.now result }
     {
-        match next_of(panels, self.panel, &Aid::Clear) {
-            Next::Again | Next::Ask => fresh(self.panel, false),
+        match next {
+            Next::Again => fresh(panel, false),
             Next::Go(target) => fresh(target, false),
+            Next::Ask => Decision::Ask,
         }
+    }
+
+    /// The number of the first panel, in the form for the terminal's model.
+    fn first_panel(&self, panels: &PanelSet) -> usize
+        ensures panel { result ≡ first_panel (application_of panels.now) self.now }
+        ensures there { result < length panels.now.panels }
+    {
+        panels.panels_are_sound();
+        panels.shown(panels.start(), self.shown_model())
     }
 
     /// The decision after a key; `buffered` says whether the screen was read since.
@@ -241,7 +251,7 @@ impl Session {
     {
         self.fields_are_believed(panels);
         match aid {
-            Aid::Clear => self.after_clear(panels),
+            Aid::Clear => self.on_empty(panels, self.panel, next_of(panels, self.panel, aid)),
             Aid::NoAid | Aid::Enter | Aid::Pf(_) | Aid::Pa(_) => {
                 if self.is_to_be_read(panels, aid) && !buffered {
                     return Decision::Read;
@@ -251,7 +261,8 @@ impl Session {
         }
     }
 
-    /// The decision in the host's turn: after agreement the first panel, after a refusal the same panel, whole.
+    /// The decision in the host's turn: after agreement the first panel, or a question, if the panel asks at connect;
+    /// after a refusal the same panel, whole.
     fn decide_in_turn(&self, panels: &PanelSet) -> Decision
         requires panel { IsShownOn panels.now self.now }
         requires known { IsOfSize (cells_in self.now.size) self.now.shadow }
@@ -260,7 +271,10 @@ impl Session {
         ensures can_be_done { CanBeDone panels.now self.now result }
     {
         match self.turn_reason {
-            TurnReason::Agreement => fresh(panels.start(), false),
+            TurnReason::Agreement => {
+                let next = next_of(panels, self.first_panel(panels), &Aid::NoAid);
+                self.on_empty(panels, panels.start(), next)
+            }
             TurnReason::Key(aid, buffered) => self.after_key(panels, &aid, buffered),
             TurnReason::Refusal => Decision::Show {
                 shown: Shown {
@@ -408,17 +422,43 @@ impl Session {
         }
     }
 
-    /// The known texts of the panel's fields. Memory is needed only if there is one.
-    fn texts(&self, panels: &PanelSet) -> Result<Values, Memory>
+    /// The known texts of the panel's fields; none while no panel is on the screen. Memory is needed only if there is
+    /// one.
+    fn texts_asked(&self, panels: &PanelSet) -> Result<Values, Memory>
         requires panel { self.now.panel < length panels.now.panels }
         requires fields { HaveFields self.now.shadow (panel_at panels.now self.now.panel).fields }
-        ensures texts { IfOk result
-            (λ texts. texts ≡ learned self.now.shadow (panel_at panels.now self.now.panel).fields []) }
-        ensures memory { OnErr result (learned self.now.shadow (panel_at panels.now self.now.panel).fields [] ≢ []) }
+        ensures texts { IfOk result (λ texts. texts ≡ texts_asked (application_of panels.now) self.now) }
+        ensures memory { OnErr result (texts_asked (application_of panels.now) self.now ≢ []) }
     {
+        if is_screen_empty(key_of(self.turn_reason)) {
+            return Ok(Values::new(*self.sent.allocator()));
+        }
         panels.panels_are_sound();
         let fields = panel_in(panels, self.panel).fields();
         texts_known(*self.sent.allocator(), &self.shadow, fields)
+    }
+
+    /// The number of the panel that a question is about: the one that was shown last; at connect the first one.
+    fn panel_asked(&self, panels: &PanelSet) -> usize
+        requires { self.now.panel < length panels.now.panels }
+        ensures panel { result ≡ panel_asked (application_of panels.now) self.now self.now.turn_reason }
+        ensures there { result < length panels.now.panels }
+    {
+        match self.turn_reason {
+            TurnReason::Agreement => self.first_panel(panels),
+            TurnReason::Key(_, _) | TurnReason::Refusal => self.panel,
+        }
+    }
+
+    /// The cursor of a question: the terminal's when it last sent data; 0 while no panel is on the screen.
+    fn cursor_asked(&self) -> Addr
+        ensures { result ≡ cursor_asked self.now }
+    {
+        if is_screen_empty(key_of(self.turn_reason)) {
+            Addr::first()
+        } else {
+            self.cursor
+        }
     }
 
     /// The question that is open, if one is. Memory is needed only for its texts.
@@ -438,13 +478,13 @@ impl Session {
         let Some(lu) = self.lu() else {
             return Ok(None);
         };
-        let values = self.texts(panels)?;
+        let values = self.texts_asked(panels)?;
         Ok(Some(Question {
             ticket: self.ticket(session),
             lu,
-            panel: self.panel,
+            panel: self.panel_asked(panels),
             aid: key_of(self.turn_reason),
-            cursor: self.cursor,
+            cursor: self.cursor_asked(),
             values,
         }))
     }
@@ -459,42 +499,72 @@ impl Session {
         }
     }
 
-    /// The fields of the panel that an answer names, in the form for the terminal's model; none if it names no panel.
-    fn named_fields<'a>(&self, panels: &'a PanelSet, answer: &Answer) -> &'a [Field]
-        requires { has_its_panel (application_of panels.now) answer.now ≡ true }
-        ensures { result.now ≡ named_fields (application_of panels.now) self.now answer.now.panel }
+    /// The panel that an answer shows whole: the one that it names; if it names none and no panel is on the screen, the
+    /// question's.
+    fn panel_for(&self, panels: &PanelSet, answer: &Answer) -> Option<usize>
+        requires panel { self.now.panel < length panels.now.panels }
+        requires there { has_its_panel (application_of panels.now) answer.now ≡ true }
+        ensures panel { result ≡ panel_for (application_of panels.now) self.now answer.now }
+        ensures there { IfSome result (λ panel. panel < length panels.now.panels) }
     {
         match answer.panel {
+            Some(panel) => Some(panel),
+            None => {
+                if is_screen_empty(key_of(self.turn_reason)) {
+                    Some(self.panel_asked(panels))
+                } else {
+                    None
+                }
+            }
+        }
+    }
+
+    /// The fields of a panel that is shown whole, in the form for the terminal's model; none if none is.
+    fn named_fields<'a>(&self, panels: &'a PanelSet, whole: Option<usize>) -> &'a [Field]
+        requires { IfSome whole (λ panel. panel < length panels.now.panels) }
+        ensures { result.now ≡ named_fields (application_of panels.now) self.now whole }
+    {
+        match whole {
             None => &[],
             Some(panel) => panel_in(panels, panels.shown(panel, self.shown_model())).fields(),
         }
     }
 
     /// A copy of the values of all fields, after the known texts and the answer's values are set.
-    fn values_for(&self, panels: &PanelSet, answer: &Answer) -> Result<Values, Memory>
+    fn values_for(
+        &self,
+        panels: &PanelSet,
+        answer: &Answer,
+        whole: Option<usize>,
+    ) -> Result<Values, Memory>
         requires panel { self.now.panel < length panels.now.panels }
         requires fields { HaveFields self.now.shadow (panel_at panels.now self.now.panel).fields }
-        requires there { has_its_panel (application_of panels.now) answer.now ≡ true }
+        requires there { IfSome whole (λ panel. panel < length panels.now.panels) }
         ensures { IfOk result
-            (λ values. values ≡ values_for (application_of panels.now) self.now answer.now answer.now.panel) }
+            (λ values. values ≡ values_for (application_of panels.now) self.now answer.now whole) }
     {
         panels.panels_are_sound();
         let mut values = self.values.clone()?;
         let fields = panel_in(panels, self.panel).fields();
-        let named = self.named_fields(panels, answer);
+        let named = self.named_fields(panels, whole);
         learn_without(&mut values, &self.shadow, fields, named)?;
         values.set_all(&answer.values)?;
         Ok(values)
     }
 
     /// Sets the known texts as values, for an answer without values. Memory is needed only if a value has to grow.
-    fn keep_known(&mut self, panels: &PanelSet, answer: &Answer) -> Result<(), Memory>
+    fn keep_known(
+        &mut self,
+        panels: &PanelSet,
+        answer: &Answer,
+        whole: Option<usize>,
+    ) -> Result<(), Memory>
         requires panel { self.old.panel < length panels.now.panels }
         requires fields { HaveFields self.old.shadow (panel_at panels.now self.old.panel).fields }
-        requires there { has_its_panel (application_of panels.now) answer.now ≡ true }
+        requires there { IfSome whole (λ panel. panel < length panels.now.panels) }
         requires none { answer.now.values ≡ [] }
         ensures values { OnOk result (self.new ≡ record self.old {
-          values = values_for (application_of panels.now) self.old answer.now answer.now.panel;
+          values = values_for (application_of panels.now) self.old answer.now whole;
         }) }
         ensures memory { OnErr result (Grow self.old.values
             (learned self.old.shadow (panel_at panels.now self.old.panel).fields self.old.values)) }
@@ -502,39 +572,44 @@ impl Session {
     {
         panels.panels_are_sound();
         let fields = panel_in(panels, self.panel).fields();
-        let named = self.named_fields(panels, answer);
+        let named = self.named_fields(panels, whole);
         learn_without(&mut self.values, &self.shadow, fields, named)
     }
 
     /// Sets the known texts and the answer's values as values of their fields. Memory is needed only if a value has
     /// to grow, or if the answer has values; if it is refused, nothing changes.
-    fn set_values(&mut self, panels: &PanelSet, answer: &Answer) -> Result<(), Memory>
+    fn set_values(
+        &mut self,
+        panels: &PanelSet,
+        answer: &Answer,
+        whole: Option<usize>,
+    ) -> Result<(), Memory>
         requires panel { self.old.panel < length panels.now.panels }
         requires fields { HaveFields self.old.shadow (panel_at panels.now self.old.panel).fields }
-        requires there { has_its_panel (application_of panels.now) answer.now ≡ true }
+        requires there { IfSome whole (λ panel. panel < length panels.now.panels) }
         ensures values { OnOk result (self.new ≡ record self.old {
-          values = values_for (application_of panels.now) self.old answer.now answer.now.panel;
+          values = values_for (application_of panels.now) self.old answer.now whole;
         }) }
         ensures memory { OnErr result (ValuesMayWantMemory (application_of panels.now) answer.now self.old) }
         ensures err { OnErr result (self.new ≡ self.old) }
     {
         if answer.values.is_empty() {
-            return self.keep_known(panels, answer);
+            return self.keep_known(panels, answer, whole);
         }
-        self.values = self.values_for(panels, answer)?;
+        self.values = self.values_for(panels, answer, whole)?;
         Ok(())
     }
 
     /// What an answer shows, after the values of fields are set.
-    fn shown_by(&self, panels: &PanelSet, answer: &Answer) -> Shown
+    fn shown_by(&self, panels: &PanelSet, answer: &Answer, whole: Option<usize>) -> Shown
         requires panel { self.now.panel < length panels.now.panels }
-        requires there { has_its_panel (application_of panels.now) answer.now ≡ true }
-        ensures act { act_of (values_for (application_of panels.now) self.now answer.now answer.now.panel) result
-            ≡ act_by (application_of panels.now) self.now answer.now answer.now.panel }
+        requires there { IfSome whole (λ panel. panel < length panels.now.panels) }
+        ensures act { act_of (values_for (application_of panels.now) self.now answer.now whole) result
+            ≡ act_by (application_of panels.now) self.now answer.now whole }
         ensures can_be_done { CanBeShown (length panels.now.panels) result }
     {
         let message = Message::Told(answer.message, answer.cursor);
-        match answer.panel {
+        match whole {
             None => Shown {
                 panel: self.panel,
                 message,
@@ -563,8 +638,9 @@ impl Session {
         if out.reserve(COMMAND_ROOM).is_err() {
             return Acted::Memory;
         }
-        let shown = self.shown_by(panels, answer);
-        if self.set_values(panels, answer).is_err() {
+        let whole = self.panel_for(panels, answer);
+        let shown = self.shown_by(panels, answer, whole);
+        if self.set_values(panels, answer, whole).is_err() {
             return Acted::Memory;
         }
         self.show(panels, shown, out);

@@ -26,7 +26,7 @@ use panels::{Field, Message, PanelSet, Values};
 use shadow::Shadow;
 use telnet_wire::Memory;
 
-/// The key that gave the host the turn; NoAid if none did.
+/// The key that gave the host the turn; NoAid if none did, as at connect.
 pub(crate) fn key_of(turn_reason: TurnReason) -> Aid
     ensures { result ≡ key_of turn_reason }
 {

@@ -173,7 +173,8 @@ impl Host {
     }
 
     /// The question that is open on a connection: the operator has pressed a key that the panel asks the application
-    /// about, and the host waits for the answer. None if no question is open: then [`act`](Host::act) goes on.
+    /// about, or both ends have agreed on a session whose first panel asks at connect, and the host waits for the
+    /// answer. None if no question is open: then [`act`](Host::act) goes on.
     ///
     /// The question describes the operator's screen as it is now, and stays open until it is answered or the connection
     /// closes. Memory is needed only for its texts, so never if no question is open; if it is refused, ask again.

@@ -99,3 +99,6 @@ usual_keepalive = 60
 
 abbrev pub usual_idle : ℕ
 usual_idle = 0
+
+abbrev pub usual_drain : ℕ
+usual_drain = 0

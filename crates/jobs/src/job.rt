@@ -3,7 +3,7 @@ ghost use Rattle.std.specs.Prelude.{◌≡◌};
 ghost use Rattle.jobs.specs.OptionValues.{model_numbered, model_of};
 
 use crate::number::{Port, ServicePort, Turns};
-use crate::service::{ApplicationChoice, Service};
+use crate::service::{ApplicationChoice, ControlChoice, Service};
 use crate::tty_size::TtySize;
 use crate::word::number_of;
 use codes3270::Model;
@@ -72,10 +72,21 @@ pub enum HelpTopic {
     Check,
     Host,
     Serve,
+    Tell,
     Term,
     Operate,
     Help,
     Version,
+}
+
+/// The words of a command to a running service.
+#[derive(Debug, Drop)]
+pub struct CommandWords<'a> {
+    /// The command's name.
+    pub name: Operand<'a>,
+    /// The words behind it.
+    pub first: Option<Operand<'a>>,
+    pub second: Option<Operand<'a>>,
 }
 
 /// The options of `operate`: the host's address and port, the terminal, and its tty.
@@ -122,6 +133,12 @@ pub enum Job<'a> {
         service: Service,
         panels: Option<Operand<'a>>,
         application: ApplicationChoice<'a>,
+        control: ControlChoice<'a>,
+    },
+    /// Sends a command to the service that has this control socket.
+    Tell {
+        socket: Operand<'a>,
+        command: CommandWords<'a>,
     },
     /// Runs a terminal of this model at a host, and executes the commands of a script.
     Term {

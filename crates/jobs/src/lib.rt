@@ -14,8 +14,8 @@ mod tty_size;
 mod word;
 
 pub use hex_line::bytes_of_line;
-pub use job::{HelpTopic, Job, Operand, OperateOptions, model_of};
+pub use job::{CommandWords, HelpTopic, Job, Operand, OperateOptions, model_of};
 pub use number::{BoundedU16, BoundedU32, Port, ReplyTime, Seconds, ServicePort, Turns};
-pub use service::{ApplicationChoice, Service, TimeLimits, address_of};
+pub use service::{ApplicationChoice, ControlChoice, Service, TimeLimits, address_of};
 pub use tty_size::TtySize;
 pub use word::{behind, number_of};

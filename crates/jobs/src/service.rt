@@ -1,4 +1,4 @@
-//! The options of `serve`: where it listens, its time limits, and what it reports.
+//! The options of `serve`: where it listens, its time limits, what it reports, and how it is controlled.
 ghost use Rattle.std.specs.Prelude.{◌≡◌};
 ghost use Rattle.jobs.specs.OptionValues.{address_of, written_address};
 
@@ -44,6 +44,15 @@ pub struct ApplicationChoice<'a> {
     pub url: Option<Operand<'a>>,
     /// How long the application may take for a reply.
     pub reply_time: ReplyTime,
+}
+
+/// How an operator controls `serve` while it runs.
+#[derive(Debug, Drop)]
+pub struct ControlChoice<'a> {
+    /// The file name of the control socket; None if there is none.
+    pub socket: Option<Operand<'a>>,
+    /// After this time a drained service ends the sessions that are left. 0 is no limit.
+    pub drain: Seconds,
 }
 
 /// The IPv4 or IPv6 address that a word spells; None if it spells none.

@@ -1,6 +1,6 @@
 //! The program panel3270: TN3270E hosts, terminals and 3270 screens on the command line. It hands the arguments, the
 //! standard streams and files to other crates: `cli` parses the arguments and has the help; `scripts`, `service`,
-//! `selfrun` and `operate` run the jobs.
+//! `tell`, `selfrun` and `operate` run the jobs.
 #![tactic(auto)]
 
 ghost use Rattle.std.specs.Iterator.{IsFinite};
@@ -9,7 +9,7 @@ use cli::{VERSION, WordFault, refuse_words, run_help, run_version, words};
 use job_streams::{
     CountedReader, CountedWriter, Fault, Sink, UntilClosed, refuse_file, report_and_exit_code,
 };
-use jobs::{ApplicationChoice, Job, Operand, OperateOptions, Service};
+use jobs::{ApplicationChoice, ControlChoice, Job, Operand, OperateOptions, Service};
 use operate::run_operate;
 use scripts::{run_check, run_script, run_show, run_term};
 use selfrun::run_selfrun;
@@ -19,6 +19,7 @@ use std::fs::File;
 use std::io::{self, ErrorKind, IsTerminal, Stdout};
 use std::process::ExitCode;
 use std::sync::Wait;
+use tell::run_tell;
 
 /// The name of the standard input in reports.
 const STANDARD_INPUT: &str = "standard input";
@@ -57,6 +58,7 @@ fn serve<T: Iterator<Item = ()>>(
     service: &Service,
     panels: Option<Operand<'_>>,
     application: &ApplicationChoice<'_>,
+    control: &ControlChoice<'_>,
 ) -> u8
     requires can { T.can_next turns }
     requires ends { IsFinite (T.remaining turns) }
@@ -75,6 +77,7 @@ fn serve<T: Iterator<Item = ()>>(
             turns,
             service,
             application,
+            control,
             STANDARD_INPUT,
             VERSION,
             &mut input,
@@ -88,6 +91,7 @@ fn serve<T: Iterator<Item = ()>>(
             turns,
             service,
             application,
+            control,
             panels.as_str(),
             VERSION,
             &mut CountedReader::new(file),
@@ -152,7 +156,11 @@ fn do_job<T: Iterator<Item = ()>>(rt: &HostRuntime, turns: T, job: Job<'_>) -> u
             service,
             panels,
             application,
-        } => serve(rt, turns, &service, panels, &application),
+            control,
+        } => serve(rt, turns, &service, panels, &application, &control),
+        Job::Tell { socket, command } => {
+            run_tell(rt, alloc, &socket, &command, &mut out, &mut faults)
+        }
         Job::Term { port, lu, model } => {
             run_term(rt, port, model, lu, &mut input, &mut out, &mut faults)
         }

@@ -252,7 +252,7 @@ impl<'s, 'a> Words<'s, 'a> {
         Ok(())
     }
 
-    /// Says which names in a panel's `keys` and `asks` aren't those of keys that may be there.
+    /// Says which names in a panel's `keys` and `asks` aren't those of keys; `asks` may have `connect`, too.
     fn bad_keys(&mut self) -> Done {
         if let Some(keys) = self.survey.table(self.part) {
             for key in keys.keys() {
@@ -264,11 +264,9 @@ impl<'s, 'a> Words<'s, 'a> {
         };
         self.part = Location::Panel(panel);
         for name in self.survey.texts(self.part, "asks")? {
-            if name == "clear" {
-                let words = "'clear' leaves no fields to ask about";
-                self.say("asks", String::from_str(self.alloc, words)?)?;
+            if name != "connect" {
+                self.no_key("asks", name)?;
             }
-            self.no_key("asks", name)?;
         }
         Ok(())
     }
@@ -281,6 +279,9 @@ impl<'s, 'a> Words<'s, 'a> {
         let mut nearest = Nearest::to(self.alloc, name);
         for known in &KEY_NAMES {
             nearest.offer(*known)?;
+        }
+        if key == "asks" {
+            nearest.offer("connect")?;
         }
         let name = quote(self.alloc, name)?;
         let message = nearest.behind(format!(in self.alloc; "no key is named {name}")?)?;

@@ -220,9 +220,9 @@ one_list_of_targets draft panel p one other clean is also =
 
 -- ---- panels
 
-abbrev panel_parts : List ℕ → Model → Option ℕ → List TextItem → List FieldItem → ℕ → List (Option ℕ) → List Bool → PanelParts
-panel_parts name model otherwise texts fields cursor targets asked =
-    record { name = name; model = model; otherwise = otherwise; texts = texts; fields = fields; cursor = cursor; targets = targets; asked = asked }
+abbrev panel_parts : List ℕ → Model → Option ℕ → List TextItem → List FieldItem → ℕ → List (Option ℕ) → List Bool → Bool → PanelParts
+panel_parts name model otherwise texts fields cursor targets asked at_connect =
+    record { name = name; model = model; otherwise = otherwise; texts = texts; fields = fields; cursor = cursor; targets = targets; asked = asked; asked_at_connect = at_connect }
 
 one_panel : (draft : DraftText) (panel : DraftPanel) (p : ℕ) (one other : PanelParts) → IsFaultless draft → slice_get draft.panels p ≡ Some panel → IsPanelOf draft.panels p panel one
     → IsPanelOf draft.panels p panel other → one ≡ other
@@ -237,14 +237,15 @@ one_panel draft panel p one other clean there is also =
     one_cursor shape draft panel p panel.cursor one.fields one.cursor other.cursor clean there is.fields is.cursor
     (subst (λ list. IsCursorBy panel.cursor list other.cursor) (sym fields) also.cursor) in
     let otherwise : one.otherwise ≡ other.otherwise = one_otherwise draft (otherwise_of panel) one.otherwise other.otherwise clean is.otherwise also.otherwise in
-    ap (λ name. panel_parts name one.model one.otherwise one.texts one.fields one.cursor one.targets one.asked) (is.name ∙ sym also.name)
-    ∙ ap (λ model. panel_parts other.name model one.otherwise one.texts one.fields one.cursor one.targets one.asked) (is.model ∙ sym also.model)
-    ∙ ap (λ place. panel_parts other.name other.model place one.texts one.fields one.cursor one.targets one.asked) otherwise
-    ∙ ap (λ list. panel_parts other.name other.model other.otherwise list one.fields one.cursor one.targets one.asked) texts
-    ∙ ap (λ list. panel_parts other.name other.model other.otherwise other.texts list one.cursor one.targets one.asked) fields
-    ∙ ap (λ place. panel_parts other.name other.model other.otherwise other.texts other.fields place one.targets one.asked) cursor
-    ∙ ap (λ list. panel_parts other.name other.model other.otherwise other.texts other.fields other.cursor list one.asked) (one_list_of_targets draft panel p one other clean is also)
-    ∙ ap (panel_parts other.name other.model other.otherwise other.texts other.fields other.cursor other.targets) (is.asked ∙ sym also.asked)
+    ap (λ name. panel_parts name one.model one.otherwise one.texts one.fields one.cursor one.targets one.asked one.asked_at_connect) (is.name ∙ sym also.name)
+    ∙ ap (λ model. panel_parts other.name model one.otherwise one.texts one.fields one.cursor one.targets one.asked one.asked_at_connect) (is.model ∙ sym also.model)
+    ∙ ap (λ place. panel_parts other.name other.model place one.texts one.fields one.cursor one.targets one.asked one.asked_at_connect) otherwise
+    ∙ ap (λ list. panel_parts other.name other.model other.otherwise list one.fields one.cursor one.targets one.asked one.asked_at_connect) texts
+    ∙ ap (λ list. panel_parts other.name other.model other.otherwise other.texts list one.cursor one.targets one.asked one.asked_at_connect) fields
+    ∙ ap (λ place. panel_parts other.name other.model other.otherwise other.texts other.fields place one.targets one.asked one.asked_at_connect) cursor
+    ∙ ap (λ list. panel_parts other.name other.model other.otherwise other.texts other.fields other.cursor list one.asked one.asked_at_connect) (one_list_of_targets draft panel p one other clean is also)
+    ∙ ap (λ list. panel_parts other.name other.model other.otherwise other.texts other.fields other.cursor other.targets list one.asked_at_connect) (is.asked ∙ sym also.asked)
+    ∙ ap (panel_parts other.name other.model other.otherwise other.texts other.fields other.cursor other.targets other.asked) (is.asked_at_connect ∙ sym also.asked_at_connect)
 
 abbrev panel_set : ℕ → List (List ℕ) → List PanelParts → Panels
 panel_set start lus panels = record { start = start; lus = lus; panels = panels }

@@ -16,7 +16,7 @@ use Rattle.panels.specs.Size.{model_numbered}
 use Rattle.panels.specs.Draft.{DraftItem, DraftPanel, DraftText, draft_of, draft_size, otherwise_of}
 use Rattle.panels.specs.Faults.{name_at, IsBasePanelNamed}
 use Rattle.panels.specs.Items.{IsExtentOf}
-use Rattle.panels.specs.Keys.{key_names, name_of_key, IsKey}
+use Rattle.panels.specs.Keys.{connect_name, key_names, name_of_key, IsKey}
 use Rattle.panels.specs.Panel.{PanelParts, target_of, Panels}
 use Rattle.panels.specs.Passes.{IsFaultless}
 
@@ -94,6 +94,7 @@ pub record IsPanelOf (panels : List DraftPanel) (p : ℕ) (draft : DraftPanel) (
   pub cursor : IsCursorBy draft.cursor panel.fields panel.cursor
   pub places : length panel.targets ≡ length key_names
   pub asked : panel.asked ≡ map (λ name. list_any (bytes_eq name) draft.asks) key_names
+  pub asked_at_connect : panel.asked_at_connect ≡ list_any (bytes_eq connect_name) draft.asks
   pub targets : (aid : Aid) → IsKey aid → IsTargetBy panels
       (option_and_then (λ name. text_at_key name draft.keys) (name_of_key aid)) (target_of panel aid)
 

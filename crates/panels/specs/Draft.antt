@@ -25,8 +25,8 @@ pub record DraftItem : Type 0 where
   pub marked : Bool
 
 -- A panel. `model` is 2 if there is none. `otherwise` is the name of the panel that is shown instead in a session of
--- another model, empty if there is none. `asks` has the names of the keys that the application decides on, and `keys`
--- those in its table of keys, each with the name of the panel that it leads to.
+-- another model, empty if there is none. `asks` has the names of the keys that the application decides on, and perhaps
+-- `connect`; `keys` has those in its table of keys, each with the name of the panel that it leads to.
 pub record DraftPanel : Type 0 where
   pub wrong : Option TreeFault
   pub name : List ℕ

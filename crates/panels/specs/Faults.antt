@@ -71,7 +71,7 @@ has_bad_name (Panel p) panels = option_map_or (λ name. not (is_panel_name name)
 has_bad_name (Field p i) panels = option_map_or (λ name. not (is_field_name name)) (name_at (Field p i) panels) false
 has_bad_name _ panels = false
 
--- whether the table of keys has a name of no key, or `asks` has a name on which the application can't decide
+-- whether the table of keys has a name of no key, or `asks` has one that is neither of a key nor `connect`
 abbrev pub has_strange_key : DraftPanel → Bool
 has_strange_key panel = list_any (λ key. not (is_key_name key.0)) panel.keys
     || list_any (λ name. not (is_asked_name name)) panel.asks
@@ -152,7 +152,7 @@ abbrev pub asks_twice : List (List ℕ) → Bool
 asks_twice [] = false
 asks_twice (name ∷ names) = list_any (bytes_eq name) names || asks_twice names
 
--- whether a panel's `asks` have a key twice, or one that its `keys` have too
+-- whether a panel's `asks` have a name twice, or one that its `keys` have too
 abbrev pub has_key_twice : DraftPanel → Bool
 has_key_twice panel = asks_twice panel.asks || list_any (λ key. list_any (bytes_eq key.0) panel.asks) panel.keys
 

@@ -1,5 +1,5 @@
--- The keys that may lead from a panel to another, and those on which the application may decide (our profile).
-use Rattle.std.specs.Prelude.{codes, ℕ, ◌+◌, ◌≤◌, ◌&&◌, not, Bool, List, [], ◌∷◌, Option, Some, None, option_and_then, slice_get, bytes_eq}
+-- The keys that may lead from a panel to another, and what the application may decide on (our profile).
+use Rattle.std.specs.Prelude.{codes, ℕ, ◌+◌, ◌≤◌, ◌||◌, Bool, List, [], ◌∷◌, Option, Some, None, option_and_then, slice_get, bytes_eq}
 use Rattle.std.specs.List.{list_any}
 use Rattle.codes3270.specs.declared.attention.Aid.{Aid}
 use Rattle.codes3270.specs.declared.attention.Aid.TheVariants.{NoAid, Enter, Clear, Pf, Pa}
@@ -18,9 +18,13 @@ key_names =
 abbrev pub is_key_name : List ℕ → Bool
 is_key_name name = list_any (bytes_eq name) key_names
 
--- whether the application may decide on a key: on any but `clear`, which leaves no fields on the screen
+-- the name in `asks` by which the application decides what a session shows first
+abbrev pub connect_name : List ℕ
+connect_name = codes "connect"
+
+-- whether `asks` may have a name: that of a key, or `connect`
 abbrev pub is_asked_name : List ℕ → Bool
-is_asked_name name = is_key_name name && not (bytes_eq name (codes "clear"))
+is_asked_name name = is_key_name name || bytes_eq name connect_name
 
 -- the index of a key in `key_names`: PA1 to PA3 have 2 to 4, PF1 to PF24 have 5 to 28
 abbrev pub place_of_key : Aid → Option ℕ

@@ -16,7 +16,8 @@ use Rattle.panels.specs.Size.{message_start}
 
 -- A panel. `otherwise` is the index of the panel that is shown instead in a session of another model, None for model 2.
 -- `cursor` is a buffer address. `targets` has the index of the panel that each key leads to, and `asked` whether the
--- application decides on the key, both in the order of `key_names`.
+-- application decides on the key, both in the order of `key_names`. With `asked_at_connect` it decides what a session
+-- whose first panel this is shows first.
 pub record PanelParts : Type 0 where
   pub name : List ℕ
   pub model : Model
@@ -26,6 +27,7 @@ pub record PanelParts : Type 0 where
   pub cursor : ℕ
   pub targets : List (Option ℕ)
   pub asked : List Bool
+  pub asked_at_connect : Bool
 
 -- the size of the screen on which a panel is laid out
 abbrev pub size_of : PanelParts → ScreenSize
@@ -42,8 +44,9 @@ target_of panel aid = option_and_then (target_at panel.targets) (place_of_key ai
 abbrev pub is_asked_at : List Bool → ℕ → Bool
 is_asked_at asked place = unwrap_or (slice_get asked place) false
 
+-- the same by its AID; with no AID, whether the application decides at connect
 abbrev pub is_asked : PanelParts → Aid → Bool
-is_asked panel aid = option_map_or (is_asked_at panel.asked) (place_of_key aid) false
+is_asked panel aid = option_map_or (is_asked_at panel.asked) (place_of_key aid) panel.asked_at_connect
 
 -- the panels of a text: the index of the first to be shown, the names of the LUs, and the panels
 pub record Panels : Type 0 where

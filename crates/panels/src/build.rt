@@ -97,6 +97,7 @@ impl<'a> Draft<'a> {
             cursor: cursor_of(panel.cursor, fields.as_slice()),
             targets: self.targets(alloc, panel)?,
             asked: asked_keys(alloc, panel)?,
+            asked_at_connect: panel.asks_at_connect(),
             fields,
         })
     }

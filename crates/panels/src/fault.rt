@@ -16,7 +16,7 @@ pub enum TreeFault {
     BadKind,
     /// A name isn't 1 to 16 of `A` to `Z` and `0` to `9` for a panel, or of `a` to `z`, `0` to `9` and `_` for a field.
     BadName,
-    /// An earlier panel, or an earlier field of any panel, has the name; or `asks` has a key twice, or one of `keys`.
+    /// An earlier panel, or an earlier field of any panel, has the name; or `asks` has a name twice, or one of `keys`.
     TwiceNamed,
     /// The item doesn't lie above the last row of the panel's screen, or its fill is longer than the item.
     OutOfPlace,
@@ -26,7 +26,7 @@ pub enum TreeFault {
     NoCode,
     /// `start`, `cursor`, `show` or a key names no such panel or field, or `otherwise` names no panel of model 2.
     NoTarget,
-    /// A name in `keys` or `asks` is of no key, or `asks` has `clear`.
+    /// A name in `keys` or `asks` is of no key; `asks` may have `connect` as well.
     BadKey,
     /// The text has more than 64 panels, or a panel more than 256 texts or 128 fields.
     TooMany,

@@ -2,7 +2,7 @@
 ghost use Rattle.std.specs.Prelude.{◌≡◌, ◌↔◌, List, ℕ, Some, IsTrue, Contains, MatchOption, bytes_eq, map, not, option_map, pos};
 ghost use Rattle.std.specs.List.{list_any};
 ghost use Rattle.panels.specs.Items.{is_name as is_name_by};
-ghost use Rattle.panels.specs.Keys.{is_asked_name, is_key_name};
+ghost use Rattle.panels.specs.Keys.{connect_name, is_asked_name, is_key_name};
 ghost use Rattle.panels.specs.declared.fault.Location.TheVariants as part;
 ghost use Rattle.panels.specs.Faults.{HasFieldNamed, HasLostCursor, has_key_twice, has_strange_key, asks_twice, HasLostOtherwise, IsBasePanelNamed, NamesBasePanel, NamesPanel, NamesField, name_at};
 ghost use Rattle.panels.specs.Index.{IsLater};
@@ -38,11 +38,14 @@ pub(crate) static KEY_NAMES: [&str; 29] = [
     "pf21", "pf22", "pf23", "pf24",
 ];
 
-/// Whether the application may be asked about a key.
+/// The name in `asks` by which the application decides what a session shows first.
+pub(crate) const CONNECT: &str = "connect";
+
+/// Whether `asks` may have a name: that of a key, or `connect`.
 fn is_asked_name(name: &str) -> bool
     ensures { result ≡ is_asked_name name.now }
 {
-    is_among(&KEY_NAMES, name) && name != "clear"
+    is_among(&KEY_NAMES, name) || name == CONNECT
 }
 
 /// Whether a name occurs twice.
@@ -93,18 +96,25 @@ impl<'a> PanelDraft<'a> {
         self.keys.iter().any(|key| !is_among(&KEY_NAMES, key.0))
     }
 
-    /// Whether its `asks` have a name that is of no key, or `clear`.
+    /// Whether its `asks` have a name that is neither of a key nor `connect`.
     fn asks_about_no_key(&self) -> bool
         ensures { result ≡ list_any (λ name. not (is_asked_name name)) self.now.asks }
     {
         self.asks.iter().any(|name| !is_asked_name(*name))
     }
 
-    /// Whether its `keys` or `asks` have a name that is of no key, or its `asks` have `clear`.
+    /// Whether its `keys` have a name that is of no key, or its `asks` one that is neither of a key nor `connect`.
     pub(crate) fn has_strange_key(&self) -> bool
         ensures { result ≡ has_strange_key self.now }
     {
         self.leads_from_no_key() || self.asks_about_no_key()
+    }
+
+    /// Whether its `asks` have `connect`.
+    pub(crate) fn asks_at_connect(&self) -> bool
+        ensures { result ≡ list_any (bytes_eq connect_name) self.now.asks }
+    {
+        is_among(self.asks.as_slice(), CONNECT)
     }
 
     /// Whether a key is both in its `keys` and in its `asks`.
@@ -116,7 +126,7 @@ impl<'a> PanelDraft<'a> {
             .any(|key| is_among(self.asks.as_slice(), key.0))
     }
 
-    /// Whether its `asks` have a key twice, or one that its `keys` have too.
+    /// Whether its `asks` have a name twice, or one that its `keys` have too.
     pub(crate) fn has_key_twice(&self) -> bool
         ensures { result ≡ has_key_twice self.now }
     {

@@ -10,7 +10,7 @@ use codes3270::Aid;
 pub enum Next {
     /// To the panel with this index.
     Go(usize),
-    /// Where the application decides.
+    /// To the application, which decides.
     Ask,
     /// Nowhere: the same panel is shown again.
     Again,
@@ -18,13 +18,19 @@ pub enum Next {
 
 impl Panel {
     /// Where a key leads: `Ask` if the panel leaves it to the application; else to the panel that its table of keys
-    /// names for the key; else `Again`.
+    /// names for the key; else `Again`. With `NoAid`: `Ask` if the panel asks the application at connect, else `Again`.
     pub fn next(&self, aid: Aid) -> Next
         ensures { result ≡ next_of self.now aid }
     {
         // The position of the key in `KEY_NAMES`.
         let place = match aid {
-            Aid::NoAid => return Next::Again,
+            Aid::NoAid => {
+                return if self.asked_at_connect {
+                    Next::Ask
+                } else {
+                    Next::Again
+                };
+            }
             Aid::Enter => 0,
             Aid::Clear => 1,
             Aid::Pa(key) => 1 + usize::from(key.get()),

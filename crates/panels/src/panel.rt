@@ -61,6 +61,8 @@ pub struct Panel {
     pub(crate) targets: Vec<Option<usize>>,
     /// Whether the application decides on each key, in the same order.
     pub(crate) asked: Vec<bool>,
+    /// Whether it decides what a session whose first panel this is shows first.
+    pub(crate) asked_at_connect: bool,
 }
 
 impl marker::Model for Panel {
@@ -77,6 +79,7 @@ impl marker::Model for Panel {
       cursor = panel.cursor;
       targets = panel.targets.items;
       asked = panel.asked.items;
+      asked_at_connect = panel.asked_at_connect;
     } };
 
     ghost invariant = { λ panel. IsLaidOut (record {
@@ -88,6 +91,7 @@ impl marker::Model for Panel {
       cursor = panel.cursor;
       targets = panel.targets.items;
       asked = panel.asked.items;
+      asked_at_connect = panel.asked_at_connect;
     }) };
 }
 

@@ -4,3 +4,4 @@ pub mod Visits
 pub mod Admitting
 pub mod Doors
 pub mod ServiceTurns
+pub mod Control

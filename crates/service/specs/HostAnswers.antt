@@ -1,6 +1,6 @@
 -- What a server does for an exchange with an application (our profile): the question, the answer, the reports, and the
 -- end of a session.
-use Rattle.std.specs.Prelude.{◌≡◌, ◌||◌, ℕ, Bool, true, false, List, Option, Some, None, Result, Ok, Err, slice_index_or, slice_set, unwrap_or}
+use Rattle.std.specs.Prelude.{◌≡◌, ℕ, Bool, List, Option, Some, None, Result, Ok, Err, slice_index_or, slice_set, unwrap_or}
 use Rattle.std.specs.Option.{option_and_then, option_map}
 use Rattle.applications.specs.Applications.{first_replaced}
 use Rattle.applications.specs.ExchangeTurns.{unless_failed}

@@ -7,5 +7,7 @@ pub mod ProxyListener
 pub mod NumberTurns
 pub mod HostAnswers
 pub mod TimeTurns
+pub mod Control
 pub mod ServerTurns
 pub mod ServiceTurns
+pub mod Serving

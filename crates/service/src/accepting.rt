@@ -34,3 +34,17 @@ pub trait Listener<S> {
     fn accept(&mut self) -> Option<Arrival<S>>
         ensures { gave self.old result self.new };
 }
+
+/// A listener that hands on nobody.
+#[derive(Drop)]
+pub(crate) struct NoListener;
+
+impl<S> Listener<S> for NoListener {
+    ghost use Rattle.std.specs.Prelude.{◌≡◌, None};
+
+    ghost gave = { λ _ answer _. answer ≡ None };
+
+    fn accept(&mut self) -> Option<Arrival<S>> {
+        None
+    }
+}

@@ -116,7 +116,7 @@ impl Model for ConnectionInfos {
 }
 
 /// None for each of 64 numbers.
-fn none_for_each<T: Drop>(alloc: Global) -> Result<Vec<Option<T>>, AllocError>
+pub(crate) fn none_for_each<T: Drop>(alloc: Global) -> Result<Vec<Option<T>>, AllocError>
     ensures { IfOk result (λ values. values.items ≡ replicate most_connections None) }
 {
     let mut values = Vec::with_capacity(alloc, MOST_CONNECTIONS)?;

@@ -6,16 +6,20 @@
 //! in each turn.
 //!
 //! `specs/ServerTurns` defines a turn of a server, `TimeTurns` what the time limits do, `ServiceTurns` a turn of
-//! `serve`, and `Uptimes` the server's time.
+//! `serve`, `Control` what operators command, and `Uptimes` the server's time.
 #![tactic(auto)]
 
 mod accepting;
 mod application;
 mod connection_info;
+mod control_socket;
 mod log;
 mod metered;
 mod metrics_port;
+mod note_queue;
+mod orders;
 mod proxy_listener;
+mod reply;
 mod reporting;
 mod server;
 mod server_core;

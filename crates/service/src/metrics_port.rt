@@ -1,11 +1,12 @@
 //! The port of 127.0.0.1 at which a server serves its metrics, and the clients there.
+use crate::reply::{IoProgress, Reply};
 use crate::server::Server;
-use host_core::{LinkRead, LinkWrite, MOST_CONNECTIONS};
+use host_core::{LinkRead, MOST_CONNECTIONS};
 use job_streams::Fault;
 use jobs::ServicePort;
 use mio::net::{TcpListener, TcpStream};
 use service_events::{HttpStatus, MetricsPage, RequestHead, is_late, response_of};
-use socket_links::{read_once, write_once};
+use socket_links::read_once;
 use std::alloc::{AllocError, Global};
 use std::net::{Ipv4Addr, Net, Shutdown, SocketAddr};
 
@@ -23,17 +24,6 @@ const PORT_TOKEN: usize = MOST_CONNECTIONS + 1;
 
 const CLIENT_TOKEN: usize = MOST_CONNECTIONS + 2;
 
-/// What one turn did for a client.
-#[derive(Clone, Copy)]
-enum IoProgress {
-    /// Bytes were read or sent.
-    Moved,
-    /// Nothing.
-    Still,
-    /// The client must be dropped.
-    Over,
-}
-
 /// A client of the port.
 #[derive(Drop)]
 struct MetricsClient {
@@ -43,9 +33,7 @@ struct MetricsClient {
     /// The request so far.
     asked: RequestHead,
     /// The response, once the request has a status.
-    response: Option<String>,
-    /// How many bytes of the response have been sent.
-    sent: usize,
+    response: Option<Reply>,
 }
 
 /// The response for a status, with the page of metrics if the status is 200.
@@ -66,14 +54,13 @@ impl MetricsClient {
             began,
             asked: RequestHead::new(alloc),
             response: None,
-            sent: 0,
         }
     }
 
     /// Whether a response is being sent.
     fn is_answering(&self) -> bool {
         match &self.response {
-            Some(response) => self.sent < response.len(),
+            Some(response) => !response.is_sent(),
             None => false,
         }
     }
@@ -117,36 +104,24 @@ impl MetricsClient {
     fn respond(&mut self, alloc: Global, status: HttpStatus, page: &MetricsPage) -> IoProgress {
         match response_for(alloc, status, page) {
             Ok(response) => {
-                self.response = Some(response);
+                self.response = Some(Reply::new(response));
                 IoProgress::Moved
             }
             Err(_) => IoProgress::Over,
         }
     }
 
-    /// Writes the rest of the response, as much as the socket takes.
+    /// Writes the rest of the response. After the last byte this side is shut down, and the client has to close: if
+    /// this end closed with bytes unread, TCP could discard what was sent.
     fn write(&mut self) -> IoProgress {
-        let Some(response) = &self.response else {
+        let Some(response) = &mut self.response else {
             return IoProgress::Still;
         };
-        let Some(unsent) = response.as_bytes().get(self.sent..) else {
-            return IoProgress::Over;
-        };
-        match write_once(&mut self.socket, unsent) {
-            LinkWrite::Took(count) => self.took(count),
-            LinkWrite::NotNow => IoProgress::Still,
-            LinkWrite::Failed => IoProgress::Over,
-        }
-    }
-
-    /// `count` bytes were sent. After the last one this side is shut down, and the client has to close: if this end
-    /// closed with bytes unread, TCP could discard what was sent.
-    fn took(&mut self, count: usize) -> IoProgress {
-        self.sent = self.sent.saturating_add(count);
-        if !self.is_answering() {
+        let progress = response.write(&mut self.socket);
+        if response.is_sent() {
             let _ = self.socket.shutdown(Shutdown::Write);
         }
-        IoProgress::Moved
+        progress
     }
 }
 

@@ -2,11 +2,14 @@
 ghost use Rattle.std.specs.Prelude.{◌≡◌, ◌<◌, IfOk};
 ghost use Rattle.host_core.specs.State.{most_connections};
 ghost use Rattle.socket_links.specs.Sockets.{is_connected, slot_at};
+ghost use Rattle.service.specs.Control.{DeliversBelow, StopsAt};
 ghost use Rattle.service.specs.HostAnswers.{AsksHost, HandsAnswer, HearsFault, HearsReplaced, TakesEnd, asked_in, client_at, ended_if, usage_at};
 ghost use Rattle.service.specs.ServerTurns.{AcceptsWaiting, PollsAndServes, new_core};
 ghost use Rattle.service.specs.TimeTurns.{KeepsTime};
+ghost use Rattle.service.specs.Visits.{VisitsEach};
 
-use crate::accepting::{Accepted, Arrival, Listener};
+use crate::accepting::{Accepted, Arrival, Listener, NoListener};
+use crate::note_queue::NoteQueue;
 use crate::proxy_listener::{ConnectionAwaitingHeader, MOST_HELD, ProxyListener};
 use crate::server_core::ServerCore;
 use crate::watcher::Watcher;
@@ -15,14 +18,16 @@ use codes3270::Model as TerminalModel;
 use host_core::{Acted, Answer, Host, MOST_CONNECTIONS, PanelSet, Ticket};
 use job_streams::{Fault, RawRead, RawWrite};
 use jobs::TimeLimits;
+use mio::event::Source;
 use mio::net::{TcpListener, TcpStream};
 use mio::{Events, Interest, Poll, Token};
 use service_events::{Client, Usage};
 use std::alloc::Global;
-use std::io;
+use std::io::{self, ErrorKind};
 use std::marker::Model;
 use std::net::{Net, SocketAddr};
 use std::time::Duration;
+use tn3270e_msg::Lu;
 
 /// The most events of one poll. Sockets without an event are also served.
 const MOST_EVENTS: usize = 128;
@@ -51,10 +56,22 @@ impl Model for Server {
     ghost view = { λ server. server.core };
 }
 
+/// What an operator gets to know of a session.
+#[derive(Clone, Copy)]
+pub(crate) struct SessionRow {
+    /// The LU that its terminal is bound to, if it is.
+    pub(crate) lu: Option<Lu>,
+    /// The address of its client.
+    pub(crate) peer: SocketAddr,
+    /// How long it has lasted, in seconds.
+    pub(crate) seconds: u64,
+}
+
 /// The listener of a server, and the poll to which accepted sockets are added.
 #[derive(Drop)]
 pub(crate) struct PolledListener {
-    listener: TcpListener,
+    /// None once the port is closed.
+    listener: Option<TcpListener>,
     poll: Poll,
 }
 
@@ -62,7 +79,7 @@ impl Listener<TcpStream> for PolledListener {
     ghost gave = { λ _ _ _. Unit {0} };
 
     fn accept(&mut self) -> Option<Arrival<TcpStream>> {
-        let Ok((mut socket, peer)) = self.listener.accept() else {
+        let Ok((mut socket, peer)) = self.listener.as_ref()?.accept() else {
             return None;
         };
         // Records are short, and their senders wait for answers. If one of these calls fails, the socket is still
@@ -74,7 +91,7 @@ impl Listener<TcpStream> for PolledListener {
 }
 
 /// Adds a socket to a poll.
-fn register(poll: &Poll, socket: &mut TcpStream, token: usize) -> io::Result<()> {
+fn register<S: Source>(poll: &Poll, socket: &mut S, token: usize) -> io::Result<()> {
     let interest = Interest::READABLE | Interest::WRITABLE;
     poll.registry().register(socket, Token(token), interest)
 }
@@ -85,7 +102,10 @@ fn listen(net: &impl Net, address: SocketAddr) -> io::Result<PolledListener> {
     let mut listener = TcpListener::bind(net, address)?;
     poll.registry()
         .register(&mut listener, LISTENER, Interest::READABLE)?;
-    Ok(PolledListener { listener, poll })
+    Ok(PolledListener {
+        listener: Some(listener),
+        poll,
+    })
 }
 
 impl Server {
@@ -133,9 +153,20 @@ impl Server {
         self.door.proxied = true;
     }
 
-    /// The listener's address. An error if the system can't report it.
+    /// Closes the port, and the connections whose header isn't complete yet.
+    pub(crate) fn close_port(&mut self)
+        ensures { self.new ≡ self.old }
+    {
+        self.door.listener.listener = None;
+        self.door.held.clear();
+    }
+
+    /// The listener's address. An error if the port is closed, or if the system can't report it.
     pub fn address(&self) -> io::Result<SocketAddr> {
-        self.door.listener.listener.local_addr()
+        match &self.door.listener.listener {
+            Some(listener) => listener.local_addr(),
+            None => Err(ErrorKind::NotConnected.into()),
+        }
     }
 
     /// The address of a connection's peer; None if there is no connection, or if the system can't report the address.
@@ -144,14 +175,14 @@ impl Server {
     }
 
     /// Adds a socket to the server's poll.
-    pub fn register(&self, socket: &mut TcpStream, token: usize) -> io::Result<()> {
+    pub fn register<S: Source>(&self, socket: &mut S, token: usize) -> io::Result<()> {
         register(&self.door.listener.poll, socket, token)
     }
 
     /// Adds a listener to the server's poll.
-    pub(crate) fn register_listener(
+    pub(crate) fn register_listener<L: Source>(
         &self,
-        listener: &mut TcpListener,
+        listener: &mut L,
         token: usize,
     ) -> io::Result<()> {
         self.door
@@ -187,6 +218,18 @@ impl Server {
         ensures { result.now ≡ self.now.host.panels }
     {
         self.core.host.panels()
+    }
+
+    /// What an operator gets to know of the session on an open connection; None if the number has none.
+    pub(crate) fn session_row(&self, conn: usize) -> Option<SessionRow>
+        requires { conn < most_connections }
+    {
+        let info = self.core.open_info(conn)?;
+        Some(SessionRow {
+            lu: info.lu,
+            peer: info.client.peer,
+            seconds: self.core.now.saturating_sub(info.activity.began) / 1000,
+        })
     }
 
     /// Whether a number has a connection.
@@ -270,6 +313,13 @@ impl Server {
         }
     }
 
+    /// Ends each open connection, since the service stops (see `ServerCore::stop_each`).
+    pub(crate) fn stop_each<W: Watcher>(&mut self, watcher: &mut W) -> Result<bool, Fault>
+        ensures { VisitsEach (StopsAt W.noticed W.showed) self.old watcher.old result self.new watcher.new }
+    {
+        self.core.stop_each(watcher)
+    }
+
     /// Reports to the watcher why a connection's question has no answer.
     pub(crate) fn report_unanswered<W: Watcher>(
         &self,
@@ -337,6 +387,42 @@ impl Server {
         }
         self.door.now = self.core.now;
         self.core.turn(&mut self.door, watcher)
+    }
+
+    /// One turn as [`turn`](Server::turn), in which nobody is accepted.
+    pub(crate) fn turn_closed<W: Watcher>(
+        &mut self,
+        poll_timeout: Duration,
+        watcher: &mut W,
+    ) -> Result<bool, Fault>
+        ensures { PollsAndServes ⟦<TcpStream as RawRead>⟧.read_gave
+            ⟦<TcpStream as RawWrite>⟧.write_took W.noticed W.showed
+            ⟦<NoListener as Listener<TcpStream>>⟧.gave self.old watcher.old result self.new watcher.new }
+    {
+        if self
+            .door
+            .listener
+            .poll
+            .poll(&mut self.events, Some(poll_timeout))
+            .is_err()
+        {
+            return Err(Fault::SocketFailed);
+        }
+        self.core.turn(&mut NoListener, watcher)
+    }
+
+    /// The server without its listener and its poll.
+    pub(crate) fn core(&self) -> &ServerCore<TcpStream>
+        ensures { result.now ≡ self.now }
+    {
+        &self.core
+    }
+
+    /// Sends the waiting notes that can be sent (see `NoteQueue::deliver_each`).
+    pub(crate) fn deliver(&mut self, notes: &mut NoteQueue) -> bool
+        ensures { DeliversBelow most_connections self.old notes.old result self.new notes.new }
+    {
+        notes.deliver_each(&mut self.core)
     }
 
     /// Accepts all waiting connections. A connection that the system can't accept now stays in its queue.

@@ -3,6 +3,7 @@ ghost use Rattle.std.specs.Prelude.{◌≡◌, ◌<◌, ◌∷◌, [], IfNone, I
 ghost use Rattle.host_core.specs.State.{most_connections};
 ghost use Rattle.socket_links.specs.Sockets.{AreTaken};
 ghost use Rattle.service.specs.Accepting.{Admits, AdmitsAll, IsLeastFree, Receives, door, most_accepted};
+ghost use Rattle.service.specs.Control.{SendsNote, StopsAt, is_open_below};
 ghost use Rattle.service.specs.HostAnswers.{HandsAnswer, ReportsOf, asked_in, end_at, end_told, ended_if, usage_at};
 ghost use Rattle.service.specs.NumberTurns.{ServesAt, ServesIfOpen, ended, given_back, open_at};
 ghost use Rattle.service.specs.ServerTurns.{TakesTurn, new_core};
@@ -15,6 +16,7 @@ use crate::connection_info::{ConnectionInfo, ConnectionInfos, SessionEnd};
 use crate::reporting::report;
 use crate::watcher::Watcher;
 use applications::SessionName;
+use control::NoteText;
 use host_core::{Acted, Answer, Host, MOST_CONNECTIONS, Phase, Served, Ticket, serve_turn};
 use job_streams::{Fault, RawRead, RawWrite};
 use jobs::TimeLimits;
@@ -123,6 +125,17 @@ impl<S: RawRead + RawWrite + Drop> ServerCore<S> {
             }
         }
         Ok(())
+    }
+
+    /// Whether any connection is open.
+    pub(crate) fn has_connection(&self) -> bool
+        ensures { result ≡ is_open_below most_connections self.entry.now }
+    {
+        let mut is_any = false;
+        for conn in 0..MOST_CONNECTIONS {
+            is_any |= self.sockets.is_connected(conn);
+        }
+        is_any
     }
 
     /// The record of an open connection; None if the number has none.
@@ -370,6 +383,41 @@ impl<S: RawRead + RawWrite + Drop> ServerCore<S> {
                 }
             }
         }
+    }
+
+    /// Sends a note on a number's connection, if the operator there has the turn (see `Host::note`).
+    #[tactic(auto, using(crate::proofs::Control::is_note_text))]
+    pub(crate) fn note(&mut self, conn: usize, text: &NoteText) -> Acted
+        requires number { conn < most_connections }
+        ensures { SendsNote conn text.now self.old result self.new }
+    {
+        self.host.note(conn, text.codes())
+    }
+
+    /// Ends a number's connection, if it is open, since the service stops. Answers whether it did.
+    fn stop_if_open<W: Watcher>(&mut self, conn: usize, watcher: &mut W) -> Result<bool, Fault>
+        requires number { conn < most_connections }
+        ensures { StopsAt W.noticed W.showed conn self.old watcher.old result self.new watcher.new }
+    {
+        match self.open_info(conn) {
+            Some(info) => {
+                self.end(conn, &info, Ending::Stopped, watcher)?;
+                Ok(true)
+            }
+            None => Ok(false),
+        }
+    }
+
+    /// Ends each open connection, in the order of the numbers, since the service stops. Answers whether there was one.
+    /// The first fault ends the call.
+    pub(crate) fn stop_each<W: Watcher>(&mut self, watcher: &mut W) -> Result<bool, Fault>
+        ensures { VisitsEach (StopsAt W.noticed W.showed) self.old watcher.old result self.new watcher.new }
+    {
+        let mut stopped = false;
+        for conn in 0..MOST_CONNECTIONS {
+            stopped |= self.stop_if_open(conn, watcher)?;
+        }
+        Ok(stopped)
     }
 
     /// Whether the application ends the session of an open connection, and it waits for the operator: the terminal has

@@ -1,11 +1,14 @@
 //! The jobs `host` and `serve`: serve the panels of the input to the terminals that connect.
 ghost use Rattle.std.specs.Iterator.{IsFinite};
 ghost use Rattle.std.specs.Prelude.{◌≡◌};
+ghost use Rattle.service.specs.Serving.{is_closed, is_over};
 
-use crate::accepting::Listener;
+use crate::accepting::{Listener, NoListener};
 use crate::application::Application;
+use crate::control_socket::ControlSocket;
 use crate::log::Log;
 use crate::metered::MetricsObserver;
+use crate::orders::Orders;
 use crate::proxy_listener::ProxyListener;
 use crate::server::{PolledListener, Server};
 use crate::service_turn::{TurnParts, take_turns};
@@ -16,12 +19,16 @@ use applications::{JobWithoutApplication, draw_boot, first_asked, host_of, refus
 use host_core::{Host, Terminals};
 use jiff::Timestamp;
 use job_streams::{Fault, RawRead, RawWrite, Sink, Source, read_whole, report_and_exit_code};
-use jobs::{ApplicationChoice, Port, Service, ServicePort, TimeLimits, Turns};
+use jobs::{
+    ApplicationChoice, ControlChoice, Port, Seconds, Service, ServicePort, TimeLimits, Turns,
+};
 use mio::net::TcpStream;
 use service_events::{Metrics, MetricsPage, Notice};
 use socket_links::poll_timeout;
 use std::alloc::Global;
 use std::fmt;
+use std::fs::{self, Files};
+use std::io::{self, ErrorKind};
 use std::net::{Ipv4Addr, Net, SocketAddr};
 use std::random::RandomSource;
 use std::time::{Clock, Instant};
@@ -136,11 +143,70 @@ fn application_of(
     }
 }
 
-/// A server, and the application that its host asks.
+/// How operators command a service.
+#[derive(Drop)]
+struct Control {
+    socket: ControlSocket,
+    orders: Orders,
+    /// The time for draining.
+    drain: Seconds,
+}
+
+/// A control socket that can't be made, and why. Prints as the line on standard error.
+#[derive(Clone, Copy)]
+struct NoSocket<'a> {
+    name: &'a str,
+    why: ErrorKind,
+}
+
+impl fmt::Display for NoSocket<'_> {
+    fn fmt<W: fmt::Write>(&self, f: &mut fmt::Formatter<W>) -> fmt::Result {
+        let reason = match self.why {
+            ErrorKind::AddrInUse => "is in use",
+            ErrorKind::NotFound => "no such folder",
+            ErrorKind::PermissionDenied => "permission denied",
+            ErrorKind::InvalidInput => "the name is too long for a socket",
+            _ => "refused by the system",
+        };
+        let name = self.name;
+        write!(f, "--control {name}: {reason}")
+    }
+}
+
+/// Prints why a control socket can't be made, and returns the exit status.
+fn refuse_socket<E: Sink>(name: &str, why: ErrorKind, faults: &mut E) -> u8 {
+    match why {
+        ErrorKind::OutOfMemory => report_and_exit_code(Fault::NoMemory, faults),
+        _ => {
+            let _ = faults.write_line(NoSocket { name, why });
+            4
+        }
+    }
+}
+
+/// The chosen control socket, if there is one.
+fn control_of<R: Files + Net>(
+    rt: &R,
+    alloc: Global,
+    choice: &ControlChoice<'_>,
+) -> io::Result<Option<Control>> {
+    let Some(name) = &choice.socket else {
+        return Ok(None);
+    };
+    let orders = Orders::new(alloc)?;
+    Ok(Some(Control {
+        socket: ControlSocket::listen(rt, alloc, name.as_str())?,
+        orders,
+        drain: choice.drain,
+    }))
+}
+
+/// A server, the application that its host asks, and how operators command it.
 #[derive(Drop)]
 struct Serving {
     server: Server,
     application: Option<Application>,
+    control: Option<Control>,
 }
 
 impl Serving {
@@ -152,6 +218,38 @@ impl Serving {
         }
     }
 
+    /// Does what operators command, and sends the notes that can be sent. Answers whether it did something.
+    fn obey<W: Watcher>(&mut self, now: u64, watcher: &mut W) -> Result<bool, Fault> {
+        let Some(control) = &mut self.control else {
+            return Ok(false);
+        };
+        let orders = &mut control.orders;
+        let moved = control
+            .socket
+            .serve_all(now, orders, &mut self.server, watcher)?;
+        Ok(moved | self.server.deliver(&mut orders.notes))
+    }
+
+    /// Whether no new session is taken.
+    fn is_closed(&self) -> bool
+        ensures { result ≡ is_closed self.now.control }
+    {
+        match &self.control {
+            Some(control) => control.orders.drained.is_some(),
+            None => false,
+        }
+    }
+
+    /// Whether operators ended the service.
+    fn is_over(&self) -> bool
+        ensures { result ≡ is_over self.now.control self.now.server }
+    {
+        match &self.control {
+            Some(control) => control.orders.have_ended(control.drain, self.server.core()),
+            None => false,
+        }
+    }
+
     /// Lets the watcher do its work at this time, in milliseconds. Answers whether it did something.
     fn tell<W: Watcher>(&self, now: u64, watcher: &mut W) -> bool
         ensures { W.ended_turn watcher.old self.now.server now result watcher.new }
@@ -159,7 +257,8 @@ impl Serving {
         watcher.after_turn(&self.server, now)
     }
 
-    /// Reports to the watcher that the server listens, and takes a turn for each item of `turns`. Returns the fault.
+    /// Reports to the watcher that the server listens, and takes a turn for each item of `turns`. Returns the fault
+    /// that ended that; Ok if operators did.
     fn serve_watched<R: Net + Clock, W: Watcher, T: Iterator<Item = ()>>(
         &mut self,
         rt: &R,
@@ -167,13 +266,11 @@ impl Serving {
         service: &Service,
         address: SocketAddr,
         watcher: &mut W,
-    ) -> Fault
+    ) -> Result<(), Fault>
         requires can { T.can_next turns }
         requires ends { IsFinite (T.remaining turns) }
     {
-        if let Err(fault) = watcher.notice(&Notice::Listening(address)) {
-            return fault;
-        }
+        watcher.notice(&Notice::Listening(address))?;
         let mut shift = Shift {
             serving: self,
             rt,
@@ -185,7 +282,7 @@ impl Serving {
     }
 
     /// Reports to the watcher that the server listens, takes a turn for each item of `turns`, and serves metrics at
-    /// this port. Returns the fault that ended that.
+    /// this port. Returns the fault that ended that; Ok if operators did.
     fn serve_metered<R: Net + Clock, W: Watcher, T: Iterator<Item = ()>>(
         &mut self,
         rt: &R,
@@ -196,13 +293,13 @@ impl Serving {
         port: ServicePort,
         page: MetricsPage,
         watcher: &mut W,
-    ) -> Fault
+    ) -> Result<(), Fault>
         requires can { T.can_next turns }
         requires ends { IsFinite (T.remaining turns) }
     {
         match MetricsObserver::new(rt, alloc, &self.server, port, page, watcher) {
             Ok(mut metered) => self.serve_watched(rt, turns, service, address, &mut metered),
-            Err(fault) => fault,
+            Err(fault) => Err(fault),
         }
     }
 }
@@ -218,30 +315,52 @@ struct Shift<'a, R, W> {
 }
 
 impl<R: Net + Clock, W: Watcher> TurnParts for Shift<'_, R, W> {
-    ghost use Rattle.service.specs.ServerTurns.{PollsAndServes};
-    ghost use Rattle.service.specs.TimeTurns.{KeepsTime};
+    ghost use Rattle.std.specs.Prelude.{Bool, Result};
+    ghost use Rattle.job_streams.specs.declared.fault.Fault.{Fault};
+    ghost use Rattle.service.specs.Control.{StopsAt};
+    ghost use Rattle.service.specs.Serving.{PollsAndServesBy, is_closed, is_over};
+    ghost use Rattle.service.specs.TimeTurns.{KeepsTime, done};
     ghost use Rattle.service.specs.Uptimes.{IsRead};
+    ghost use Rattle.service.specs.Visits.{VisitsEach};
 
-    ghost served = { λ old _ answer new. PollsAndServes ⟦<TcpStream as RawRead>⟧.read_gave
+    ghost served = { λ old _ answer new. PollsAndServesBy ⟦<TcpStream as RawRead>⟧.read_gave
         ⟦<TcpStream as RawWrite>⟧.write_took W.noticed W.showed
-        ⟦<ProxyListener<TcpStream, PolledListener> as Listener<TcpStream>>⟧.gave old.serving.now.server old.watcher.now
-        answer new.serving.now.server new.watcher.now
+        ⟦<ProxyListener<TcpStream, PolledListener> as Listener<TcpStream>>⟧.gave
+        ⟦<NoListener as Listener<TcpStream>>⟧.gave (is_closed old.serving.now.control) old.serving.now.server
+        old.watcher.now answer new.serving.now.server new.watcher.now
         × (new.uptime ≡ old.uptime) × (new.limits ≡ old.limits)
-        × (new.serving.now.application ≡ old.serving.now.application) };
+        × (new.serving.now.application ≡ old.serving.now.application)
+        × (new.serving.now.control ≡ old.serving.now.control) };
 
     ghost timed = { λ old moved answer new. IsRead old.uptime new.uptime
         × KeepsTime W.noticed W.showed old.limits.now new.uptime.millis moved old.serving.now.server old.watcher.now
         answer new.serving.now.server new.watcher.now
-        × (new.limits ≡ old.limits) × (new.serving.now.application ≡ old.serving.now.application) };
+        × (new.limits ≡ old.limits) × (new.serving.now.application ≡ old.serving.now.application)
+        × (new.serving.now.control ≡ old.serving.now.control) };
 
     ghost consulted = { λ old _ new. (new.uptime ≡ old.uptime) × (new.limits ≡ old.limits) };
+
+    ghost obeyed = { λ old _ new. (new.uptime ≡ old.uptime) × (new.limits ≡ old.limits) };
 
     ghost told = { λ old answer new. W.ended_turn old.watcher.now old.serving.now.server old.uptime.millis answer
         new.watcher.now
         × (new.serving.now ≡ old.serving.now) × (new.uptime ≡ old.uptime) × (new.limits ≡ old.limits) };
 
+    ghost is_over = { λ shift. is_over shift.serving.now.control shift.serving.now.server };
+
+    ghost finished = { λ old answer new. (did : Result Bool Fault)
+        × VisitsEach (StopsAt W.noticed W.showed) old.serving.now.server old.watcher.now did new.serving.now.server
+        new.watcher.now
+        × (answer ≡ done did) };
+
     fn serve_all(&mut self, busy: bool) -> Result<bool, Fault> {
-        self.serving.server.turn(poll_timeout(busy), self.watcher)
+        if self.serving.is_closed() {
+            self.serving
+                .server
+                .turn_closed(poll_timeout(busy), self.watcher)
+        } else {
+            self.serving.server.turn(poll_timeout(busy), self.watcher)
+        }
     }
 
     fn keep_time(&mut self, moved: bool) -> Result<bool, Fault> {
@@ -256,22 +375,39 @@ impl<R: Net + Clock, W: Watcher> TurnParts for Shift<'_, R, W> {
         self.serving.consult(self.rt, self.watcher)
     }
 
+    fn obey(&mut self) -> Result<bool, Fault> {
+        self.serving.obey(self.uptime.millis(), self.watcher)
+    }
+
     fn tell(&mut self) -> bool {
         self.serving.tell(self.uptime.millis(), self.watcher)
     }
+
+    fn is_over(&self) -> bool {
+        self.serving.is_over()
+    }
+
+    fn finish(&mut self) -> Result<(), Fault> {
+        match self.serving.server.stop_each(self.watcher) {
+            Ok(_) => Ok(()),
+            Err(fault) => Err(fault),
+        }
+    }
 }
 
-/// Serves a host, a turn for each item of `turns`, with a log on `faults`. Returns the fault that ended that.
+/// Serves a host, a turn for each item of `turns`, with a log on `faults`. Returns the fault that ended that; Ok if
+/// operators did.
 fn serve<R: Net + Clock + RandomSource, T: Iterator<Item = ()>, E: Sink>(
     rt: &R,
     alloc: Global,
     turns: T,
     service: &Service,
     application: Option<Application>,
+    control: Option<Control>,
     host: Host,
     version: &'static str,
     faults: &mut E,
-) -> Result<Fault, Fault>
+) -> Result<(), Fault>
     requires can { T.can_next turns }
     requires ends { IsFinite (T.remaining turns) }
 {
@@ -282,7 +418,11 @@ fn serve<R: Net + Clock + RandomSource, T: Iterator<Item = ()>, E: Sink>(
     let mut serving = Serving {
         server: server_on(rt, alloc, host, address)?,
         application,
+        control,
     };
+    if let Some(control) = &mut serving.control {
+        control.socket.register(&serving.server);
+    }
     if service.proxy_protocol {
         serving.server.expect_headers();
     }
@@ -297,12 +437,12 @@ fn serve<R: Net + Clock + RandomSource, T: Iterator<Item = ()>, E: Sink>(
         lines: faults,
         quiet: service.quiet,
     };
-    Ok(match service.metrics {
+    match service.metrics {
         Some(port) => {
             serving.serve_metered(rt, alloc, turns, service, address, port, page, &mut log)
         }
         None => serving.serve_watched(rt, turns, service, address, &mut log),
-    })
+    }
 }
 
 /// Prints why a panel text with this fault is refused, and returns the exit status. Prints all that `check` prints;
@@ -346,16 +486,20 @@ fn begin<I: Source>(
 ///
 /// If the input has faults as a panel text, prints all of them to `faults`, as `check` does for an input of this name.
 ///
-/// Returns the exit status: 1 if the input can't be read (as by [`read_whole`]), if it defines no panels, or if their
-/// LUs are no pool; 2 if the application's URL is invalid, or if no application is chosen and a panel asks about a key;
-/// 3 if memory is refused; 4 if the system can't give random bytes, listen, or wait for sockets; 5 if `turns` has no
-/// more items.
-pub fn run_serve<R: Net + Clock + RandomSource, T: Iterator<Item = ()>, I: Source, E: Sink>(
+/// If a control socket is chosen, operators command the service there (see crate `control`). The file is removed when
+/// the service ends. The log has each command.
+///
+/// Returns the exit status: 0 if operators ended the service; 1 if the input can't be read (as by [`read_whole`]), if
+/// it defines no panels, or if their LUs are no pool; 2 if the application's URL is invalid, or if no application is
+/// chosen and a panel asks about a key; 3 if memory is refused; 4 if the system can't give random bytes, make the
+/// control socket, listen, or wait for sockets; 5 if `turns` has no more items.
+pub fn run_serve<R: Net + Clock + RandomSource + Files, T: Iterator<Item = ()>, I: Source, E: Sink>(
     rt: &R,
     alloc: Global,
     turns: T,
     service: &Service,
     choice: &ApplicationChoice<'_>,
+    control: &ControlChoice<'_>,
     name: &str,
     version: &'static str,
     input: &mut I,
@@ -378,16 +522,31 @@ pub fn run_serve<R: Net + Clock + RandomSource, T: Iterator<Item = ()>, I: Sourc
             return refuse_asking(panel, key, JobWithoutApplication::Serve, faults);
         }
     }
-    match serve(
+    let socket = match &control.socket {
+        Some(socket) => socket.as_str(),
+        None => "",
+    };
+    let made = match control_of(rt, alloc, control) {
+        Ok(made) => made,
+        Err(error) => return refuse_socket(socket, error.kind(), faults),
+    };
+    let has_socket = made.is_some();
+    let ended = serve(
         rt,
         alloc,
         turns,
         service,
         application,
+        made,
         host,
         version,
         faults,
-    ) {
-        Ok(fault) | Err(fault) => report_and_exit_code(fault, faults),
+    );
+    if has_socket {
+        let _ = fs::remove_file(rt, socket);
+    }
+    match ended {
+        Ok(()) => 0,
+        Err(fault) => report_and_exit_code(fault, faults),
     }
 }

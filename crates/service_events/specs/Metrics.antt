@@ -50,13 +50,15 @@ raised_at place counts = slice_set counts place (raised (slice_index_or counts p
 abbrev pub with_begin : Metrics → Metrics
 with_begin counts = record counts { current = raised counts.current 1; begun = raised counts.begun 1 }
 
--- counts a session that ended; those that the host closed by the cause's number, 1 to 10
+-- counts a session that ended; those that the host closed by the cause's number, 1 to 10. A stopped service has no page
+-- any more.
 abbrev pub ended_by : Ending → Metrics → Metrics
 ended_by (ending.Closed cause) counts = record counts { closed = raised_at (cause_number cause - 1) counts.closed }
 ended_by ending.Lost counts = record counts { lost = raised counts.lost 1 }
 ended_by (ending.Dropped overdue.Idle) counts = record counts { idle = raised counts.idle 1 }
 ended_by (ending.Dropped overdue.NoAgreement) counts = record counts { no_agreement = raised counts.no_agreement 1 }
 ended_by ending.ByApplication counts = record counts { by_application = raised counts.by_application 1 }
+ended_by ending.Stopped counts = counts
 
 -- one open connection fewer, and one more that ended in this way
 abbrev pub with_end : Ending → Metrics → Metrics
@@ -122,6 +124,7 @@ counted (notice.KeyDropped client dropped) counts = record counts { dropped_keys
 counted (notice.RuleBroken client broken) counts = record counts { rule_breaks = raised counts.rule_breaks 1 }
 counted (notice.Ended client how usage) counts = with_usage usage.turns usage.received usage.sent (with_end how counts)
 counted notice.Asked counts = record counts { asked = raised counts.asked 1 }
+counted (notice.Commanded commanded) counts = counts
 counted (notice.Answered millis) counts = record counts {
   answered = raised_at (bucket_of millis) counts.answered;
   answer_millis = raised counts.answer_millis millis;

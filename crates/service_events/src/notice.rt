@@ -32,6 +32,8 @@ pub enum Ending {
     Dropped(Overdue),
     /// The application ended its session.
     ByApplication,
+    /// An operator stopped the service, or the time to drain it was over.
+    Stopped,
 }
 
 impl Ending {
@@ -45,6 +47,7 @@ impl Ending {
             Ending::Dropped(Overdue::NoAgreement) => "no-agreement",
             Ending::Dropped(Overdue::Idle) => "idle",
             Ending::ByApplication => "ended-by-application",
+            Ending::Stopped => "stopped",
         }
     }
 }
@@ -75,6 +78,17 @@ pub enum BadHeader {
     CutShort,
 }
 
+/// What came to the control socket.
+#[derive(Clone, Copy)]
+pub struct Commanded {
+    /// The command's name; `unknown` if the line is no command.
+    pub name: &'static str,
+    /// The LU that a note is for, if it is for one.
+    pub lu: Option<Lu>,
+    /// Whether the command was done.
+    pub done: bool,
+}
+
 /// What happened at a server.
 #[derive(Clone, Copy)]
 pub enum Notice {
@@ -100,6 +114,8 @@ pub enum Notice {
     Asked,
     /// The application's answer was shown, this many milliseconds after the question.
     Answered(u64),
+    /// A client of the control socket was answered.
+    Commanded(Commanded),
 }
 
 /// Prints as the keys that begin a connection's log line.
@@ -123,7 +139,7 @@ impl fmt::Display for Ending {
                 let number = cause.number();
                 write!(f, " cause={cause} number={number}")
             }
-            Ending::Lost | Ending::Dropped(_) | Ending::ByApplication => Ok(()),
+            Ending::Lost | Ending::Dropped(_) | Ending::ByApplication | Ending::Stopped => Ok(()),
         }
     }
 }
@@ -145,6 +161,22 @@ impl fmt::Display for Usage {
             f,
             " duration={duration} turns={turns} sent={sent} received={received}"
         )
+    }
+}
+
+/// Prints as the command, its LU, and the status of the answer.
+impl fmt::Display for Commanded {
+    fn fmt<W: fmt::Write>(&self, f: &mut fmt::Formatter<W>) -> fmt::Result {
+        let name = self.name;
+        write!(f, "command={name}")?;
+        if let Some(lu) = self.lu {
+            write!(f, " lu={lu}")?;
+        }
+        f.write_str(if self.done {
+            " status=ok"
+        } else {
+            " status=error"
+        })
     }
 }
 
@@ -185,6 +217,7 @@ impl fmt::Display for Notice {
             Notice::Ended(client, ending, usage) => write!(f, "{client} event={ending}{usage}"),
             Notice::Asked => f.write_str("event=asked"),
             Notice::Answered(millis) => write!(f, "event=answered millis={millis}"),
+            Notice::Commanded(commanded) => write!(f, "event=command {commanded}"),
         }
     }
 }

@@ -19,7 +19,9 @@ use Rattle.shadow.specs.Fits.{fits}
 use Rattle.shadow.specs.Paint.{paint}
 use Rattle.tn3270e_msg.specs.Talk.{Talk}
 use Rattle.tn3270e_msg.specs.declared.host_talk.HostState.{HostState}
-use Rattle.host_core.specs.Acts.{Act, Decision, Sent as SentValue, after_key, decided, decision_on, wanted_by, done, may_act, acted, painted, known_despite, unheard_next, when_shown}
+use Rattle.panels.specs.declared.next.Next.{Next}
+use Rattle.panels.specs.declared.next.Next.TheVariants.{Go, Ask, Again}
+use Rattle.host_core.specs.Acts.{Act, Decision, Sent as SentValue, after_key, decided, decision_on, first_panel, on_empty, wanted_by, done, may_act, acted, painted, known_despite, unheard_next, when_shown}
 use Rattle.host_core.specs.Application.{Application, IsApplication, IsSizeOf}
 use Rattle.host_core.specs.Laws.{IsPaintable}
 use Rattle.host_core.specs.Takes.{may_have_changed}
@@ -28,10 +30,10 @@ use Rattle.host_core.specs.declared.turn.Turn.TheVariants as whose
 use Rattle.host_core.specs.declared.turn_reason.TurnReason.{TurnReason}
 use Rattle.host_core.specs.declared.turn_reason.TurnReason.TheVariants as turn_reasons
 use Rattle.host_core.specs.Session.{Session, Pending, is_agreed, model_in}
-use Rattle.host_core.specs.Questions.{act_by, answered_on, has_its_panel, has_value_of, is_ask, is_asking, values_for}
+use Rattle.host_core.specs.Questions.{act_by, answered_on, has_its_panel, has_value_of, is_ask, is_asking, is_screen_empty, key_of, panel_asked, panel_for, values_for}
 use Rattle.host_core.specs.declared.question.Answer.{Answer as ApplicationAnswer}
 use Rattle.std.specs.Prelude.{◌&&◌, not}
-use Rattle.std.specs.Option.{option_and_then, option_map_or}
+use Rattle.std.specs.Option.{option_and_then, option_map_or, option_or}
 use Rattle.world3270.specs.refinement.LowerLaws.{LowerLaws}
 use Rattle.world3270.specs.model.Link.{Link, sent, host_sent}
 use Rattle.world3270.specs.refinement.Phases.{IsInFlight, NegotiationPhase, SessionPhase, LinkPhase, IsAgreed, IsAt, IsHostTalk, IsTermTalk, turn_at, pending_at, down_at, up_at}
@@ -173,18 +175,29 @@ size_shown given app is link k lu panel message keep values talks =
     subst (λ (m : Model). IsSizeOf app m (wants_of app (when_shown link.host) panel message keep values).size) here
     (given.belief.sizes app link.host (Act.Show panel message keep values) is (subst (λ (m : Model). IsSizeOf app m link.host.size) (sym here) k.sizes.host))
 
+-- while no panel is on the screen nothing is read, and nothing is kept
+empty_unread : (panel : ℕ) (values : Values) (next : Next) → on_empty panel values next ≡ Decision.Do Act.Read → ⊥
+empty_unread panel values Again e = absurd (cc)
+empty_unread panel values (Go target) e = absurd (cc)
+empty_unread panel values Ask e = absurd (cc)
+
 -- after Clear nothing is read
 key_uncleared : (app : Application) (conn : Session) (pressed : Aid) (buffered : Bool) → after_key app conn pressed buffered ≡ Decision.Do Act.Read → pressed ≡ ClearAid → ⊥
-key_uncleared app conn ClearAid buffered e is = absurd (cc)
+key_uncleared app conn ClearAid buffered e is = empty_unread conn.panel conn.values (app.next conn.panel ClearAid) e
 key_uncleared app conn NoAid buffered e is = absurd (cc)
 key_uncleared app conn EnterAid buffered e is = absurd (cc)
 key_uncleared app conn (PfAid key) buffered e is = absurd (cc)
 key_uncleared app conn (PaAid key) buffered e is = absurd (cc)
 
 reads_uncleared : (app : Application) (conn : Session) (turn_reason : TurnReason) (aid : Aid) → IsOccasion turn_reason aid → decision_on app conn turn_reason ≡ Decision.Do Act.Read → aid ≡ ClearAid → ⊥
-reads_uncleared app conn turn_reasons.Agreement aid is e clear = absurd (cc)
+reads_uncleared app conn turn_reasons.Agreement aid is e clear = empty_unread app.start conn.values (app.next (first_panel app conn) NoAid) e
 reads_uncleared app conn (turn_reasons.Key pressed buffered) aid is e clear = key_uncleared app conn pressed buffered e (is.0 ∙ clear)
 reads_uncleared app conn turn_reasons.Refusal aid is e clear = absurd is
+
+-- and nothing before a panel was shown
+reads_later : (app : Application) (conn : Session) → decision_on app conn conn.turn_reason ≡ Decision.Do Act.Read → conn.turn_reason ≡ turn_reasons.Agreement → ⊥
+reads_later app conn e agreement =
+    empty_unread app.start conn.values (app.next (first_panel app conn) NoAid) (sym (ap (λ (r : TurnReason). decision_on app conn r) agreement) ∙ e)
 
 -- it isn't to be read
 NotRead : Decision → Type 0
@@ -213,9 +226,25 @@ asks_unread : (decision : Decision) → is_ask decision ≡ true → NotRead dec
 unfolding NotRead
 asks_unread decision asks = λ reads. absurd (let both = sym (ap is_ask reads) ∙ asks in cc)
 
--- at agreement nothing is asked
-pub agreed_unasked : (app : Application) (conn : Session) → conn.turn_reason ≡ turn_reasons.Agreement → is_ask (decision_on app conn conn.turn_reason) ≡ true → ⊥
-agreed_unasked app conn is asks = absurd (let both = sym (ap (λ (r : TurnReason). is_ask (decision_on app conn r)) is) ∙ asks in cc)
+-- where an answer shows no panel whole, one is on the screen
+pub none_whole : (app : Application) (conn : Session) (said : ApplicationAnswer) → panel_for app conn said ≡ None → is_screen_empty (key_of conn.turn_reason) ≡ false
+none_whole app conn said none = by_panel said.panel (is_screen_empty (key_of conn.turn_reason)) none
+  where
+    by_panel : (panel : Option ℕ) (b : Bool) → option_or panel (if b then Some (panel_asked app conn conn.turn_reason) else None) ≡ None → b ≡ false
+    by_panel (Some panel) b none = absurd (cc)
+    by_panel None true none = absurd (cc)
+    by_panel None false none = refl
+
+-- so it isn't the first
+none_later : (app : Application) (conn : Session) (said : ApplicationAnswer) → panel_for app conn said ≡ None → conn.turn_reason ≡ turn_reasons.Agreement → ⊥
+none_later app conn said none agreement =
+    absurd (let both : true ≡ false = sym (ap (λ (r : TurnReason). is_screen_empty (key_of r)) agreement) ∙ none_whole app conn said none in cc)
+
+-- a question is about the panel that was shown, where one is on the screen
+pub same_asked : (app : Application) (conn : Session) (reason : TurnReason) → is_screen_empty (key_of reason) ≡ false → panel_asked app conn reason ≡ conn.panel
+same_asked app conn turn_reasons.Agreement shown_now = absurd (cc)
+same_asked app conn (turn_reasons.Key aid buffered) shown_now = refl
+same_asked app conn turn_reasons.Refusal shown_now = refl
 
 abbrev command_of : Application → Session → ℕ → Message → Bool → Values → CommandParts
 command_of app conn panel message keep values =
@@ -226,6 +255,18 @@ abbrev keeps_by : Decision → Bool
 keeps_by (Decision.Do Act.Read) = false
 keeps_by (Decision.Do (Act.Show panel message keep values)) = keep
 keeps_by Decision.Asks = false
+
+empty_keeps : (panel : ℕ) (values : Values) (next : Next) → keeps_by (on_empty panel values next) ≡ false
+empty_keeps panel values Again = refl
+empty_keeps panel values (Go target) = refl
+empty_keeps panel values Ask = refl
+
+-- The host may act at two moments alone: at agreement, and when it decides on a key.
+pub data MayAct (app : Application) (link : Link) (wanted : Option (List ℕ)) : Type 0 where
+  agreeing : (lu : List ℕ) → IsAt (view_of link) wanted (LinkPhase.Negotiating (NegotiationPhase.Agreeing lu)) → IsNew (local_state_of (view_of link)) → MayAct app link wanted
+  deciding : (lu : List ℕ) → Sizes app (view_of link) (LinkPhase.InSession lu SessionPhase.Deciding) → IsAt (view_of link) wanted (LinkPhase.InSession lu SessionPhase.Deciding)
+      → Decides (local_state_of (view_of link)) link.host.shadow → ShownIn app link.term.waits link.host link.term.display.before_restored link.term.display.last_restored link.term.display.screen SessionPhase.Deciding
+      → MayAct app link wanted
 
 module _ (given : LowerLaws) (app : Application) (is : IsApplication app) (link : Link) (k : ConnectionInvariant app (view_of link)) where
   -- the host's end once a panel is shown
@@ -268,9 +309,10 @@ module _ (given : LowerLaws) (app : Application) (is : IsApplication app) (link 
   -- at agreement nothing is kept
   kept_later : (panel : ℕ) (message : Message) (keep : Bool) (values : Values) → decision_on app link.host link.host.turn_reason ≡ Decision.Do (Act.Show panel message keep values) → keep ≡ true → link.host.turn_reason ≡ turn_reasons.Agreement → ⊥
   kept_later panel message keep values is keeps agreement =
-      let both : Decision.Do (Act.Show app.start Fresh false link.host.values) ≡ Decision.Do (Act.Show panel message keep values) =
+      let next : Next = app.next (first_panel app link.host) NoAid in
+      let both : on_empty app.start link.host.values next ≡ Decision.Do (Act.Show panel message keep values) =
       sym (ap (λ (r : TurnReason). decision_on app link.host r) agreement) ∙ is in
-      let same : false ≡ keep = ap keeps_by both in
+      let same : false ≡ keep = sym (empty_keeps app.start link.host.values next) ∙ ap keeps_by both in
       absurd (let wrong : false ≡ true = same ∙ keeps in cc)
 
   paints : (lu : List ℕ) (panel : ℕ) (message : Message) (keep : Bool) (values : Values) → IfRelies link.host.unheard (NothingIsOpen link.host.shadow) → IsAt (view_of link) k.wanted (LinkPhase.InSession lu SessionPhase.Deciding)
@@ -295,35 +337,54 @@ module _ (given : LowerLaws) (app : Application) (is : IsApplication app) (link 
       })
       (wants_its app link.term.waits link.host link.term.display.screen panel message keep values choice knows f.sees.meets)
 
-  asks : (lu : List ℕ) → link.term.display.size ≡ link.host.size → (link.term.display.screen.aid ≡ ClearAid → ⊥) → IsAt (view_of link) k.wanted (LinkPhase.InSession lu SessionPhase.Deciding) → Decides (local_state_of (view_of link)) link.host.shadow
+  asks : (lu : List ℕ) → link.term.display.size ≡ link.host.size → (link.term.display.screen.aid ≡ ClearAid → ⊥) → (link.host.turn_reason ≡ turn_reasons.Agreement → ⊥) → IsAt (view_of link) k.wanted (LinkPhase.InSession lu SessionPhase.Deciding) → Decides (local_state_of (view_of link)) link.host.shadow
       → ShownIn app link.term.waits link.host link.term.display.before_restored link.term.display.last_restored link.term.display.screen SessionPhase.Deciding → ConnectionInvariant app (view_of (sent_view (done app link.host Act.Read) link))
-  asks lu steady not_cleared at f showing =
+  asks lu steady not_cleared not_first at f showing =
       let sending : SentValue = done app link.host Act.Read in
       let same : Sends link sending = record { talk = refl; exact = k.exact } in
       let to : LinkPhase = LinkPhase.InSession lu (SessionPhase.Reading link.host.next_seq) in
       kept_sent app link sending k to same k.sizes.host (λ s. steady)
       (sent_at link sending k.wanted (LinkPhase.InSession lu SessionPhase.Deciding) to same at (λ talk is. is) (λ is. is) at.turn refl refl refl)
-      (record { decides = f; not_cleared = not_cleared })
+      (record { decides = f; not_cleared = not_cleared; not_first = not_first })
       showing.0
 
   acts_at : (lu : List ℕ) (decision : Decision) → link.term.display.size ≡ link.host.size → decision_on app link.host link.host.turn_reason ≡ decision → IsAt (view_of link) k.wanted (LinkPhase.InSession lu SessionPhase.Deciding)
       → Decides (local_state_of (view_of link)) link.host.shadow → ShownIn app link.term.waits link.host link.term.display.before_restored link.term.display.last_restored link.term.display.screen SessionPhase.Deciding → ConnectionInvariant app (view_of (host_sent (decided app link.host decision) link))
   acts_at lu (Decision.Do Act.Read) steady e at f showing =
-      asks lu steady (reads_uncleared app link.host link.host.turn_reason link.term.display.screen.aid f.turn_reason e) at f showing
+      asks lu steady (reads_uncleared app link.host link.host.turn_reason link.term.display.screen.aid f.turn_reason e) (reads_later app link.host e) at f showing
   acts_at lu (Decision.Do (Act.Show panel message keep values)) steady e at f showing =
       paints lu panel message keep values
       (λ relies. decided_closed app link.host link.host.turn_reason link.host.shadow (shows_unread (decision_on app link.host link.host.turn_reason) panel message keep values e) (f.closed relies)) at f (IsDecided.by_host e) (λ keeps. knows_its showing (kept_later panel message keep values e keeps))
   acts_at lu Decision.Asks steady e at f showing = k
 
-  -- at agreement the first panel is shown
+  -- at agreement a first panel is shown, or the application is asked
   acts_new : (lu : List ℕ) → IsAt (view_of link) k.wanted (LinkPhase.Negotiating (NegotiationPhase.Agreeing lu)) → IsNew (local_state_of (view_of link))
       → ConnectionInvariant app (view_of (host_sent (decided app link.host (decision_on app link.host link.host.turn_reason)) link))
   acts_new lu at n =
       subst (λ o. ConnectionInvariant app (view_of (host_sent (decided app link.host (decision_on app link.host o)) link))) (sym n.turn_reason)
-      (paints_first lu app.start Fresh false link.host.values at n (IsDecided.by_host (ap (λ (o : TurnReason). decision_on app link.host o) n.turn_reason)) (λ keeps. absurd (cc)))
+      (by_next (app.next (first_panel app link.host) NoAid) refl)
+    where
+      decided_so : (next : Next) → app.next (first_panel app link.host) NoAid ≡ next → decision_on app link.host link.host.turn_reason ≡ on_empty app.start link.host.values next
+      decided_so next is = ap (λ (o : TurnReason). decision_on app link.host o) n.turn_reason ∙ ap (on_empty app.start link.host.values) is
+
+      by_next : (next : Next) → app.next (first_panel app link.host) NoAid ≡ next → ConnectionInvariant app (view_of (host_sent (decided app link.host (on_empty app.start link.host.values next)) link))
+      by_next Again is = paints_first lu app.start Fresh false link.host.values at n (IsDecided.by_host (decided_so Again is)) (λ keeps. absurd (cc))
+      by_next (Go target) is = paints_first lu target Fresh false link.host.values at n (IsDecided.by_host (decided_so (Go target) is)) (λ keeps. absurd (cc))
+      by_next Ask is = k
+
+  -- an answer is decided on by the application
+  answer_choice : (said : ApplicationAnswer) (panel : Option ℕ) → panel_for app link.host said ≡ panel → is_ask (decision_on app link.host link.host.turn_reason) ≡ true → IsDecided app link.host (act_by app link.host said panel)
+  answer_choice said panel is_panel is_asked = IsDecided.by_application said is_asked (ap (λ (p : Option ℕ). act_by app link.host said p) (sym is_panel))
+
+  -- what is answered at connect is shown first
+  answers_first : (lu : List ℕ) (said : ApplicationAnswer) (panel : Option ℕ) → panel_for app link.host said ≡ panel → is_ask (decision_on app link.host link.host.turn_reason) ≡ true
+      → IsAt (view_of link) k.wanted (LinkPhase.Negotiating (NegotiationPhase.Agreeing lu)) → IsNew (local_state_of (view_of link)) → ConnectionInvariant app (view_of (sent_view (done app link.host (act_by app link.host said panel)) link))
+  answers_first lu said None is_panel is_asked at n = absurd (none_later app link.host said is_panel n.turn_reason)
+  answers_first lu said (Some shown_next) is_panel is_asked at n =
+      paints_first lu shown_next (Told said.message said.cursor) false (values_for app link.host said (Some shown_next)) at n (answer_choice said (Some shown_next) is_panel is_asked) (λ keeps. absurd (cc))
 
   -- what is answered is shown
-  answers_at : (lu : List ℕ) (said : ApplicationAnswer) (panel : Option ℕ) → said.panel ≡ panel → is_ask (decision_on app link.host link.host.turn_reason) ≡ true → IsAt (view_of link) k.wanted (LinkPhase.InSession lu SessionPhase.Deciding)
+  answers_at : (lu : List ℕ) (said : ApplicationAnswer) (panel : Option ℕ) → panel_for app link.host said ≡ panel → is_ask (decision_on app link.host link.host.turn_reason) ≡ true → IsAt (view_of link) k.wanted (LinkPhase.InSession lu SessionPhase.Deciding)
       → Decides (local_state_of (view_of link)) link.host.shadow → ShownIn app link.term.waits link.host link.term.display.before_restored link.term.display.last_restored link.term.display.screen SessionPhase.Deciding
       → ConnectionInvariant app (view_of (sent_view (done app link.host (act_by app link.host said panel)) link))
   answers_at lu said panel is_panel is_asked at f showing = by_panel panel is_panel
@@ -331,31 +392,22 @@ module _ (given : LowerLaws) (app : Application) (is : IsApplication app) (link 
       closed : IfRelies link.host.unheard (NothingIsOpen link.host.shadow)
       closed = λ relies. decided_closed app link.host link.host.turn_reason link.host.shadow (asks_unread (decision_on app link.host link.host.turn_reason) is_asked) (f.closed relies)
 
-      choice : (panel : Option ℕ) → said.panel ≡ panel → IsDecided app link.host (act_by app link.host said panel)
-      choice panel is_panel = IsDecided.by_application said is_asked (ap (λ (p : Option ℕ). act_by app link.host said p) (sym is_panel))
-
-      by_panel : (panel : Option ℕ) → said.panel ≡ panel → ConnectionInvariant app (view_of (sent_view (done app link.host (act_by app link.host said panel)) link))
+      by_panel : (panel : Option ℕ) → panel_for app link.host said ≡ panel → ConnectionInvariant app (view_of (sent_view (done app link.host (act_by app link.host said panel)) link))
       by_panel None is_panel =
-          paints lu link.host.panel (Told said.message said.cursor) (not (has_value_of (app.fields link.host.panel) said.values)) (values_for app link.host said None) closed at f (choice None is_panel)
-          (λ keeps. knows_its showing (λ agreement. agreed_unasked app link.host agreement is_asked))
+          paints lu link.host.panel (Told said.message said.cursor) (not (has_value_of (app.fields link.host.panel) said.values)) (values_for app link.host said None) closed at f (answer_choice said None is_panel is_asked)
+          (λ keeps. knows_its showing (none_later app link.host said is_panel))
       by_panel (Some shown_next) is_panel =
-          paints lu shown_next (Told said.message said.cursor) false (values_for app link.host said (Some shown_next)) closed at f (choice (Some shown_next) is_panel) (λ keeps. absurd (cc))
+          paints lu shown_next (Told said.message said.cursor) false (values_for app link.host said (Some shown_next)) closed at f (answer_choice said (Some shown_next) is_panel is_asked) (λ keeps. absurd (cc))
 
-  -- The host may act at two moments alone: at agreement, and when it decides on a key.
-  data MayAct : Type 0 where
-    agreeing : (lu : List ℕ) → IsAt (view_of link) k.wanted (LinkPhase.Negotiating (NegotiationPhase.Agreeing lu)) → IsNew (local_state_of (view_of link)) → MayAct
-    deciding : (lu : List ℕ) → Sizes app (view_of link) (LinkPhase.InSession lu SessionPhase.Deciding) → IsAt (view_of link) k.wanted (LinkPhase.InSession lu SessionPhase.Deciding)
-        → Decides (local_state_of (view_of link)) link.host.shadow → ShownIn app link.term.waits link.host link.term.display.before_restored link.term.display.last_restored link.term.display.screen SessionPhase.Deciding → MayAct
-
-  may_act_at : link.host.turn ≡ whose.Host → link.host.pending ≡ Pending.Nothing → is_agreed link.host.talk.state ≡ true → MayAct
+  may_act_at : link.host.turn ≡ whose.Host → link.host.pending ≡ Pending.Nothing → is_agreed link.host.talk.state ≡ true → MayAct app link k.wanted
   may_act_at turns pends agrees = by_moment k.moment k.sizes k.at k.fact k.shown
     where
-      by_talk : (talking : NegotiationPhase) → IsAt (view_of link) k.wanted (LinkPhase.Negotiating talking) → IsNew (local_state_of (view_of link)) → (lu : List ℕ) × (talking ≡ NegotiationPhase.Agreeing lu) → MayAct
+      by_talk : (talking : NegotiationPhase) → IsAt (view_of link) k.wanted (LinkPhase.Negotiating talking) → IsNew (local_state_of (view_of link)) → (lu : List ℕ) × (talking ≡ NegotiationPhase.Agreeing lu) → MayAct app link k.wanted
       by_talk talking at n is = MayAct.agreeing is.0 (subst (λ (t : NegotiationPhase). IsAt (view_of link) k.wanted (LinkPhase.Negotiating t)) is.1 at) n
 
       by_serving : (lu : List ℕ) (serving : SessionPhase) → Sizes app (view_of link) (LinkPhase.InSession lu serving) → IsAt (view_of link) k.wanted (LinkPhase.InSession lu serving) → Fact k.wanted (local_state_of (view_of link)) (LinkPhase.InSession lu serving)
           → ShownIn app link.term.waits link.host link.term.display.before_restored link.term.display.last_restored link.term.display.screen serving → turn_at (LinkPhase.InSession lu serving) ≡ whose.Host
-          → pending_at (LinkPhase.InSession lu serving) ≡ Pending.Nothing → MayAct
+          → pending_at (LinkPhase.InSession lu serving) ≡ Pending.Nothing → MayAct app link k.wanted
       by_serving lu SessionPhase.Deciding s at f showing t p = MayAct.deciding lu s at f showing
       by_serving lu (SessionPhase.Reading number) s at f showing t p = absurd (cc)
       by_serving lu (SessionPhase.BufferReturning number parts) s at f showing t p = absurd (cc)
@@ -371,12 +423,12 @@ module _ (given : LowerLaws) (app : Application) (is : IsApplication app) (link 
       by_serving lu (SessionPhase.KeyBeforeNoteResponse number command parts) s at f showing t p = absurd (cc)
 
       by_moment : (moment : LinkPhase) → Sizes app (view_of link) moment → IsAt (view_of link) k.wanted moment → Fact k.wanted (local_state_of (view_of link)) moment
-          → ShownAt app link.term.waits link.host link.term.display.before_restored link.term.display.last_restored link.term.display.screen moment → MayAct
+          → ShownAt app link.term.waits link.host link.term.display.before_restored link.term.display.last_restored link.term.display.screen moment → MayAct app link k.wanted
       by_moment (LinkPhase.Negotiating talking) s at f showing = by_talk talking at f.0 (agreed_there link.term.display.model talking link.host.talk at.host_talk agrees)
       by_moment (LinkPhase.FirstPaint lu number command wants over) s at f showing = let t = sym at.turn ∙ turns in absurd (cc)
       by_moment (LinkPhase.InSession lu serving) s at f showing = by_serving lu serving s at f showing (sym at.turn ∙ turns) (sym at.pending ∙ pends)
 
-  acts_then : MayAct → ConnectionInvariant app (view_of (host_sent (decided app link.host (decision_on app link.host link.host.turn_reason)) link))
+  acts_then : MayAct app link k.wanted → ConnectionInvariant app (view_of (host_sent (decided app link.host (decision_on app link.host link.host.turn_reason)) link))
   acts_then (MayAct.agreeing lu at n) = acts_new lu at n
   acts_then (MayAct.deciding lu s at f showing) = acts_at lu (decision_on app link.host link.host.turn_reason) (s.same refl) refl at f showing
 
@@ -395,31 +447,25 @@ module _ (given : LowerLaws) (app : Application) (is : IsApplication app) (link 
 
   -- ---- a question is open
 
-  -- the host decides, and asks
-  abbrev pub Asks : Type 0
-  Asks = (lu : List ℕ) × IsAt (view_of link) k.wanted (LinkPhase.InSession lu SessionPhase.Deciding) × Decides (local_state_of (view_of link)) link.host.shadow
-      × (is_ask (decision_on app link.host link.host.turn_reason) ≡ true) × ShownIn app link.term.waits link.host link.term.display.before_restored link.term.display.last_restored link.term.display.screen SessionPhase.Deciding
-
-  asks_then : is_ask (decision_on app link.host link.host.turn_reason) ≡ true → MayAct → Asks
-  asks_then is_asked (MayAct.agreeing lu at n) = absurd (agreed_unasked app link.host n.turn_reason is_asked)
-  asks_then is_asked (MayAct.deciding lu s at f showing) = (lu, at, f, is_asked, showing)
-
-  -- where a question is open, the host decides
-  pub asks_deciding : is_asking app link.host ≡ true → Asks
-  asks_deciding open_now =
+  -- where a question is open, the host may act, and decides to ask
+  pub asks_when : is_asking app link.host ≡ true → MayAct app link k.wanted × (is_ask (decision_on app link.host link.host.turn_reason) ≡ true)
+  asks_when open_now =
       let asks = asking_parts app link.host open_now in
       let when = may_act_when link.host.turn link.host.pending (is_agreed link.host.talk.state) asks.0 in
-      asks_then asks.1 (may_act_at when.0 when.1 when.2)
+      (may_act_at when.0 when.1 when.2, asks.1)
+
+  answers_then : (said : ApplicationAnswer) → is_ask (decision_on app link.host link.host.turn_reason) ≡ true → MayAct app link k.wanted
+      → ConnectionInvariant app (view_of (sent_view (done app link.host (act_by app link.host said (panel_for app link.host said))) link))
+  answers_then said is_asked (MayAct.agreeing lu at n) = answers_first lu said (panel_for app link.host said) refl is_asked at n
+  answers_then said is_asked (MayAct.deciding lu s at f showing) = answers_at lu said (panel_for app link.host said) refl is_asked at f showing
 
   -- what the application answers is shown, if a question is open
   pub answers_are_shown : (said : ApplicationAnswer) → ConnectionInvariant app (view_of (host_sent (answered_on app link.host said) link))
   answers_are_shown said = by_open (is_asking app link.host) refl (has_its_panel app said)
     where
       by_open : (asked : Bool) → is_asking app link.host ≡ asked → (has : Bool)
-          → ConnectionInvariant app (view_of (host_sent (if asked && has then Some (done app link.host (act_by app link.host said said.panel)) else None) link))
-      by_open true open_now true =
-          let asks = asks_deciding open_now in
-          answers_at asks.0 said said.panel refl asks.3 asks.1 asks.2 asks.4
+          → ConnectionInvariant app (view_of (host_sent (if asked && has then Some (done app link.host (act_by app link.host said (panel_for app link.host said))) else None) link))
+      by_open true open_now true = let asks = asks_when open_now in answers_then said asks.1 asks.0
       by_open true open_now false = k
       by_open false open_now has = k
 

@@ -15,7 +15,9 @@ use Rattle.datastream.proofs.FieldViews.{no_attribute, none_listed}
 use Rattle.shadow.specs.Fits.{fits}
 use Rattle.panels.specs.Screen.{Values}
 use Rattle.panels.specs.declared.message.Message.{Message}
-use Rattle.host_core.specs.Acts.{wanted_by, when_shown, Act, Decision, Sent, decided, decision_on, done, acted, may_act}
+use Rattle.panels.specs.declared.next.Next.{Next}
+use Rattle.panels.specs.declared.next.Next.TheVariants.{Go, Ask, Again}
+use Rattle.host_core.specs.Acts.{wanted_by, when_shown, Act, Decision, Sent, decided, decision_on, done, first_panel, acted, may_act, on_empty}
 use Rattle.host_core.specs.Application.{Application, IsApplication, IsShowable, message_place}
 use Rattle.host_core.specs.NoteLaws.{HasMessageRow, IsProtectedRow}
 use Rattle.host_core.specs.Messages.{ToHost, Verdict, ToTerminal}
@@ -51,7 +53,7 @@ use Rattle.shadow.specs.Belief.{Shadow}
 use Rattle.shadow.proofs.HeardOthers.{no_field}
 use Rattle.tn3270e_msg.specs.declared.cause.Cause.{Cause}
 use Rattle.host_core.specs.Notes.{noted_as, may_note, noted}
-use Rattle.host_core.specs.Questions.{act_by, answered_on, has_its_panel, is_asking}
+use Rattle.host_core.specs.Questions.{act_by, answered_on, has_its_panel, is_asking, panel_for}
 use Rattle.host_core.specs.declared.question.Answer.{Answer as ApplicationAnswer}
 use Rattle.host_core.specs.declared.turn_reason.TurnReason.{TurnReason}
 use Rattle.world3270.specs.statement.EveryTerminal.{LinkWithReport, came_up, key_pressed, operated, told_if, IsByTheRules, Move, came_down, moved}
@@ -258,7 +260,12 @@ done_asked app conn (Act.Show panel message keep values) read reads = λ e. modi
 
 decided_asked : (app : Application) (conn : Session) (b : Bool) (reason : TurnReason) → conn.turn_reason ≡ reason → IfSome (option_and_then (decided app conn) (if b then Some (decision_on app conn reason) else None)) (λ sending. IsAsked sending.conn)
 decided_asked app conn false reason is = tt
-decided_asked app conn true turn_reasons.Agreement is = λ reads e. modified_only reads
+decided_asked app conn true turn_reasons.Agreement is = by_next (app.next (first_panel app conn) NoAid)
+  where
+    by_next : (next : Next) → IfSome (decided app conn (on_empty app.start conn.values next)) (λ sending. IsAsked sending.conn)
+    by_next Again = λ reads e. modified_only reads
+    by_next (Go target) = λ reads e. modified_only reads
+    by_next Ask = tt
 decided_asked app conn true turn_reasons.Refusal is = λ reads e. modified_only reads
 decided_asked app conn true (turn_reasons.Key aid buffered) is = by_decision (decision_on app conn (turn_reasons.Key aid buffered))
   where
@@ -533,7 +540,7 @@ module _ (given : LowerLaws) (app : Application) (is : IsApplication app) (sizes
   move_leads Move.Act t s l alive rules typed =
       sent_leads (acted app t.link.host) t l (decided_asked app t.link.host (may_act t.link.host.turn t.link.host.pending (is_agreed t.link.host.talk.state)) t.link.host.turn_reason refl)
   move_leads (Move.Answer said) t s l alive rules typed =
-      sent_leads (answered_on app t.link.host said) t l (answered_asked app t.link.host said (is_asking app t.link.host && has_its_panel app said) said.panel)
+      sent_leads (answered_on app t.link.host said) t l (answered_asked app t.link.host said (is_asking app t.link.host && has_its_panel app said) (panel_for app t.link.host said))
   move_leads (Move.Note text) t s l alive rules typed =
       sent_leads (noted text t.link.host) t l (noted_asked text t.link.host (may_note t.link.host.turn t.link.host.pending (is_agreed t.link.host.talk.state)))
   move_leads (Move.Operate step) t s l alive rules typed = operates_leads t s l step rules.0 rules.1

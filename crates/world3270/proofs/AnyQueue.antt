@@ -23,7 +23,7 @@ use Rattle.host_core.specs.Application.{Application, IsApplication, IsSizeOf, ap
 use Rattle.host_core.specs.Items.{is_paint_or_read, second_key_size}
 use Rattle.host_core.specs.Messages.{ToHost, ToTerminal, Verdict}
 use Rattle.host_core.specs.Notes.{may_note, noted, noted_as}
-use Rattle.host_core.specs.Questions.{act_by, answered_on, has_its_panel, is_asking}
+use Rattle.host_core.specs.Questions.{act_by, answered_on, has_its_panel, is_asking, panel_for}
 use Rattle.host_core.specs.Session.{Session, Pending, is_agreed, model_in}
 use Rattle.host_core.specs.Takes.{Answers, HostStep, dropping, form_awaited, may_have_changed, took as host_took}
 use Rattle.host_core.specs.declared.question.Answer.{Answer as ApplicationAnswer}
@@ -436,7 +436,7 @@ module _ (given : LowerLaws) (app : Application) (is : IsApplication app) (sizes
   answers_sized said = by_open (is_asking app t.link.host) refl (has_its_panel app said)
     where
       act : Act
-      act = act_by app t.link.host said said.panel
+      act = act_by app t.link.host said (panel_for app t.link.host said)
 
       by_open : (asked : Bool) → is_asking app t.link.host ≡ asked → (there : Bool) → sends_so (if asked && there then Some (done app t.link.host act) else None)
       by_open true open_now true = act_sized act (asking_parts app t.link.host open_now).0

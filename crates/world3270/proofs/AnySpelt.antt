@@ -15,7 +15,7 @@ use Rattle.host_core.specs.Application.{Application, AreTexts, WantsProperScreen
 use Rattle.host_core.specs.Messages.{ToHost, ToTerminal}
 use Rattle.host_core.specs.NoteLaws.{IsNoteOf}
 use Rattle.host_core.specs.Notes.{IsNoteText, note_command, noted, noted_as}
-use Rattle.host_core.specs.Questions.{act_by, answered_on}
+use Rattle.host_core.specs.Questions.{act_by, answered_on, panel_for}
 use Rattle.host_core.specs.Session.{Session}
 use Rattle.host_core.specs.Takes.{HostStep, took as host_took}
 use Rattle.host_core.specs.declared.question.Answer.{Answer as ApplicationAnswer}
@@ -97,7 +97,7 @@ module _ (stands : PaintRepresents) (bounded : PaintIsBounded) (given : LowerLaw
     pub answers_spelt : (said : ApplicationAnswer) → AreTexts said.values → IfSome (answered_on app t.link.host said) (λ sending. IsEncodable sending.message)
     answers_spelt said are = if_some (λ sending. IsEncodable sending.message) (answered_on app t.link.host said) (λ sending e.
         let by = answer_sent app t.link.host said sending e in
-        let act = act_by app t.link.host said said.panel in
+        let act = act_by app t.link.host said (panel_for app t.link.host said) in
         encoded sending.message
         (subst (λ (m : Sent). CommandFitsScreen m.message) (sym by) (act_suits _ _ _ (given.belief.fit app t.link.host act is)))
         (its SendsTexts (answered_on app t.link.host said) sending e (answers_say said are)).message
@@ -213,7 +213,7 @@ module _ (read : SentIsRead) (given : LowerLaws) (app : Application) (is : IsApp
   move_texts (Move.Answer said) t s x rules typed =
       sent_texts (answered_on app t.link.host said) t x (answers_texts app asks said typed t.link.host x.values (learns given app lu t s x))
       (if_some (λ sending. Numbered sending.conn) (answered_on app t.link.host said) (λ sending e.
-      subst (λ (m : Sent). Numbered m.conn) (sym (answer_sent app t.link.host said sending e)) (done_fits app t.link.host (act_by app t.link.host said said.panel) x.numbered).conn))
+      subst (λ (m : Sent). Numbered m.conn) (sym (answer_sent app t.link.host said sending e)) (done_fits app t.link.host (act_by app t.link.host said (panel_for app t.link.host said)) x.numbered).conn))
   move_texts (Move.Note text) t s x rules typed =
       sent_texts (noted text t.link.host) t x (says_notes given app is lu t s x text rules)
       (if_some (λ sending. Numbered sending.conn) (noted text t.link.host) (λ sending e.

@@ -1,16 +1,18 @@
 -- What the application is asked is what the operator sees: it is read off the moment in which the host decides.
 use Rattle.std.proofs.Common.{◌≡◌, ◌≢◌, ◌⊎◌, ◌+◌, ◌-◌, ◌<◌, ◌||◌, ◌&&◌, not, length, arith, ℕ, zero, suc, Bool, true, false, Option, None, Some, List, [], ◌∷◌, refl, ap, sym, subst, ◌∙◌, if◌then◌else◌, inl, inr}
 use Rattle.std.specs.Prelude.{◌==◌, All, slice_get, slice_index_or, option_map, option_and_then}
-use Rattle.std.specs.List.{Contains, list_any}
+use Rattle.std.specs.List.{Contains, list_all, list_any}
 use Rattle.std.specs.Option.{option_map_or}
 use Rattle.std.proofs.lemmas.Bool.{cases_eq, eq-eqb, eqb-true}
 use Rattle.std.proofs.lemmas.List.Elements.{All-head, All-tail}
 use Rattle.codes3270.specs.Size.{cells_in}
 use Rattle.codes3270.specs.declared.attention.Aid.{Aid}
 use Rattle.codes3270.specs.declared.attention.Aid.TheVariants.{NoAid, Enter, Clear, Pf, Pa}
-use Rattle.datastream.specs.Fields.{Field, fields, IsFormatted as IsFormattedScreen}
+use Rattle.codes3270.specs.declared.attribute.Cell.{Cell}
+use Rattle.codes3270.specs.declared.attribute.Cell.TheVariants.{Char, Attr}
+use Rattle.datastream.specs.Fields.{Field, fields, fields_from, IsFormatted as IsFormattedScreen, IsUnformatted}
 use Rattle.datastream.specs.Inbound.{without_nulls}
-use Rattle.datastream.specs.Screen.{Screen}
+use Rattle.datastream.specs.Screen.{Screen, is_char}
 use Rattle.datastream.specs.Wanted.{WantedScreen}
 use Rattle.panels.proofs.Setting.{put_here, put_there}
 use Rattle.panels.specs.KeptFields.{IsFieldOn}
@@ -25,26 +27,27 @@ use Rattle.shadow.specs.Meets.{FieldMeets, Holds, ListsFields, Meets, told}
 use Rattle.shadow.specs.Pairs.{Pairwise}
 use Rattle.host_core.specs.Acts.{Act, Decision, belief_of, decision_on, is_in_doubt, is_settled_fact, learned, text_known, when_shown}
 use Rattle.host_core.specs.Application.{Application, IsApplication, message_place}
-use Rattle.host_core.specs.Questions.{is_ask, is_asking, key_of, question_in, question_on}
+use Rattle.host_core.specs.Questions.{is_ask, is_asking, is_screen_empty, key_of, panel_asked, question_in, question_on}
 use Rattle.host_core.specs.Takes.{is_verified}
 use Rattle.host_core.specs.Session.{Session, agreed_lu}
 use Rattle.host_core.specs.declared.question.Question.{Question}
 use Rattle.host_core.specs.declared.turn_reason.TurnReason.{TurnReason}
 use Rattle.host_core.specs.declared.turn_reason.TurnReason.TheVariants as turn_reasons
 use Rattle.world3270.specs.statement.Always.{Always, AlwaysOf}
-use Rattle.world3270.specs.statement.Asked.{AskedIsSeen, AreFieldsAsked, FieldsAreSeen, IsScreenAsLeft, IsSeen, ScreensAreAsLeft, ShowsItsFields, IsFieldText, IsPanelText}
+use Rattle.world3270.specs.statement.Asked.{AskedIsSeen, AreFieldsAsked, AreFieldsAskedIf, FieldsAreSeen, IsBoundFor, IsScreenAsLeft, IsSeen, ScreensAreAsLeft, ShowsItsFields, IsFieldText, IsPanelText}
 use Rattle.world3270.specs.refinement.LowerLaws.{LowerLaws}
 use Rattle.world3270.specs.model.Steps.{run}
 use Rattle.world3270.specs.model.Link.{Link}
 use Rattle.world3270.specs.statement.Observation.{TerminalSeen, end_seen}
 use Rattle.world3270.specs.statement.Showing.{ShowsItsPanel}
-use Rattle.world3270.specs.refinement.Invariant.{ConnectionInvariant, IsTextKnown, IsKnownIfRead}
+use Rattle.world3270.specs.refinement.Invariant.{ConnectionInvariant, Decides, IsNew, IsTextKnown, IsKnownIfRead, ShownIn, local_state_of}
 use Rattle.world3270.specs.model.Terminal.{bound_to}
+use Rattle.world3270.specs.refinement.Phases.{SessionPhase}
 use Rattle.world3270.specs.statement.TurnReasons.{IsCursorFor, IsOccasion}
 use Rattle.world3270.specs.refinement.Unreturned.{SamePlaces}
 use Rattle.world3270.specs.refinement.View.{view_of}
 use Rattle.world3270.specs.model.World.{World, new_world}
-use Rattle.world3270.proofs.Acting.{agreed_unasked, asks_deciding, wanted_in_a_way}
+use Rattle.world3270.proofs.Acting.{MayAct, asks_when, same_asked, wanted_in_a_way}
 use Rattle.world3270.proofs.Headline.{terminal_attached}
 use Rattle.world3270.proofs.OnScreen.{IsAmong, among_listed, among_painted, among_same, listed-length}
 use Rattle.world3270.proofs.Worlds.{new_good, run_good}
@@ -210,24 +213,24 @@ settled_on shadow screen field lists meets settled there = by_belief shadow list
         belief_there (field.extent.first - 1) beliefs (fields screen.cells) listed.1.0 listed.0 meets.1 settled listed.1.1 listed.1.2 listed.2
 
 -- where the application is asked, nothing is in doubt, or the screen was read
-pub asked_sure : (app : Application) (conn : Session) (reason : TurnReason) → IsKnownIfRead reason conn.shadow → is_ask (decision_on app conn reason) ≡ true
+pub asked_sure : (app : Application) (conn : Session) (reason : TurnReason) → is_screen_empty (key_of reason) ≡ false → IsKnownIfRead reason conn.shadow → is_ask (decision_on app conn reason) ≡ true
     → (list_any (is_in_doubt conn.shadow) (app.fields conn.panel) ≡ false) ⊎ All IsTextKnown (fields_of conn.shadow)
-asked_sure app conn turn_reasons.Agreement settled asks = absurd (cc)
-asked_sure app conn turn_reasons.Refusal settled asks = absurd (cc)
-asked_sure app conn (turn_reasons.Key aid true) settled asks = inr settled
-asked_sure app conn (turn_reasons.Key aid false) settled asks = inl (by_aid aid asks)
+asked_sure app conn turn_reasons.Agreement shown_now settled asks = absurd (cc)
+asked_sure app conn turn_reasons.Refusal shown_now settled asks = absurd (cc)
+asked_sure app conn (turn_reasons.Key aid true) shown_now settled asks = inr settled
+asked_sure app conn (turn_reasons.Key aid false) shown_now settled asks = inl (by_aid aid shown_now asks)
   where
     by_doubt : (verified doubt : Bool) (led_to : Decision) → is_ask (if (verified || doubt) && not false then Decision.Do Act.Read else led_to) ≡ true → doubt ≡ false
     by_doubt true doubt led_to asks = absurd (cc)
     by_doubt false true led_to asks = absurd (cc)
     by_doubt false false led_to asks = refl
 
-    by_aid : (aid : Aid) → is_ask (decision_on app conn (turn_reasons.Key aid false)) ≡ true → list_any (is_in_doubt conn.shadow) (app.fields conn.panel) ≡ false
-    by_aid Clear asks = absurd (cc)
-    by_aid (Pa key) asks = absurd (cc)
-    by_aid NoAid asks = by_doubt (is_verified conn) (list_any (is_in_doubt conn.shadow) (app.fields conn.panel)) _ asks
-    by_aid Enter asks = by_doubt (is_verified conn) (list_any (is_in_doubt conn.shadow) (app.fields conn.panel)) _ asks
-    by_aid (Pf key) asks = by_doubt (is_verified conn) (list_any (is_in_doubt conn.shadow) (app.fields conn.panel)) _ asks
+    by_aid : (aid : Aid) → is_screen_empty aid ≡ false → is_ask (decision_on app conn (turn_reasons.Key aid false)) ≡ true → list_any (is_in_doubt conn.shadow) (app.fields conn.panel) ≡ false
+    by_aid Clear shown_now asks = absurd (cc)
+    by_aid NoAid shown_now asks = absurd (cc)
+    by_aid (Pa key) shown_now asks = absurd (cc)
+    by_aid Enter shown_now asks = by_doubt (is_verified conn) (list_any (is_in_doubt conn.shadow) (app.fields conn.panel)) _ asks
+    by_aid (Pf key) shown_now asks = by_doubt (is_verified conn) (list_any (is_in_doubt conn.shadow) (app.fields conn.panel)) _ asks
 
 -- what later fields have leaves the value of a number that they haven't
 learned_stays : (shadow : Shadow) (panel : List PanelField) (values : Values) (number : ℕ) → ((index : ℕ) (field : PanelField) → slice_get panel index ≡ Some field → number ≢ field.number)
@@ -273,25 +276,72 @@ shown_among app is shows waits host before left now index field shown same at =
 
 -- ---- the key
 
-asked_key : (app : Application) (conn : Session) (reason : TurnReason) (aid : Aid) → conn.turn_reason ≡ reason → IsOccasion reason aid
-    → is_ask (decision_on app conn conn.turn_reason) ≡ true → key_of reason ≡ aid
-asked_key app conn turn_reasons.Agreement aid is occasion asks = absurd (agreed_unasked app conn is asks)
-asked_key app conn (turn_reasons.Key pressed buffered) aid is occasion asks = occasion.0
-asked_key app conn turn_reasons.Refusal aid is occasion asks = absurd occasion
+asked_key : (reason : TurnReason) (aid : Aid) → IsOccasion reason aid → key_of reason ≡ aid
+asked_key turn_reasons.Agreement aid occasion = sym occasion
+asked_key (turn_reasons.Key pressed buffered) aid occasion = occasion.0
+asked_key turn_reasons.Refusal aid occasion = absurd occasion
+
+bound_for : (aid : Aid) (bound : Option (List ℕ)) (lu : List ℕ) → bound ≡ Some lu → IsBoundFor aid bound lu
+bound_for NoAid bound lu is = inr is
+bound_for Enter bound lu is = is
+bound_for Clear bound lu is = is
+bound_for (Pf key) bound lu is = is
+bound_for (Pa key) bound lu is = is
 
 -- ---- the cursor
 
--- nothing is asked after Clear, nor after a PA key before the screen was read
-asked_cursor : (app : Application) (conn : Session) (reason : TurnReason) (known place : ℕ) → IsCursorFor reason known place
-    → is_ask (decision_on app conn reason) ≡ true → known ≡ place
-asked_cursor app conn turn_reasons.Agreement known place cursor asks = absurd (cc)
-asked_cursor app conn turn_reasons.Refusal known place cursor asks = absurd (cc)
-asked_cursor app conn (turn_reasons.Key aid true) known place cursor asks = cursor
-asked_cursor app conn (turn_reasons.Key NoAid false) known place cursor asks = cursor refl
-asked_cursor app conn (turn_reasons.Key Enter false) known place cursor asks = cursor refl
-asked_cursor app conn (turn_reasons.Key (Pf key) false) known place cursor asks = cursor refl
-asked_cursor app conn (turn_reasons.Key Clear false) known place cursor asks = absurd (cc)
-asked_cursor app conn (turn_reasons.Key (Pa key) false) known place cursor asks = absurd (cc)
+-- nothing is asked after a PA key before the screen was read
+asked_cursor : (app : Application) (conn : Session) (reason : TurnReason) (aid : Aid) (place : ℕ) → IsOccasion reason aid → IsCursorFor reason conn.cursor place
+    → is_ask (decision_on app conn reason) ≡ true → (if is_screen_empty (key_of reason) then 0 else conn.cursor) ≡ place
+asked_cursor app conn turn_reasons.Agreement aid place occasion cursor asks = sym cursor
+asked_cursor app conn turn_reasons.Refusal aid place occasion cursor asks = absurd occasion
+asked_cursor app conn (turn_reasons.Key NoAid buffered) aid place occasion cursor asks = absurd (occasion.1 (sym occasion.0))
+asked_cursor app conn (turn_reasons.Key Enter true) aid place occasion cursor asks = cursor.0
+asked_cursor app conn (turn_reasons.Key Enter false) aid place occasion cursor asks = cursor.0 refl
+asked_cursor app conn (turn_reasons.Key (Pf key) true) aid place occasion cursor asks = cursor.0
+asked_cursor app conn (turn_reasons.Key (Pf key) false) aid place occasion cursor asks = cursor.0 refl
+asked_cursor app conn (turn_reasons.Key Clear true) aid place occasion cursor asks = sym (cursor.1 refl)
+asked_cursor app conn (turn_reasons.Key Clear false) aid place occasion cursor asks = sym (cursor.1 refl)
+asked_cursor app conn (turn_reasons.Key (Pa key) true) aid place occasion cursor asks = cursor.0
+asked_cursor app conn (turn_reasons.Key (Pa key) false) aid place occasion cursor asks = absurd (cc)
+
+-- ---- the texts
+
+-- the texts of a question stand on the screen
+texts_seen : (app : Application) (conn : Session) (screen : Screen) (reason : TurnReason) (number : ℕ) (text : List ℕ) → Meets conn.shadow screen
+    → value_of (if is_screen_empty (key_of reason) then [] else learned conn.shadow (app.fields conn.panel) []) number ≡ Some text → IsPanelText (app.fields (panel_asked app conn reason)) number text screen
+texts_seen app conn screen turn_reasons.Agreement number text meets value = absurd (cc)
+texts_seen app conn screen turn_reasons.Refusal number text meets value = absurd (cc)
+texts_seen app conn screen (turn_reasons.Key NoAid buffered) number text meets value = absurd (cc)
+texts_seen app conn screen (turn_reasons.Key Clear buffered) number text meets value = absurd (cc)
+texts_seen app conn screen (turn_reasons.Key Enter buffered) number text meets value = stands_in conn.shadow screen (app.fields conn.panel) number text meets value
+texts_seen app conn screen (turn_reasons.Key (Pf key) buffered) number text meets value = stands_in conn.shadow screen (app.fields conn.panel) number text meets value
+texts_seen app conn screen (turn_reasons.Key (Pa key) buffered) number text meets value = stands_in conn.shadow screen (app.fields conn.panel) number text meets value
+
+-- characters alone are no fields
+bare_unformatted : (cells rest : List Cell) (at : ℕ) → list_all is_char rest ≡ true → fields_from cells at rest ≡ []
+bare_unformatted cells [] at bare = refl
+bare_unformatted cells (Char byte ∷ rest) at bare = bare_unformatted cells rest (at + 1) bare
+bare_unformatted cells (Attr attribute ∷ rest) at bare = absurd (cc)
+
+-- while no panel is on the screen, it has no fields
+unformatted_for : (reason : TurnReason) (aid : Aid) (cells : List Cell) → IsOccasion reason aid → is_screen_empty (key_of reason) ≡ true → (reason ≡ turn_reasons.Agreement → IsUnformatted cells)
+    → (aid ≡ Clear → IsUnformatted cells) → IsUnformatted cells
+unformatted_for turn_reasons.Agreement aid cells occasion empty first cleared = first refl
+unformatted_for turn_reasons.Refusal aid cells occasion empty first cleared = absurd occasion
+unformatted_for (turn_reasons.Key NoAid buffered) aid cells occasion empty first cleared = absurd (occasion.1 (sym occasion.0))
+unformatted_for (turn_reasons.Key Clear buffered) aid cells occasion empty first cleared = cleared (sym occasion.0)
+unformatted_for (turn_reasons.Key Enter buffered) aid cells occasion empty first cleared = absurd (cc)
+unformatted_for (turn_reasons.Key (Pf key) buffered) aid cells occasion empty first cleared = absurd (cc)
+unformatted_for (turn_reasons.Key (Pa key) buffered) aid cells occasion empty first cleared = absurd (cc)
+
+-- a panel is on the screen, so neither Clear was pressed nor is it the first
+uncleared_for : (reason : TurnReason) (aid : Aid) → IsOccasion reason aid → is_screen_empty (key_of reason) ≡ false → aid ≡ Clear → ⊥
+uncleared_for reason aid occasion shown_now clear =
+    absurd (let both : true ≡ false = sym (ap is_screen_empty (asked_key reason aid occasion ∙ clear)) ∙ shown_now in cc)
+
+later_for : (reason : TurnReason) → is_screen_empty (key_of reason) ≡ false → reason ≡ turn_reasons.Agreement → ⊥
+later_for reason shown_now first = absurd (let both : true ≡ false = sym (ap (λ (r : TurnReason). is_screen_empty (key_of r)) first) ∙ shown_now in cc)
 
 -- ---- a question
 
@@ -302,63 +352,87 @@ question_is true (Some lu) ask question is = (refl, lu, refl, let same : Some (a
 question_is true None ask question is = absurd (cc)
 question_is false lu ask question is = absurd (cc)
 
--- the key isn't Clear
-asked_uncleared : (app : Application) (conn : Session) (reason : TurnReason) (aid : Aid) → IsOccasion reason aid → is_ask (decision_on app conn reason) ≡ true → aid ≡ Clear → ⊥
-asked_uncleared app conn turn_reasons.Agreement aid occasion asks clear = absurd (cc)
-asked_uncleared app conn turn_reasons.Refusal aid occasion asks clear = absurd (cc)
-asked_uncleared app conn (turn_reasons.Key pressed buffered) aid occasion asks clear =
-    absurd (let is_clear : is_ask (decision_on app conn (turn_reasons.Key Clear buffered)) ≡ true =
-    subst (λ (a : Aid). is_ask (decision_on app conn (turn_reasons.Key a buffered)) ≡ true) (occasion.0 ∙ clear) asks in cc)
-
 pub asked_seen : LowerLaws → (app : Application) → IsApplication app → (link : Link) → ConnectionInvariant app (view_of link) → (number session : ℕ) (question : Question)
     → question_in app session link.host ≡ Some question → IsSeen (app.fields question.panel) question (end_seen number link.term)
 asked_seen given app is link k number session question asked =
     let there = question_is (is_asking app link.host) (agreed_lu link.host.talk.state) (question_on app session link.host) question asked in
-    let asks = asks_deciding given app is link k there.0 in
-    let lu : List ℕ = asks.0 in
-    let host_is : agreed_lu link.host.talk.state ≡ Some lu = agreed_on link.host.talk asks.1.host_talk in
-    let term_is : bound_to link.term.talk.talk.state ≡ Some lu = ap bound_to asks.1.term_talk in
-    let seen_on : IsSeen (app.fields link.host.panel) (question_on app session link.host there.1) (end_seen number link.term) =
-    record {
-      key = asked_key app link.host link.host.turn_reason link.term.display.screen.aid refl asks.2.turn_reason asks.3;
-      not_clear = asked_uncleared app link.host link.host.turn_reason link.term.display.screen.aid asks.2.turn_reason asks.3;
-      lu = term_is ∙ sym host_is ∙ there.2;
-      cursor = asked_cursor app link.host link.host.turn_reason link.host.cursor link.term.display.screen.cursor asks.2.cursor asks.3;
-      texts = λ field text value. stands_in link.host.shadow link.term.display.screen (app.fields link.host.panel) field text asks.2.sees.meets value;
-    } in
-    subst (λ (q : Question). IsSeen (app.fields q.panel) q (end_seen number link.term)) (sym there.3) seen_on
+    let asks = asks_when given app is link k there.0 in
+    subst (λ (q : Question). IsSeen (app.fields q.panel) q (end_seen number link.term)) (sym there.3) (by_moment asks.0 asks.1 there.1 there.2)
+  where
+    by_moment : MayAct app link k.wanted → is_ask (decision_on app link.host link.host.turn_reason) ≡ true → (lu : List ℕ) → agreed_lu link.host.talk.state ≡ Some lu
+        → IsSeen (app.fields (panel_asked app link.host link.host.turn_reason)) (question_on app session link.host lu) (end_seen number link.term)
+    by_moment (MayAct.agreeing mine at n) asks lu host_is = record {
+      key = ap key_of n.turn_reason ∙ sym n.aid;
+      lu = subst (λ (r : TurnReason). IsBoundFor (key_of r) (bound_to link.term.talk.talk.state) lu) (sym n.turn_reason) (inl (ap bound_to at.term_talk));
+      cursor = ap (λ (r : TurnReason). if is_screen_empty (key_of r) then 0 else link.host.cursor) n.turn_reason ∙ sym n.home;
+      texts = λ field text value. texts_seen app link.host link.term.display.screen link.host.turn_reason field text (subst (λ s. Meets s link.term.display.screen) (sym n.shadow) tt) value;
+    }
+    by_moment (MayAct.deciding mine s at f showing) asks lu host_is = record {
+      key = asked_key link.host.turn_reason link.term.display.screen.aid f.turn_reason;
+      lu = bound_for (key_of link.host.turn_reason) (bound_to link.term.talk.talk.state) lu (ap bound_to at.term_talk ∙ sym (agreed_on link.host.talk at.host_talk) ∙ host_is);
+      cursor = asked_cursor app link.host link.host.turn_reason link.term.display.screen.aid link.term.display.screen.cursor f.turn_reason f.cursor asks;
+      texts = λ field text value. texts_seen app link.host link.term.display.screen link.host.turn_reason field text f.sees.meets value;
+    }
 
--- something was shown
-asked_later : (app : Application) (conn : Session) → is_ask (decision_on app conn conn.turn_reason) ≡ true → conn.turn_reason ≡ turn_reasons.Agreement → ⊥
-asked_later app conn asks agreement = agreed_unasked app conn agreement asks
+-- a question, with the texts of all fields or with none
+abbrev question_if : Application → ℕ → Session → List ℕ → Bool → Question
+question_if app session conn lu empty =
+    record (question_on app session conn lu) { values = (if empty then [] else learned conn.shadow (app.fields conn.panel) []) }
 
 pub each_asked : LowerLaws → (app : Application) → IsApplication app → ShowsItsFields app → (link : Link) → ConnectionInvariant app (view_of link) → (session : ℕ) (question : Question)
     → question_in app session link.host ≡ Some question → AreFieldsAsked (app.fields question.panel) question link.term.display.screen
 each_asked given app is shows link k session question asked =
     let there = question_is (is_asking app link.host) (agreed_lu link.host.talk.state) (question_on app session link.host) question asked in
-    let asks = asks_deciding given app is link k there.0 in
-    let conn : Session = link.host in
-    let screen : Screen = link.term.display.screen in
-    let uncleared : screen.aid ≡ Clear → ⊥ = asked_uncleared app conn conn.turn_reason screen.aid asks.2.turn_reason asks.3 in
-    let shown : ShowsItsPanel app link.term.waits conn link.term.display.before_restored link.term.display.last_restored = asks.4.0 (asked_later app conn asks.3) in
-    let same : SamePlaces link.term.display.last_restored.cells screen.cells = (k.unreturned uncleared).places in
-    let sure = asked_sure app conn conn.turn_reason asks.4.1 asks.3 in
-    let on_it : AreFieldsAsked (app.fields conn.panel) (question_on app session conn there.1) screen =
-    λ index field at.
-    let among : IsAmong screen.cells field.extent = shown_among app is shows link.term.waits conn link.term.display.before_restored link.term.display.last_restored screen index field shown same at in
-    let told : IsTextOf (belief_of conn.shadow field) = text_of conn.shadow screen (app.fields conn.panel) index field asks.2.sees.lists asks.2.sees.meets among at sure in
-    let stands : IsFieldText field told.0 screen = stands_at conn.shadow screen field told.0 asks.2.sees.meets told.1 in
-    record {
-      text = told.0;
-      given = learned_has conn.shadow (app.fields conn.panel) [] index field told.0 (shows.numbers conn.panel) at told.1;
-      shown = record { stands = stands; length_is = listed-length screen.cells field.extent stands.index stands.on_screen stands.listed stands.place among };
-    } in
-    subst (λ (q : Question). AreFieldsAsked (app.fields q.panel) q screen) (sym there.3) on_it
+    let asks = asks_when given app is link k there.0 in
+    subst (λ (q : Question). AreFieldsAsked (app.fields q.panel) q link.term.display.screen) (sym there.3) (by_moment asks.0 asks.1 there.1)
   where
     text_of : (shadow : Shadow) (screen : Screen) (panel : List PanelField) (index : ℕ) (field : PanelField) → ListsFields shadow screen → Meets shadow screen → IsAmong screen.cells field.extent
         → slice_get panel index ≡ Some field → (list_any (is_in_doubt shadow) panel ≡ false) ⊎ All IsTextKnown (fields_of shadow) → IsTextOf (belief_of shadow field)
     text_of shadow screen panel index field lists meets among at (inl sure) = sure_told shadow panel index field sure at
     text_of shadow screen panel index field lists meets among at (inr settled) = settled_on shadow screen field lists meets settled among
+
+    -- the panel is on the screen
+    each_there : Decides (local_state_of (view_of link)) link.host.shadow
+        → ShownIn app link.term.waits link.host link.term.display.before_restored link.term.display.last_restored link.term.display.screen SessionPhase.Deciding → is_ask (decision_on app link.host link.host.turn_reason) ≡ true
+        → is_screen_empty (key_of link.host.turn_reason) ≡ false → (lu : List ℕ) → AreFieldsAskedIf false (app.fields link.host.panel) (question_if app session link.host lu false) link.term.display.screen
+    each_there f showing asks shown_now lu =
+        let uncleared : link.term.display.screen.aid ≡ Clear → ⊥ = uncleared_for link.host.turn_reason link.term.display.screen.aid f.turn_reason shown_now in
+        let shown : ShowsItsPanel app link.term.waits link.host link.term.display.before_restored link.term.display.last_restored = showing.0 (later_for link.host.turn_reason shown_now) in
+        let same : SamePlaces link.term.display.last_restored.cells link.term.display.screen.cells = (k.unreturned uncleared).places in
+        let sure = asked_sure app link.host link.host.turn_reason shown_now showing.1 asks in
+        λ index field at.
+        let among : IsAmong link.term.display.screen.cells field.extent =
+        shown_among app is shows link.term.waits link.host link.term.display.before_restored link.term.display.last_restored link.term.display.screen index field shown same at in
+        let told : IsTextOf (belief_of link.host.shadow field) = text_of link.host.shadow link.term.display.screen (app.fields link.host.panel) index field f.sees.lists f.sees.meets among at sure in
+        let stands : IsFieldText field told.0 link.term.display.screen = stands_at link.host.shadow link.term.display.screen field told.0 f.sees.meets told.1 in
+        record {
+          text = told.0;
+          given = learned_has link.host.shadow (app.fields link.host.panel) [] index field told.0 (shows.numbers link.host.panel) at told.1;
+          shown = record { stands = stands; length_is = listed-length link.term.display.screen.cells field.extent stands.index stands.on_screen stands.listed stands.place among };
+        }
+
+    by_deciding : Decides (local_state_of (view_of link)) link.host.shadow
+        → ShownIn app link.term.waits link.host link.term.display.before_restored link.term.display.last_restored link.term.display.screen SessionPhase.Deciding → is_ask (decision_on app link.host link.host.turn_reason) ≡ true
+        → (lu : List ℕ) (empty : Bool) → is_screen_empty (key_of link.host.turn_reason) ≡ empty
+        → AreFieldsAskedIf empty (app.fields (panel_asked app link.host link.host.turn_reason)) (question_if app session link.host lu empty) link.term.display.screen
+    by_deciding f showing asks lu true empty = (
+      refl,
+      unformatted_for link.host.turn_reason link.term.display.screen.aid link.term.display.screen.cells f.turn_reason empty showing.2
+          (λ clear. bare_unformatted link.term.display.screen.cells link.term.display.screen.cells 0 (f.sees.bare clear)),
+    )
+    by_deciding f showing asks lu false shown_now =
+        subst (λ (panel : ℕ). AreFieldsAskedIf false (app.fields panel) (question_if app session link.host lu false) link.term.display.screen) (sym (same_asked app link.host link.host.turn_reason shown_now))
+        (each_there f showing asks shown_now lu)
+
+    by_agreeing : IsNew (local_state_of (view_of link)) → (lu : List ℕ) (empty : Bool) → is_screen_empty (key_of link.host.turn_reason) ≡ empty
+        → AreFieldsAskedIf empty (app.fields (panel_asked app link.host link.host.turn_reason)) (question_if app session link.host lu empty) link.term.display.screen
+    by_agreeing n lu true empty = (refl, n.no_fields)
+    by_agreeing n lu false shown_now = absurd (later_for link.host.turn_reason shown_now n.turn_reason)
+
+    by_moment : MayAct app link k.wanted → is_ask (decision_on app link.host link.host.turn_reason) ≡ true → (lu : List ℕ)
+        → AreFieldsAsked (app.fields (panel_asked app link.host link.host.turn_reason)) (question_on app session link.host lu) link.term.display.screen
+    by_moment (MayAct.agreeing mine at n) asks lu = by_agreeing n lu (is_screen_empty (key_of link.host.turn_reason)) refl
+    by_moment (MayAct.deciding mine s at f showing) asks lu = by_deciding f showing asks lu (is_screen_empty (key_of link.host.turn_reason)) refl
 
 -- a question is asked where the host is
 asked_there : (here : Bool) (asked : Option Question) (question : Question) → (if here then asked else None) ≡ Some question → (here ≡ true) × (asked ≡ Some question)

@@ -91,5 +91,5 @@ asked_over_bytes shown on_screen asked each as_left bytes is = record { question
           seen = seen;
           fields = each app begin.serves begin.pool begin.models is.events is_app is.is_begin.pool is.is_begin.few is.reached.are_events
               (shows_its_fields on_screen begin.panels is.is_begin.panels) number session question terminal over_messages (seen_there number terminal terminal_is);
-          protected = screens number terminal terminal_is seen.not_clear;
+          protected = screens number terminal terminal_is;
         })

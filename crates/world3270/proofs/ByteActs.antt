@@ -1,6 +1,6 @@
 -- What the host sends in its turn, and notes that it sends, over bytes: they stand for the messages that it sends.
 use Rattle.std.proofs.Common.{◌≡◌, ◌<◌, ◌==◌, ℕ, Bool, true, false, Option, Some, None, is_some, List, [], ◌∷◌, ◌++◌, length, refl, ap, sym, subst, ◌∙◌, IfSome, if◌then◌else◌}
-use Rattle.host_core.specs.Questions.{act_by, answered_by, answered_on, has_its_panel, is_asking, is_ticket, ticket_of}
+use Rattle.host_core.specs.Questions.{act_by, answered_by, answered_on, has_its_panel, is_asking, is_ticket, panel_for, ticket_of}
 use Rattle.host_core.specs.declared.question.Answer.{Answer as ApplicationAnswer}
 use Rattle.host_core.specs.declared.question.Ticket.{Ticket}
 use Rattle.world3270.proofs.Answered.{IsDone, by_act, by_answer}
@@ -313,8 +313,8 @@ answering app session ticket said Service.Free sending is = absurd (cc)
 answering app session ticket said (Service.Open rest conn) sending is = (refl, if_some (is_ticket ticket (ticket_of session conn)) (answered_on app conn said) sending is)
 answering app session ticket said (Service.Closed cause) sending is = absurd (cc)
 
-pub answer_sent : (app : Application) (conn : Session) (said : ApplicationAnswer) (sending : Sent) → answered_on app conn said ≡ Some sending → sending ≡ done_act app conn (act_by app conn said said.panel)
-answer_sent app conn said sending is = only_if (is_asking app conn && has_its_panel app said) (done_act app conn (act_by app conn said said.panel)) sending is
+pub answer_sent : (app : Application) (conn : Session) (said : ApplicationAnswer) (sending : Sent) → answered_on app conn said ≡ Some sending → sending ≡ done_act app conn (act_by app conn said (panel_for app conn said))
+answer_sent app conn said sending is = only_if (is_asking app conn && has_its_panel app said) (done_act app conn (act_by app conn said (panel_for app conn said))) sending is
 
 pub note_sent : (text : List ℕ) (conn : Session) (sending : Sent) → noted text conn ≡ Some sending → sending ≡ noted_as text conn
 note_sent text conn sending is = only_if (may_note conn.turn conn.pending (is_agreed conn.talk.state)) (noted_as text conn) sending is
@@ -456,7 +456,7 @@ module _ (known : MessageLaws) (skips : SameSkips) (given : LowerLaws) (stands_f
           let here : link.host_here ≡ true = sym (reached.stands.links number).host_here ∙ found.0 in
           let suits : CommandFitsScreen sending.message =
           subst (λ (s : Sent). CommandFitsScreen s.message) (sym (answer_sent app link.host said sending does))
-          (act_suits _ _ _ (known.worlds.given.belief.fit app link.host (act_by app link.host said said.panel) (is_application known.worlds begin is))) in
+          (act_suits _ _ _ (known.worlds.given.belief.fit app link.host (act_by app link.host said (panel_for app link.host said)) (is_application known.worlds begin is))) in
           let done : IsDone (Some sending) (connection_at number old.host) acts.act (connection_at number acts.host) =
           by_answer (application_of old.host.panels) said (Some sending) (connection_at number old.host) acts.act (connection_at number acts.host) acts.acts in
           let went = went_on begin events (Event.Answer number said) number sending old new answer acts.host acts.act done acts.others acts.answers acts.leaves reached

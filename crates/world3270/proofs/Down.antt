@@ -314,6 +314,7 @@ reads_on app link rest k same lu number at f shown left screen erased whole on u
         turn_reason = f.decides.turn_reason;
         closed = f.decides.closed;
         not_cleared = f.not_cleared;
+        not_first = f.not_first;
         says = ap (λ (size : ScreenSize). buffer_data size screen) same;
         will = subst (λ (n : ℕ). IsOkAnd (heard n link.host.shadow (buffer_data link.host.size screen)) (Believed false (record screen { aid = link.term.display.screen.aid }))) (whole ∙ ap (λ (s : ScreenSize). cells_in s) same) will;
         unbroken = unbroken;
@@ -404,6 +405,7 @@ sees_noted given unheard shape command screen shadow note whole noted s =
     (record {
       exact = let both = given.notes.exact command shadow screen noted.over s.meets s.exact.known s.exact.protected in record { known = both.0; protected = both.1 };
       cleared = λ e. subst (λ n. IsCleared shape (taken n command shadow)) (sym whole) (by_notes (s.cleared (sym noted.aid ∙ e)));
+      bare = λ e. still_bare screen.cells (after_command command screen).cells (given.notes.form command screen noted.characters).attributes (s.bare (sym noted.aid ∙ e));
       closed = λ relies. open_noted screen.aid (after_command command screen).aid false shadow (taken (length screen.cells) command shadow) noted.aid (given.notes.opens command shadow screen noted.over s.meets) (s.closed relies);
       meets = subst (λ n. Meets (taken n command shadow) (after_command command screen)) (written_on ∙ sym whole) (given.belief.written command shadow screen noted.over.encoded noted.over.plain (λ code. whole ∙ sym written_on) s.meets);
       lists = given.notes.listed command shadow screen noted.over s.meets s.lists;

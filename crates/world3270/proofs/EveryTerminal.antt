@@ -71,7 +71,7 @@ module _ (given : LowerLaws) (app : Application) (is : IsApplication app) (lu : 
   nothing_known = record { known = given.belief.nothing_exact.0; protected = given.belief.nothing_exact.1 }
 
   is_new : IsNew (local_state_of (view_of begun))
-  is_new = record { shadow = refl; turn_reason = refl; lock = refl; aid = refl; no_fields = no_field (replicate (cells_in app.begins) (Char 0)) 0 (cells_in app.begins) }
+  is_new = record { shadow = refl; turn_reason = refl; lock = refl; aid = refl; no_fields = no_field (replicate (cells_in app.begins) (Char 0)) 0 (cells_in app.begins); home = refl }
 
   is_at : (moment : LinkPhase) → IsAt (view_of begun) None moment → Fact None (local_state_of (view_of begun)) moment → ShownAt app false host blank.before_restored blank.last_restored blank.screen moment → ConnectionInvariant app (view_of begun)
   is_at moment at fact shown = record {
@@ -104,7 +104,7 @@ module _ (given : LowerLaws) (app : Application) (is : IsApplication app) (lu : 
             pending = refl;
             goes_down = all_of t.link.down [] down;
             goes_up = all_of [] [] refl;
-          }) (decides_new (local_state_of (view_of begun)) is_new nothing_known) (λ later. absurd (later refl), tt)
+          }) (decides_new (local_state_of (view_of begun)) is_new nothing_known) (λ later. absurd (later refl), tt, λ is_first. is_new.no_fields)
       by_talk (Binds.about_to state down) =
           is_at (LinkPhase.Negotiating (NegotiationPhase.Agreeing lu))
           (record {

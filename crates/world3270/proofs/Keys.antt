@@ -35,11 +35,11 @@ use Rattle.shadow.specs.TextUnknown.{IsClearedBelief, IsLong, IsNotOpen, Nothing
 use Rattle.shadow.specs.declared.fault.HeardFault.{HeardFault}
 use Rattle.host_core.specs.Application.{Application, message_place}
 use Rattle.host_core.specs.Messages.{ToHost}
-use Rattle.host_core.specs.NoteLaws.{HasMessageRow, TakesNotes}
+use Rattle.host_core.specs.NoteLaws.{HasMessageRow, HasNoFields, TakesNotes}
 use Rattle.world3270.specs.refinement.LowerLaws.{LowerLaws}
 use Rattle.world3270.specs.model.Link.{Link, sent, term_stepped}
 use Rattle.world3270.specs.refinement.Phases.{SessionPhase, LinkPhase, IsInFlight, IsAt, turn_at, pending_at, served_down, served_up}
-use Rattle.world3270.specs.statement.TurnReasons.{IsCleared, IsOpenBy}
+use Rattle.world3270.specs.statement.TurnReasons.{IsCleared, IsHome, IsOpenBy}
 use Rattle.host_core.specs.declared.unheard.Unheard.{Unheard}
 use Rattle.world3270.specs.refinement.Invariant.{LocalState, local_state_of, once_taken, FactsAreExact, IfRelies, Operates, Sees, IsPressed, WillSee, Fact, ConnectionInvariant, Sizes, ShownAt}
 use Rattle.world3270.specs.model.Terminal.{Display, is_bound, bound_to, data_of, erases_if, outcome_of, key_came}
@@ -97,7 +97,7 @@ waits columns key keyboard screen e = subst (λ l. Waits key screen (at_lock l c
 abbrev ActsBy : Pressed → Outcome → Type 0
 ActsBy Done outcome = outcome.keyboard.lock ≡ Wait → ⊥
 ActsBy (Refused why) outcome = outcome.keyboard.lock ≡ Wait → ⊥
-ActsBy (Send aid) outcome = (outcome.keyboard.lock ≡ Wait) × (outcome.screen.aid ≡ aid) × (aid ≡ NoAid → ⊥)
+ActsBy (Send aid) outcome = (outcome.keyboard.lock ≡ Wait) × (outcome.screen.aid ≡ aid) × (aid ≡ NoAid → ⊥) × IsHome aid outcome.screen.cursor
 
 abbrev Acts : Outcome → Type 0
 Acts outcome = ActsBy outcome.answer outcome
@@ -129,10 +129,10 @@ acts_free columns Delete keyboard screen h f = edits (with_deleted columns scree
 acts_free columns EraseEof keyboard screen h f = edits (with_field_erased screen) keyboard screen h
 acts_free columns EraseInput keyboard screen h f = h
 acts_free columns Reset keyboard screen h f = rw f (λ e. absurd (cc))
-acts_free columns Enter keyboard screen h f = (refl, refl, λ e. absurd (cc))
-acts_free columns (Pf number) keyboard screen h f = (refl, refl, λ e. absurd (cc))
-acts_free columns (Pa number) keyboard screen h f = (refl, refl, λ e. absurd (cc))
-acts_free columns Clear keyboard screen h f = (refl, refl, λ e. absurd (cc))
+acts_free columns Enter keyboard screen h f = (refl, refl, λ e. absurd (cc), λ clear. absurd (cc))
+acts_free columns (Pf number) keyboard screen h f = (refl, refl, λ e. absurd (cc), λ clear. absurd (cc))
+acts_free columns (Pa number) keyboard screen h f = (refl, refl, λ e. absurd (cc), λ clear. absurd (cc))
+acts_free columns Clear keyboard screen h f = (refl, refl, λ e. absurd (cc), λ clear. refl)
 
 acts_error : (columns : ℕ) (key : Key) (keyboard : Keyboard) (screen : Screen) → (keyboard.lock ≡ Wait → ⊥) → keyboard.lock ≡ Error → Acts (at_lock Error columns key keyboard screen)
 acts_error columns (Char letter) keyboard screen h f = h
@@ -210,13 +210,17 @@ all_chars : (count : ℕ) → list_all is_char (replicate count (CharCell 0)) �
 all_chars zero = refl
 all_chars (suc count) = all_chars count
 
+-- after Clear the screen has no fields
+sent_bare : (erased : Bool) (left now : List Cell) → KeepsSent erased ClearAid left now → HasNoFields now
+sent_bare erased left now k = ap (list_all is_char) k ∙ all_chars (length left)
+
 -- notes may be written on it
 takes_notes : LowerLaws → (shape : ScreenSize) (erased : Bool) (left now : List Cell) (aid : Aid) → KeepsSent erased aid left now → HasMessageRow shape left → TakesNotes shape now
 takes_notes given shape erased left now NoAid k row = absurd k
 takes_notes given shape erased left now EnterAid k row = TakesNotes.formatted (given.notes.held_takes shape erased left now k row)
 takes_notes given shape erased left now (PfAid key) k row = TakesNotes.formatted (given.notes.held_takes shape erased left now k row)
 takes_notes given shape erased left now (PaAid key) k row = TakesNotes.formatted (given.notes.held_takes shape erased left now k row)
-takes_notes given shape erased left now ClearAid k row = TakesNotes.unformatted (ap (list_all is_char) k ∙ all_chars (length left))
+takes_notes given shape erased left now ClearAid k row = TakesNotes.unformatted (sent_bare erased left now k)
 
 -- what is open once it is heard
 opens_by : (aid : Aid) (s : Shadow) (size : ℕ) → (aid ≡ ClearAid → IsClearedBelief size s) → (is_short_aid aid ≡ false → NothingIsOpen s) → IsOpenBy aid false s
@@ -232,7 +236,7 @@ will_see : LowerLaws → (unheard : Unheard) (erased : Bool) (shape size : Scree
 will_see given unheard erased shape size shadow left screen aid is whole exact knows closed meets keeps =
     subst (λ n. IsOkAnd (heard n shadow parts) (Sees unheard shape screen)) whole
     (ok_map (λ s. Believed (is_short_aid screen.aid) screen s × FactsAreExact s × (screen.aid ≡ ClearAid → IsCleared shape s) × IfRelies unheard (IsOpenBy screen.aid false s)) (Sees unheard shape screen) result
-    (λ s all. record { exact = all.1; closed = all.3; cleared = all.2; meets = all.0.0; lists = all.0.1; told = λ sent. all.0.2 (sent_long screen.aid sent) })
+    (λ s all. record { exact = all.1; closed = all.3; cleared = all.2; bare = λ clear. sent_bare erased left.cells screen.cells (subst (λ a. KeepsSent erased a left.cells screen.cells) (sym is ∙ clear) keeps); meets = all.0.0; lists = all.0.1; told = λ sent. all.0.2 (sent_long screen.aid sent) })
     (by_result result
     (given.belief.hears size erased shadow left screen knows meets (sent_from erased left.cells screen.cells screen.aid (subst (λ a. KeepsSent erased a left.cells screen.cells) (sym is) keeps)))
     (given.belief.heard_exact (length screen.cells) shadow parts exact.known) (given.belief.heard_protected (length screen.cells) shadow parts exact.protected)
@@ -320,9 +324,9 @@ module _ (given : LowerLaws) (app : Application) (link : Link) (k : ConnectionIn
   }
 
   -- a key that sends
-  pub sends : Typing → (screen : Screen) (lock : Lock) (erased : Bool) (aid : Aid) → length screen.cells ≡ cells_in v.size → screen.cursor < cells_in v.size → lock ≡ Wait → screen.aid ≡ aid → (aid ≡ NoAid → ⊥)
+  pub sends : Typing → (screen : Screen) (lock : Lock) (erased : Bool) (aid : Aid) → length screen.cells ≡ cells_in v.size → screen.cursor < cells_in v.size → lock ≡ Wait → screen.aid ≡ aid → (aid ≡ NoAid → ⊥) → IsHome aid screen.cursor
       → KeepsSent erased aid f.shown.cells screen.cells → ConnectionInvariant app (seen_as v (sent v.lost v.up (ToHost.Data (modified_data Modified v.size screen) ∷ [])) screen lock erased)
-  sends typing screen lock erased aid whole cursor waits is some keeps =
+  sends typing screen lock erased aid whole cursor waits is some home keeps =
       let parts : InboundParts = modified_data Modified v.size screen in
       let still : (screen.aid ≡ ClearAid → ⊥) → KeptByKeys erased f.shown.cells screen.cells =
       λ uncleared. held_fields erased f.shown.cells screen.cells aid keeps (λ clear. uncleared (is ∙ clear)) in
@@ -337,7 +341,7 @@ module _ (given : LowerLaws) (app : Application) (link : Link) (k : ConnectionIn
         sizes = record { host = k.sizes.host; screen = k.sizes.screen; same = λ steady. same };
         at = typing.at_to parts screen lock erased;
         fact = typing.press parts screen lock erased
-            (record { lock = waits; form = key_form v.size screen; size = key_size v.size screen ∙ same; pressed = key_aid v.size screen; cursor = key_cursor v.size screen; some = λ none. some (sym is ∙ none) })
+            (record { lock = waits; form = key_form v.size screen; size = key_size v.size screen ∙ same; pressed = key_aid v.size screen; cursor = key_cursor v.size screen; some = λ none. some (sym is ∙ none); home = λ clear. home (sym is ∙ clear) })
             (will_see given v.host.unheard erased v.host.size v.size shadow f.shown screen aid is (whole ∙ ap (λ (s : ScreenSize). cells_in s) same) f.exact f.knows f.closed f.meets keeps)
             (takes_notes given v.host.size erased f.shown.cells screen.cells aid keeps f.messages);
         shown = typing.shown_to parts screen;
@@ -460,7 +464,7 @@ module _ (given : LowerLaws) (app : Application) (link : Link) (key : Key) (k : 
       (stay outcome.screen outcome.keyboard.lock (here.erased || false) whole cursor a (subst (λ b. KeptByKeys b left outcome.screen.cells) (sym (or_false here.erased)) keeps))
   by_answer outcome (Send aid) whole cursor a keeps =
       subst (λ b. ConnectionInvariant app (seen_as here (sent here.lost here.up (data_of b (Send aid) here.size outcome.screen)) outcome.screen outcome.keyboard.lock (here.erased || false))) (sym bound)
-      (sends given app link k now.lu now.from now.shadow now.at now.same now.operates now.typing outcome.screen outcome.keyboard.lock (here.erased || false) aid whole cursor a.0 a.1 a.2
+      (sends given app link k now.lu now.from now.shadow now.at now.same now.operates now.typing outcome.screen outcome.keyboard.lock (here.erased || false) aid whole cursor a.0 a.1 a.2 a.3
       (subst (λ b. KeepsSent b aid left outcome.screen.cells) (sym (or_false here.erased)) keeps))
 
   types : ConnectionInvariant app (view_of (key_view key link))

@@ -18,7 +18,7 @@ use Rattle.host_core.specs.Messages.{ToTerminal, ToHost, Verdict}
 use Rattle.host_core.specs.Notes.{noted_as, may_note, noted}
 use Rattle.host_core.specs.Session.{Session, Pending, is_agreed}
 use Rattle.host_core.specs.Takes.{Answers, HostStep, took as host_took}
-use Rattle.host_core.specs.Questions.{act_by, answered_on, has_its_panel, is_asking}
+use Rattle.host_core.specs.Questions.{act_by, answered_on, has_its_panel, is_asking, panel_for}
 use Rattle.world3270.specs.statement.Always.{Always}
 use Rattle.world3270.specs.refinement.LowerLaws.{LowerLaws}
 use Rattle.world3270.specs.model.Link.{Link, sent, host_left_if, host_sent}
@@ -144,7 +144,7 @@ steps app = record {
         up = All-tail FitsUp message rest (subst (All FitsUp) e n.up);
       });
   acts = λ link k n. sends link (acted app link.host) n (acts_if app link (decision_on app link.host link.host.turn_reason) (may_act link.host.turn link.host.pending (is_agreed link.host.talk.state)) n);
-  answers = λ number said link such k n. sends link (answered_on app link.host said) n (answers_if app link (act_by app link.host said said.panel) (is_asking app link.host && has_its_panel app said) n);
+  answers = λ number said link such k n. sends link (answered_on app link.host said) n (answers_if app link (act_by app link.host said (panel_for app link.host said)) (is_asking app link.host && has_its_panel app said) n);
   notes = λ number text link such k n. sends link (noted text link.host) n (notes_if text link (may_note link.host.turn link.host.pending (is_agreed link.host.talk.state)) n);
   down = λ link message rest e k n.
       let down : All FitsDown (message ∷ rest) = subst (All FitsDown) e n.down in

@@ -35,12 +35,13 @@ pub decides_new : (s : LocalState) → IsNew s → FactsAreExact s.shadow → De
 decides_new s new exact = record {
   lock = new.lock;
   turn_reason = subst (λ o. IsOccasion o s.screen.aid) (sym new.turn_reason) new.aid;
-  cursor = subst (λ o. IsCursorFor o s.cursor s.screen.cursor) (sym new.turn_reason) tt;
+  cursor = subst (λ o. IsCursorFor o s.cursor s.screen.cursor) (sym new.turn_reason) new.home;
   closed = λ relies. subst (λ o. IsOpenFor o s.shadow) (sym new.turn_reason) (none_open s.shadow new.shadow);
   sees = record {
     exact = exact;
     closed = λ relies. subst (λ a. IsOpenBy a false s.shadow) (sym new.aid) (none_open s.shadow new.shadow);
     cleared = λ clear. absurd (let x = sym new.aid ∙ clear in cc);
+    bare = λ clear. absurd (let x = sym new.aid ∙ clear in cc);
     meets = subst (λ known. Meets known s.screen) (sym new.shadow) tt;
     lists = λ some. absurd (some new.no_fields);
     told = λ sent. absurd (subst SentFields new.aid sent);
@@ -80,7 +81,7 @@ obeys given app is link message rest e k = by_moment k.moment k.sizes k.at k.fac
         talks app link rest k (LinkPhase.Negotiating (NegotiationPhase.Agreeing lu)) (LinkPhase.InSession lu SessionPhase.Deciding) link.term.talk (record link.term.talk.talk { state = Agreed lu }) (NegotiationMessage.Sub FunIs) [] message (λ steady. same) at refl first.0
         (agreed_transition link.term.talk lu at.term_talk) refl (record { host_talk = λ talk is. is; turn = refl; pending = refl; up = refl }) refl first.1
         (decides_new (local_state_of (view_of link)) f.0 k.exact)
-        (λ shown_before. absurd (shown_before f.0.turn_reason), subst (λ o. IsKnownIfRead o link.host.shadow) (sym f.0.turn_reason) tt)
+        (λ shown_before. absurd (shown_before f.0.turn_reason), subst (λ o. IsKnownIfRead o link.host.shadow) (sym f.0.turn_reason) tt, λ is_first. f.0.no_fields)
     by_talk (NegotiationPhase.Rejecting reason) same at f =
         let first = front link.lost link.down message rest _ [] e at.goes_down in
         talks app link rest k (LinkPhase.Negotiating (NegotiationPhase.Rejecting reason)) (LinkPhase.Negotiating (NegotiationPhase.Rejected reason)) (talk_in link.term.display.model k.wanted TypeAsked) (start_at (Refused reason)) (NegotiationMessage.Sub (TypeReject reason)) [] message (λ steady. same) at at.term_talk first.0
@@ -111,7 +112,7 @@ obeys given app is link message rest e k = by_moment k.moment k.sizes k.at k.fac
         as_message app link rest (ToTerminal.Note number command) message first.0
         (takes_note given app is link rest k (s.same refl) lu number command (SessionPhase.KeyCrossingNote number command parts) (SessionPhase.KeyBeforeNoteResponse number command parts) at f.2.note f.2.takes
         (record { host_talk = λ talk is. is; turn = refl; pending = refl; up = refl }) first.1 (
-          record { lock = f.0.lock; form = f.0.form; size = f.0.size; pressed = f.0.pressed ∙ sym noted.aid; cursor = λ long. f.0.cursor (sym (ap is_short_aid noted.aid) ∙ long) ∙ ap (λ (n : ℕ). Some n) (sym noted.cursor); some = λ none. f.0.some (sym noted.aid ∙ none) },
+          record { lock = f.0.lock; form = f.0.form; size = f.0.size; pressed = f.0.pressed ∙ sym noted.aid; cursor = λ long. f.0.cursor (sym (ap is_short_aid noted.aid) ∙ long) ∙ ap (λ (n : ℕ). Some n) (sym noted.cursor); some = λ none. f.0.some (sym noted.aid ∙ none); home = λ clear. noted.cursor ∙ f.0.home (sym noted.aid ∙ clear) },
           ok_map (Sees link.host.unheard link.host.size screen) (λ shadow. Sees link.host.unheard link.host.size (after_command command screen) (once_taken link.host.size command shadow)) (heard (cells_in link.host.size) link.host.shadow parts)
               (λ shadow seen. sees_noted given link.host.unheard link.host.size command screen shadow f.2.note (whole_here given app is link rest k (s.same refl)) noted seen) f.1,
         ) shown)

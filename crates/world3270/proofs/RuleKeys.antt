@@ -18,6 +18,7 @@ use Rattle.host_core.specs.Application.{Application}
 use Rattle.world3270.specs.refinement.LowerLaws.{LowerLaws}
 use Rattle.world3270.specs.model.Link.{Link, sent, term_stepped}
 use Rattle.world3270.specs.statement.Rules.{after_sending, data_by, edited, shows, with_aid}
+use Rattle.world3270.specs.statement.TurnReasons.{IsHome}
 use Rattle.world3270.specs.refinement.Invariant.{ConnectionInvariant}
 use Rattle.world3270.specs.model.Terminal.{is_bound, bound_to, data_of}
 use Rattle.world3270.specs.refinement.View.{View, view_of}
@@ -61,6 +62,13 @@ with_aid-cursor (PfAid key) screen size on = on
 with_aid-cursor (PaAid key) screen size on = on
 with_aid-cursor ClearAid screen size on = omega (arith, on)
 
+with_aid-home : (aid : Aid) (screen : Screen) → IsHome aid (with_aid aid screen).cursor
+with_aid-home NoAid screen clear = absurd (cc)
+with_aid-home EnterAid screen clear = absurd (cc)
+with_aid-home (PfAid key) screen clear = absurd (cc)
+with_aid-home (PaAid key) screen clear = absurd (cc)
+with_aid-home ClearAid screen clear = refl
+
 with_aid-keeps : (erased : Bool) (was : List Cell) (aid : Aid) (screen : Screen) → (aid ≡ NoAid → ⊥) → KeptByKeys erased was screen.cells → KeepsSent erased aid was (with_aid aid screen).cells
 with_aid-keeps erased was NoAid screen some held = absurd (some refl)
 with_aid-keeps erased was EnterAid screen some held = held
@@ -76,5 +84,5 @@ sends_kept given app link aid k free some =
     let bound : is_bound link.term ≡ true = ap (λ state. is_some (bound_to state)) now.at.term_talk in
     subst (λ b. ConnectionInvariant app (seen_as here (sent here.lost here.up (data_of b (Send aid) here.size screen)) screen Wait here.erased)) (sym bound)
     (sends given app link k now.lu now.from now.shadow now.at now.same now.operates now.typing screen Wait here.erased aid (with_aid-whole aid link.term.display.screen ∙ k.whole)
-    (with_aid-cursor aid link.term.display.screen (cells_in here.size) k.cursor) refl (with_aid-aid aid link.term.display.screen) some
+    (with_aid-cursor aid link.term.display.screen (cells_in here.size) k.cursor) refl (with_aid-aid aid link.term.display.screen) some (with_aid-home aid link.term.display.screen)
     (with_aid-keeps here.erased now.operates.shown.cells aid link.term.display.screen some now.operates.held))

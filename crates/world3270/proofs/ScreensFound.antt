@@ -23,7 +23,7 @@ use Rattle.host_core.specs.Application.{Application, IsApplication, application_
 use Rattle.host_core.specs.Laws.{PanelsAreShown}
 use Rattle.host_core.specs.Messages.{ToTerminal, ToHost}
 use Rattle.host_core.specs.Notes.{may_note, noted, noted_as}
-use Rattle.host_core.specs.Questions.{act_by, answered_by, answered_on, has_its_panel, is_asking, is_ticket, ticket_of}
+use Rattle.host_core.specs.Questions.{act_by, answered_by, answered_on, has_its_panel, is_asking, is_ticket, panel_for, ticket_of}
 use Rattle.host_core.specs.Rejections.{lu_asked}
 use Rattle.host_core.specs.Session.{Session, Pending, is_agreed}
 use Rattle.host_core.specs.State.{Service, state_at, session_at}
@@ -364,12 +364,12 @@ acts_in_turn app conn some = by_test (may_act conn.turn conn.pending (is_agreed 
 answered_in_turn : (app : Application) (conn : Session) (said : ApplicationAnswer) → is_some (answered_on app conn said) ≡ true → (sending : Sent) × (answered_on app conn said ≡ Some sending) × IsSent app conn sending
 answered_in_turn app conn said some = by_test (is_asking app conn && has_its_panel app said) refl some
   where
-    by_test : (b : Bool) → (is_asking app conn && has_its_panel app said) ≡ b → is_some (if b then Some (done_act app conn (act_by app conn said said.panel)) else None) ≡ true
-        → (sending : Sent) × ((if b then Some (done_act app conn (act_by app conn said said.panel)) else None) ≡ Some sending) × IsSent app conn sending
+    by_test : (b : Bool) → (is_asking app conn && has_its_panel app said) ≡ b → is_some (if b then Some (done_act app conn (act_by app conn said (panel_for app conn said))) else None) ≡ true
+        → (sending : Sent) × ((if b then Some (done_act app conn (act_by app conn said (panel_for app conn said))) else None) ≡ Some sending) × IsSent app conn sending
     by_test true asks some =
         let may = (asking_parts app conn (and_parts (is_asking app conn) (has_its_panel app said) asks).0).0 in
         let turns = may_act_when conn.turn conn.pending (is_agreed conn.talk.state) may in
-        (done_act app conn (act_by app conn said said.panel), refl, record { act = act_by app conn said said.panel; is = refl; turns = turns.0; pends = turns.1 })
+        (done_act app conn (act_by app conn said (panel_for app conn said)), refl, record { act = act_by app conn said (panel_for app conn said); is = refl; turns = turns.0; pends = turns.1 })
     by_test false asks some = absurd (cc)
 
 -- a command that is a paint is under way once it was sent

@@ -1,6 +1,6 @@
 -- Screens keep their shape and can be sent, what is painted is a screen, and values are characters, after every event.
 use Rattle.std.proofs.Common.{◌≡◌, ◌<◌, ◌≤◌, ◌==◌, ◌&&◌, ◌++◌, ◌-◌, ◌+◌, not, ℕ, zero, suc, arith, Bool, true, false, Option, None, Some, List, [], ◌∷◌, length, replicate, refl, ap, sym, subst, ◌∙◌, IfSome, IsTrue, if◌then◌else◌, inl}
-use Rattle.host_core.specs.Questions.{act_by, answered_on, has_its_panel, is_asking}
+use Rattle.host_core.specs.Questions.{act_by, answered_on, has_its_panel, is_asking, panel_for}
 use Rattle.host_core.specs.declared.question.Answer.{Answer as ApplicationAnswer}
 use Rattle.std.specs.Map.{remove_entry, values_of}
 use Rattle.std.specs.BTreeMap.{insert_entry, is_at}
@@ -52,7 +52,7 @@ use Rattle.shadow.specs.Meets.{Holds, FieldMeets, Meets, told}
 use Rattle.shadow.specs.Painted.{keeps_ahead, attr_or_kept, cells_under, painted_from, plainly_painted}
 use Rattle.shadow.specs.Pairs.{Pairwise}
 use Rattle.tn3270e_msg.specs.declared.cause.Cause.{Cause}
-use Rattle.host_core.specs.Acts.{Act, Decision, Sent, text_known, learned, first_missing, is_to_be_read, check_required, once_filled_in, on_key, after_key as after_the_key, decided, decision_on, wanted_by, done, may_act, acted, when_shown}
+use Rattle.host_core.specs.Acts.{Act, Decision, Sent, text_known, learned, first_missing, is_to_be_read, check_required, first_panel, once_filled_in, on_empty, on_key, after_key as after_the_key, decided, decision_on, wanted_by, done, may_act, acted, when_shown}
 use Rattle.host_core.specs.Application.{Application, IsValidSize, IsApplication, WantsProperScreens, AreTexts}
 use Rattle.host_core.specs.Messages.{ToTerminal, ToHost, Verdict}
 use Rattle.host_core.specs.NoteLaws.{TakesNotes, IsProperNote}
@@ -285,15 +285,20 @@ read_or_led : (app : Application) (conn : Session) (aid : Aid) (b : Bool) → Ar
 read_or_led app conn aid true texts = tt
 read_or_led app conn aid false texts = led_texts app conn (learned conn.shadow (app.fields conn.panel) conn.values) aid (app.next conn.panel aid) texts
 
+empty_texts : (panel : ℕ) (values : Values) (next : Next) → AreTexts values → DecidesOnTexts (on_empty panel values next)
+empty_texts panel values Again texts = texts
+empty_texts panel values (Go target) texts = texts
+empty_texts panel values Ask texts = tt
+
 key_texts : (app : Application) (conn : Session) (aid : Aid) (buffered : Bool) → AreTexts conn.values → AreTexts (learned conn.shadow (app.fields conn.panel) conn.values) → DecidesOnTexts (after_the_key app conn aid buffered)
-key_texts app conn Clear buffered texts known = texts
+key_texts app conn Clear buffered texts known = empty_texts conn.panel conn.values (app.next conn.panel Clear) texts
 key_texts app conn NoAid buffered texts known = read_or_led app conn NoAid (is_to_be_read app conn NoAid && not buffered) known
 key_texts app conn Enter buffered texts known = read_or_led app conn Enter (is_to_be_read app conn Enter && not buffered) known
 key_texts app conn (Pf key) buffered texts known = read_or_led app conn (Pf key) (is_to_be_read app conn (Pf key) && not buffered) known
 key_texts app conn (Pa key) buffered texts known = read_or_led app conn (Pa key) (is_to_be_read app conn (Pa key) && not buffered) known
 
 decision_texts : (app : Application) (conn : Session) (turn_reason : TurnReason) → AreTexts conn.values → AreTexts (learned conn.shadow (app.fields conn.panel) conn.values) → DecidesOnTexts (decision_on app conn turn_reason)
-decision_texts app conn turn_reasons.Agreement texts known = texts
+decision_texts app conn turn_reasons.Agreement texts known = empty_texts app.start conn.values (app.next (first_panel app conn) NoAid) texts
 decision_texts app conn (turn_reasons.Key aid buffered) texts known = key_texts app conn aid buffered texts known
 decision_texts app conn turn_reasons.Refusal texts known = texts
 
@@ -475,10 +480,10 @@ acts_texts app asks conn values learns = acts_by app asks conn conn.turn conn.pe
 pub answers_texts : (app : Application) → WantsProperScreens app → (said : ApplicationAnswer) → AreTexts said.values → (conn : Session) → AreTexts conn.values → LearnsTexts app conn → IfSome (answered_on app conn said) SendsTexts
 answers_texts app asks said are conn values learns = by_open (is_asking app conn) refl (has_its_panel app said)
   where
-    by_open : (asked : Bool) → is_asking app conn ≡ asked → (has : Bool) → IfSome (if asked && has then Some (done app conn (act_by app conn said said.panel)) else None) SendsTexts
+    by_open : (asked : Bool) → is_asking app conn ≡ asked → (has : Bool) → IfSome (if asked && has then Some (done app conn (act_by app conn said (panel_for app conn said))) else None) SendsTexts
     by_open true open_now true =
         let when = may_act_when conn.turn conn.pending (is_agreed conn.talk.state) (asking_parts app conn open_now).0 in
-        done_texts app conn (act_by app conn said said.panel) asks values (answer_texts app conn said said.panel (learns when.0 when.1) are)
+        done_texts app conn (act_by app conn said (panel_for app conn said)) asks values (answer_texts app conn said (panel_for app conn said) (learns when.0 when.1) are)
     by_open true open_now false = tt
     by_open false open_now has = tt
 

@@ -33,9 +33,9 @@ use Rattle.shadow.specs.Meets.{Meets}
 use Rattle.shadow.specs.Painted.{plainly_painted}
 use Rattle.shadow.specs.PaintedFields.{HasField, KeptStaysThere, WantsKept, WantsWritten, WrittenIsThere}
 use Rattle.shadow.proofs.Keeps.{no_keep, paintable_fits}
-use Rattle.host_core.specs.Acts.{Act, Decision, after_key, belief_of, decision_on, first_missing, is_in_doubt, is_to_be_read, learned, on_key, once_filled_in, known_despite, check_required, wanted_by, when_shown}
+use Rattle.host_core.specs.Acts.{Act, Decision, after_key, belief_of, decision_on, first_missing, first_panel, is_in_doubt, is_to_be_read, learned, on_empty, on_key, once_filled_in, known_despite, check_required, wanted_by, when_shown}
 use Rattle.host_core.specs.Application.{Application, IsApplication}
-use Rattle.host_core.specs.Questions.{act_by, has_value_of}
+use Rattle.host_core.specs.Questions.{act_by, has_value_of, panel_for}
 use Rattle.host_core.specs.Session.{Session, model_in}
 use Rattle.host_core.specs.Takes.{is_verified}
 use Rattle.host_core.specs.declared.question.Answer.{Answer as ApplicationAnswer}
@@ -45,7 +45,7 @@ use Rattle.host_core.specs.declared.unheard.Unheard.{Unheard}
 use Rattle.host_core.specs.declared.unheard.Unheard.TheVariants as unheards
 use Rattle.world3270.specs.statement.Asked.{IsFieldText}
 use Rattle.world3270.specs.statement.Showing.{IsDecided, IsKnownIfRead, IsTextKnown, KnowsItsFields, ShowsItsPanel}
-use Rattle.world3270.proofs.Acting.{wanted_in_a_way}
+use Rattle.world3270.proofs.Acting.{none_whole, wanted_in_a_way}
 use Rattle.world3270.proofs.Asked.{IsTextOf, asked_sure, belief_there, learned_has, stands_at, sure_told}
 use Rattle.world3270.specs.statement.ShownFields.{AreShown, IsKept, IsWritten, OtherTextsAreNot, ShowsField, WantsItsFields, fitted, is_again}
 
@@ -76,6 +76,11 @@ again_led app conn values aid Again = refl
 again_led app conn values aid (Go target) = again_filled app conn (Decision.Do (Act.Show target Fresh false values)) values aid refl
 again_led app conn values aid Ask = again_filled app conn Decision.Asks values aid refl
 
+again_empty : (panel : ℕ) (values : Values) (next : Next) → is_again_in (on_empty panel values next) ≡ true
+again_empty panel values Again = refl
+again_empty panel values (Go target) = refl
+again_empty panel values Ask = refl
+
 again_key : (app : Application) (conn : Session) (aid : Aid) (buffered : Bool) → is_again_in (after_key app conn aid buffered) ≡ true
 again_key app conn aid buffered = by_aid aid
   where
@@ -89,14 +94,14 @@ again_key app conn aid buffered = by_aid aid
         (again_led app conn (learned conn.shadow (app.fields conn.panel) conn.values) aid (app.next conn.panel aid))
 
     by_aid : (aid : Aid) → is_again_in (after_key app conn aid buffered) ≡ true
-    by_aid Clear = refl
+    by_aid Clear = again_empty conn.panel conn.values (app.next conn.panel Clear)
     by_aid NoAid = leads NoAid
     by_aid Enter = leads Enter
     by_aid (Pf key) = leads (Pf key)
     by_aid (Pa key) = leads (Pa key)
 
 again_decided : (app : Application) (conn : Session) (reason : TurnReason) → is_again_in (decision_on app conn reason) ≡ true
-again_decided app conn turn_reasons.Agreement = refl
+again_decided app conn turn_reasons.Agreement = again_empty app.start conn.values (app.next (first_panel app conn) NoAid)
 again_decided app conn (turn_reasons.Key aid buffered) = again_key app conn aid buffered
 again_decided app conn turn_reasons.Refusal = refl
 
@@ -110,7 +115,7 @@ again_answered app conn said (Some panel) = refl
 
 kept_again : (app : Application) (conn : Session) (panel : ℕ) (message : Message) (values : Values) → IsDecided app conn (Act.Show panel message true values) → is_again message ≡ true
 kept_again app conn panel message values (IsDecided.by_host is) = sym (ap is_again_in is) ∙ again_decided app conn conn.turn_reason
-kept_again app conn panel message values (IsDecided.by_application said asks is) = ap is_again_by is ∙ again_answered app conn said said.panel
+kept_again app conn panel message values (IsDecided.by_application said asks is) = ap is_again_by is ∙ again_answered app conn said (panel_for app conn said)
 
 not_fresh : (message : Message) → is_again message ≡ true → is_fresh message ≡ false
 not_fresh Fresh again = absurd (cc)
@@ -198,6 +203,11 @@ module _ (app : Application) (conn : Session) where
   led_keeps aid (Go target) sure = filled_keeps (Decision.Do (Act.Show target Fresh false (learned conn.shadow (app.fields conn.panel) conn.values))) aid sure (λ keeps. absurd (cc))
   led_keeps aid Ask sure = filled_keeps Decision.Asks aid sure tt
 
+  empty_keeps : (panel : ℕ) (values : Values) (next : Next) → KeepsIn app conn (on_empty panel values next)
+  empty_keeps panel values Again = λ keeps. absurd (cc)
+  empty_keeps panel values (Go target) = λ keeps. absurd (cc)
+  empty_keeps panel values Ask = tt
+
   -- once the screen needn't be read
   sure_then : (aid : Aid) (buffered : Bool) → IsKnownIfRead (turn_reasons.Key aid buffered) conn.shadow → (is_to_be_read app conn aid && not buffered) ≡ false → IsSure app conn
   sure_then aid true read unread = inr read
@@ -221,14 +231,14 @@ module _ (app : Application) (conn : Session) where
           (λ unread. led_keeps aid (app.next conn.panel aid) (sure_then aid buffered read unread))
 
       by_aid : (aid : Aid) → IsKnownIfRead (turn_reasons.Key aid buffered) conn.shadow → KeepsIn app conn (after_key app conn aid buffered)
-      by_aid Clear read = λ keeps. absurd (cc)
+      by_aid Clear read = empty_keeps conn.panel conn.values (app.next conn.panel Clear)
       by_aid NoAid read = leads NoAid read
       by_aid Enter read = leads Enter read
       by_aid (Pf key) read = leads (Pf key) read
       by_aid (Pa key) read = leads (Pa key) read
 
   decided_keeps : (reason : TurnReason) → IsKnownIfRead reason conn.shadow → KeepsIn app conn (decision_on app conn reason)
-  decided_keeps turn_reasons.Agreement read = λ keeps. absurd (cc)
+  decided_keeps turn_reasons.Agreement read = empty_keeps app.start conn.values (app.next (first_panel app conn) NoAid)
   decided_keeps (turn_reasons.Key aid buffered) read = key_keeps aid buffered read
   decided_keeps turn_reasons.Refusal read = λ keeps. absurd (cc)
 
@@ -281,20 +291,20 @@ not_true : (b : Bool) → not b ≡ true → b ≡ false
 not_true true e = absurd (cc)
 not_true false e = refl
 
-answer_keeps : (app : Application) (conn : Session) (said : ApplicationAnswer) (panel : Option ℕ) → IsSure app conn → KeepsBy app conn (act_by app conn said panel)
+answer_keeps : (app : Application) (conn : Session) (said : ApplicationAnswer) (panel : Option ℕ) → (panel ≡ None → IsSure app conn) → KeepsBy app conn (act_by app conn said panel)
 answer_keeps app conn said None sure = λ keeps. record {
   again = refl;
   learnt = λ index field at.
       value_stays (learned conn.shadow (app.fields conn.panel) conn.values) said.values field.number
       (no_value_at (app.fields conn.panel) said.values index field (not_true (has_value_of (app.fields conn.panel) said.values) keeps) at);
-  sure = sure;
+  sure = sure refl;
 }
 answer_keeps app conn said (Some panel) sure = λ keeps. absurd (cc)
 
 act_keeps : (app : Application) (conn : Session) (panel : ℕ) (message : Message) (values : Values) → IsDecided app conn (Act.Show panel message true values) → KnowsItsFields app conn → Keeps app conn panel values
 act_keeps app conn panel message values (IsDecided.by_host is) knows = (subst (KeepsIn app conn) is (decided_keeps app conn conn.turn_reason knows.read)) refl
 act_keeps app conn panel message values (IsDecided.by_application said asks is) knows =
-    (subst (KeepsBy app conn) (sym is) (answer_keeps app conn said said.panel (asked_sure app conn conn.turn_reason knows.read asks))) refl
+    (subst (KeepsBy app conn) (sym is) (answer_keeps app conn said (panel_for app conn said) (λ none. asked_sure app conn conn.turn_reason (none_whole app conn said none) knows.read asks))) refl
 
 -- ---- the value of a field that is kept
 

@@ -15,7 +15,7 @@ use Rattle.host_core.specs.Acts.{Sent, done as shown_by}
 use Rattle.host_core.specs.Application.{Application, application_of}
 use Rattle.host_core.specs.Does.{DoesAnswer, with_conn}
 use Rattle.host_core.specs.Notes.{may_note, noted, noted_as}
-use Rattle.host_core.specs.Questions.{act_by, answered_by, answered_in, answered_on, has_its_panel, is_asking, is_ticket, ticket_of, values_for}
+use Rattle.host_core.specs.Questions.{act_by, answered_by, answered_in, answered_on, has_its_panel, is_asking, is_screen_empty, is_ticket, key_of, panel_asked, panel_for, ticket_of, values_for}
 use Rattle.host_core.specs.Session.{Session, is_agreed, model_in}
 use Rattle.host_core.specs.State.{Connection, Service, connection_at, state_at, session_at}
 use Rattle.host_core.specs.Takes.{took as host_took}
@@ -34,6 +34,8 @@ use Rattle.world3270.specs.model.Terminal.{Display, data_of, outcome_of}
 use Rattle.world3270.specs.model.World.{Event}
 use Rattle.world3270.specs.declared.event.Event.TheVariants as event
 use Rattle.world3270.specs.declared.event.Stepped.TheVariants as stepped
+use Rattle.std.specs.Option.{option_or}
+use Rattle.world3270.proofs.Acting.{same_asked}
 use Rattle.world3270.proofs.HostSteps.{just_talks}
 use Rattle.world3270.proofs.Keys.{quiet_done, quiet_refused}
 use Rattle.world3270.proofs.Undecided.{Keeps, rests_hold, step_holds}
@@ -93,23 +95,28 @@ steps_keep go skips event old answer new is real steps number rest behind conn l
 
 -- ---- an answer
 
-done_answer : (app : Application) (conn : Session) (said : ApplicationAnswer) (panel : Option ℕ) → said.panel ≡ panel → IsAnswered app conn said (shown_by app conn (act_by app conn said panel)).conn
-done_answer app conn said None is = record {
-  panel = ap (λ (p : Option ℕ). app.shown (model_in conn) (unwrap_or p conn.panel)) (sym is);
-  values = ap (values_for app conn said) (sym is);
-  message = refl;
-}
-done_answer app conn said (Some panel) is = record {
-  panel = ap (λ (p : Option ℕ). app.shown (model_in conn) (unwrap_or p conn.panel)) (sym is);
-  values = ap (values_for app conn said) (sym is);
-  message = refl;
-}
+-- an answer leads to the panel that it names, else to the question's
+leads_to : (app : Application) (conn : Session) (said : ApplicationAnswer) (panel : Option ℕ) → panel_for app conn said ≡ panel → unwrap_or panel conn.panel ≡ unwrap_or said.panel (panel_asked app conn conn.turn_reason)
+leads_to app conn said panel is =
+    ap (λ (p : Option ℕ). unwrap_or p conn.panel) (sym is) ∙ by_panel said.panel (is_screen_empty (key_of conn.turn_reason)) refl
+  where
+    by_panel : (named : Option ℕ) (b : Bool) → is_screen_empty (key_of conn.turn_reason) ≡ b
+        → unwrap_or (option_or named (if b then Some (panel_asked app conn conn.turn_reason) else None)) conn.panel ≡ unwrap_or named (panel_asked app conn conn.turn_reason)
+    by_panel (Some panel) b is = refl
+    by_panel None true is = refl
+    by_panel None false is = sym (same_asked app conn conn.turn_reason is)
+
+done_answer : (app : Application) (conn : Session) (said : ApplicationAnswer) (panel : Option ℕ) → panel_for app conn said ≡ panel → IsAnswered app conn said (shown_by app conn (act_by app conn said panel)).conn
+done_answer app conn said None is =
+    record { panel = ap (app.shown (model_in conn)) (leads_to app conn said None is); values = ap (values_for app conn said) (sym is); message = refl }
+done_answer app conn said (Some panel) is =
+    record { panel = ap (app.shown (model_in conn)) (leads_to app conn said (Some panel) is); values = ap (values_for app conn said) (sym is); message = refl }
 
 answered_sent : (app : Application) (session : ℕ) (ticket : Ticket) (said : ApplicationAnswer) (conn : Session) (sent : Sent) → answered_in app session ticket said conn ≡ Some sent → IsAnswered app conn said sent.conn
 answered_sent app session ticket said conn sent is = by_ticket (is_ticket ticket (ticket_of session conn)) is
   where
-    by_asked : (b : Bool) → (if b then Some (shown_by app conn (act_by app conn said said.panel)) else None) ≡ Some sent → IsAnswered app conn said sent.conn
-    by_asked true is = subst (λ (s : Sent). IsAnswered app conn said s.conn) (let same : shown_by app conn (act_by app conn said said.panel) ≡ sent = cc in same) (done_answer app conn said said.panel refl)
+    by_asked : (b : Bool) → (if b then Some (shown_by app conn (act_by app conn said (panel_for app conn said))) else None) ≡ Some sent → IsAnswered app conn said sent.conn
+    by_asked true is = subst (λ (s : Sent). IsAnswered app conn said s.conn) (let same : shown_by app conn (act_by app conn said (panel_for app conn said)) ≡ sent = cc in same) (done_answer app conn said (panel_for app conn said) refl)
     by_asked false is = absurd (cc)
 
     by_ticket : (b : Bool) → (if b then answered_on app conn said else None) ≡ Some sent → IsAnswered app conn said sent.conn

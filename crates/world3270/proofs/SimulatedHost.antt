@@ -9,7 +9,7 @@ use Rattle.host_core.specs.Acts.{Act, Decision, Sent, acted, decided, decision_o
 use Rattle.host_core.specs.Application.{Application, IsApplication}
 use Rattle.host_core.specs.Messages.{ToHost, ToTerminal}
 use Rattle.host_core.specs.Notes.{IsNoteText, may_note, note_command, noted, noted_as}
-use Rattle.host_core.specs.Questions.{act_by, answered_on, has_its_panel, is_asking}
+use Rattle.host_core.specs.Questions.{act_by, answered_on, has_its_panel, is_asking, panel_for}
 use Rattle.host_core.specs.Session.{Session, Pending, is_agreed}
 use Rattle.host_core.specs.Takes.{Answers, HostStep, dropping, may_have_changed, took as host_took}
 use Rattle.host_core.specs.declared.question.Answer.{Answer as ApplicationAnswer}
@@ -189,7 +189,7 @@ module _ (given : LowerLaws) (app : Application) (is : IsApplication app) (lu : 
       (by_open (is_asking app end.host) refl (has_its_panel app said) (answers_are_shown given app is end s.kept said))
     where
       act : Act
-      act = act_by app end.host said said.panel
+      act = act_by app end.host said (panel_for app end.host said)
 
       by_open : (asked : Bool) → is_asking app end.host ≡ asked → (there : Bool) → ConnectionInvariant app (view_of (host_sent (if asked && there then Some (done app end.host act) else None) end))
           → Simulated app lu (sends_so (if asked && there then Some (done app end.host act) else None))

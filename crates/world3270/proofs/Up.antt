@@ -317,16 +317,22 @@ settled_read (turn_reasons.Key aid buffered) shadow settled = settled
 settled_read turn_reasons.Refusal shadow settled = tt
 
 unread_settled : (turn_reason : TurnReason) (shadow : Shadow) → IsUnread turn_reason → IsKnownIfRead turn_reason shadow
-unread_settled turn_reasons.Agreement shadow unread = tt
+unread_settled turn_reasons.Agreement shadow unread = absurd unread
 unread_settled (turn_reasons.Key aid true) shadow unread = absurd unread
 unread_settled (turn_reasons.Key aid false) shadow unread = tt
 unread_settled turn_reasons.Refusal shadow unread = tt
 
 -- once the screen was read the host knows where the cursor is
-read_cursor : (turn_reason : TurnReason) (place : ℕ) → IsCursorFor (once_read turn_reason) place place
-read_cursor turn_reasons.Agreement place = tt
-read_cursor (turn_reasons.Key aid buffered) place = refl
-read_cursor turn_reasons.Refusal place = tt
+read_cursor : (turn_reason : TurnReason) (aid : Aid) (place : ℕ) → (turn_reason ≡ turn_reasons.Agreement → ⊥) → IsOccasion turn_reason aid → (aid ≡ Clear → ⊥) → IsCursorFor (once_read turn_reason) place place
+read_cursor turn_reasons.Agreement aid place later occasion uncleared = absurd (later refl)
+read_cursor (turn_reasons.Key pressed buffered) aid place later occasion uncleared = (refl, λ clear. absurd (uncleared (sym occasion.0 ∙ clear)))
+read_cursor turn_reasons.Refusal aid place later occasion uncleared = tt
+
+-- reading isn't the first that happens
+read_later : (turn_reason : TurnReason) → (turn_reason ≡ turn_reasons.Agreement → ⊥) → once_read turn_reason ≡ turn_reasons.Agreement → ⊥
+read_later turn_reasons.Agreement later is = later refl
+read_later (turn_reasons.Key pressed buffered) later is = absurd (cc)
+read_later turn_reasons.Refusal later is = absurd (cc)
 
 module _ (given : LowerLaws) (app : Application) (pool : List Entry) (link : Link) (rest : List ToHost) (k : ConnectionInvariant app (view_of link)) (same : link.term.display.size ≡ link.host.size) where
   abbrev screen : Screen
@@ -392,13 +398,13 @@ module _ (given : LowerLaws) (app : Application) (pool : List Entry) (link : Lin
       (given.belief.heard_exact size link.host.shadow read k.exact.known) (given.belief.heard_protected size link.host.shadow read k.exact.protected)
       (by_result (heard size link.host.shadow read) f.will
       (given.belief.heard_exact size link.host.shadow read k.exact.known) (given.belief.heard_protected size link.host.shadow read k.exact.protected) (given.belief.read_leaves size link.host.shadow read refl) (read_is_settled size link.host.shadow read refl))
-      refl refl refl left (λ shadow sees. record { lock = f.lock; turn_reason = read_occasion link.host.turn_reason screen.aid f.turn_reason; cursor = read_cursor link.host.turn_reason screen.cursor; closed = λ relies. open_read link.host.turn_reason shadow link.host.shadow sees.1 (f.closed relies); sees = sees.0 })
-      (λ shadow sees. (λ later. shown (λ is_first. later (ap once_read is_first)), settled_read link.host.turn_reason shadow sees.2)))
+      refl refl refl left (λ shadow sees. record { lock = f.lock; turn_reason = read_occasion link.host.turn_reason screen.aid f.turn_reason; cursor = read_cursor link.host.turn_reason screen.aid screen.cursor f.not_first f.turn_reason f.not_cleared; closed = λ relies. open_read link.host.turn_reason shadow link.host.shadow sees.1 (f.closed relies); sees = sees.0 })
+      (λ shadow sees. (λ later. shown f.not_first, settled_read link.host.turn_reason shadow sees.2, λ is_first. absurd (read_later link.host.turn_reason f.not_first is_first))))
     where
       by_result : (r : Result Shadow HeardFault) → IsOkAnd r (Believed false screen) → IfOk r KnownIsExact → IfOk r ProtectedIsExact → IfOk r NothingIsOpen → IfOk r (λ s. All IsTextKnown (fields_of s))
           → IsOkAnd r (λ s. Sees link.host.unheard link.host.size screen s × NothingIsOpen s × All IsTextKnown (fields_of s))
       by_result (Ok s) believed known protected closed settled =
-          (record { exact = record { known = known; protected = protected }; closed = λ relies. all_open screen.aid false s closed; cleared = λ clear. absurd (f.not_cleared clear); meets = believed.0; lists = believed.1; told = λ sent. believed.2 refl }, closed, settled)
+          (record { exact = record { known = known; protected = protected }; closed = λ relies. all_open screen.aid false s closed; cleared = λ clear. absurd (f.not_cleared clear); bare = λ clear. absurd (f.not_cleared clear); meets = believed.0; lists = believed.1; told = λ sent. believed.2 refl }, closed, settled)
       by_result (Err fault) believed known protected closed settled = absurd believed
 
 -- ---- any message, at any moment
@@ -442,7 +448,7 @@ answers given app pool sound link message rest e k = by_moment k.moment k.sizes 
         let first = front link.lost link.up message rest _ [] e at.goes_up in
         hears_response given app pool link rest k (s.same refl) lu (SessionPhase.DecidingNoteAnswered number command) SessionPhase.Deciding Kind.ANote number command message at first.0 refl f.sees.exact refl refl refl first.1
         (record { lock = f.lock; turn_reason = f.turn_reason; cursor = f.cursor; closed = f.closed; sees = f.sees })
-        (λ _. shown.0, unread_settled link.host.turn_reason (once_taken link.host.size command link.host.shadow) shown.1)
+        (λ _. shown.0, unread_settled link.host.turn_reason (once_taken link.host.size command link.host.shadow) shown.1, λ is_first. absurd (subst IsUnread is_first shown.1))
     by_serving lu (SessionPhase.AwaitingWriteResponse kind number command) s at f shown =
         let first = front link.lost link.up message rest _ [] e at.goes_up in
         hears_response given app pool link rest k (s.same refl) lu (SessionPhase.AwaitingWriteResponse kind number command) SessionPhase.OperatorTyping kind number command message at first.0 refl f.exact refl refl refl first.1
@@ -452,23 +458,23 @@ answers given app pool sound link message rest e k = by_moment k.moment k.sizes 
         let first = front link.lost link.up message rest _ _ e at.goes_up in
         hears_response given app pool link rest k (s.same refl) lu (SessionPhase.KeySentAfterResponse kind number command parts) (SessionPhase.KeySent parts) kind number command message at first.0 refl
         f.3 refl refl refl first.1
-        (record { lock = f.0.lock; form = f.0.form; size = f.0.size; pressed = f.0.pressed; cursor = f.0.cursor; some = f.0.some }, f.1, f.2)
+        (record { lock = f.0.lock; form = f.0.form; size = f.0.size; pressed = f.0.pressed; cursor = f.0.cursor; some = f.0.some; home = f.0.home }, f.1, f.2)
         shown
     by_serving lu (SessionPhase.KeySent parts) s at f shown =
         let first = front link.lost link.up message rest _ [] e at.goes_up in
         hears_key given app pool link rest k (s.same refl) lu (SessionPhase.KeySent parts) SessionPhase.Deciding parts message (Sees link.host.unheard link.host.size screen) at f.0 f.1 first.0 refl (IsKeyTime.nothing_waits refl) refl refl refl first.1
-        (λ shadow sees. record { lock = f.0.lock; turn_reason = (refl, f.0.some); cursor = λ long. ap (λ (c : Option ℕ). unwrap_or c link.host.cursor) (f.0.cursor long); closed = sees.closed; sees = sees })
-        (λ shadow sees. (λ _. shown, tt))
+        (λ shadow sees. record { lock = f.0.lock; turn_reason = (refl, f.0.some); cursor = (λ long. ap (λ (c : Option ℕ). unwrap_or c link.host.cursor) (f.0.cursor long), f.0.home); closed = sees.closed; sees = sees })
+        (λ shadow sees. (λ _. shown, tt, λ is_first. absurd (cc)))
     by_serving lu (SessionPhase.KeyCrossingNote number command parts) s at f shown =
         let first = front link.lost link.up message rest _ [] e at.goes_up in
         hears_key given app pool link rest k (s.same refl) lu (SessionPhase.KeyCrossingNote number command parts) (SessionPhase.DecidingNoteSent number command) parts message (Sees link.host.unheard link.host.size screen) at f.0 f.1 first.0 refl (IsKeyTime.note_waits number command refl) refl refl refl first.1
-        (λ shadow sees. (record { lock = f.0.lock; turn_reason = (refl, f.0.some); cursor = λ long. ap (λ (c : Option ℕ). unwrap_or c link.host.cursor) (f.0.cursor long); closed = sees.closed; sees = sees }, record { note = f.2.note; takes = f.2.takes }))
+        (λ shadow sees. (record { lock = f.0.lock; turn_reason = (refl, f.0.some); cursor = (λ long. ap (λ (c : Option ℕ). unwrap_or c link.host.cursor) (f.0.cursor long), f.0.home); closed = sees.closed; sees = sees }, record { note = f.2.note; takes = f.2.takes }))
         (λ shadow sees. (shown, tt))
     by_serving lu (SessionPhase.KeyBeforeNoteResponse number command parts) s at f shown =
         let first = front link.lost link.up message rest _ _ e at.goes_up in
         hears_key given app pool link rest k (s.same refl) lu (SessionPhase.KeyBeforeNoteResponse number command parts) (SessionPhase.DecidingNoteAnswered number command) parts message (λ shadow. Sees link.host.unheard link.host.size screen (once_taken link.host.size command shadow)) at f.0 f.1 first.0 refl
         (IsKeyTime.note_waits number command refl) refl refl refl first.1
-        (λ shadow sees. record { lock = f.0.lock; turn_reason = (refl, f.0.some); cursor = λ long. ap (λ (c : Option ℕ). unwrap_or c link.host.cursor) (f.0.cursor long); closed = sees.closed; sees = sees })
+        (λ shadow sees. record { lock = f.0.lock; turn_reason = (refl, f.0.some); cursor = (λ long. ap (λ (c : Option ℕ). unwrap_or c link.host.cursor) (f.0.cursor long), f.0.home); closed = sees.closed; sees = sees })
         (λ shadow sees. (shown, tt))
     by_serving lu SessionPhase.Deciding s at f shown = no_more at.goes_up
     by_serving lu (SessionPhase.Reading number) s at f shown = no_more at.goes_up

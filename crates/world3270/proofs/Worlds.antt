@@ -24,7 +24,7 @@ use Rattle.host_core.specs.Messages.{ToTerminal, ToHost, Verdict}
 use Rattle.host_core.specs.Notes.{IsNoteText, may_note, noted_as, noted}
 use Rattle.host_core.specs.Session.{Session, is_agreed}
 use Rattle.host_core.specs.Takes.{freed_if, HostStep, took as host_took}
-use Rattle.host_core.specs.Questions.{act_by, answered_on, has_its_panel, is_asking}
+use Rattle.host_core.specs.Questions.{act_by, answered_on, has_its_panel, is_asking, panel_for}
 use Rattle.host_core.specs.declared.question.Answer.{Answer as ApplicationAnswer}
 use Rattle.host_core.specs.declared.terminals.Terminals.{Terminals}
 use Rattle.world3270.specs.statement.Always.{is_negative}
@@ -154,7 +154,7 @@ host_answered_good : LowerLaws → (app : Application) → IsApplication app →
 host_answered_good given app is world number said g =
     let link : Link = world.link number in
     sent_good app world number (host_sent (answered_on app link.host said) link) (answers_are_shown given app is link (g.links number) said)
-    (answered_same app link (act_by app link.host said said.panel) (is_asking app link.host && has_its_panel app said)) g
+    (answered_same app link (act_by app link.host said (panel_for app link.host said)) (is_asking app link.host && has_its_panel app said)) g
 
 host_noted_good : (app : Application) (world : World) (number : ℕ) (text : List ℕ) → IsNoteText text → GoodWorld app world → GoodWorld app (host_noted number text world)
 host_noted_good app world number text is g =
@@ -247,7 +247,7 @@ unused_kept given app is serves = record {
     goes_down = record { vanished = ToTerminal.TalksDown (NegotiationMessage.Opt Do 40) ∷ []; whole = refl; none = λ e. absurd (cc) };
     goes_up = record { vanished = []; whole = refl; none = λ _. refl };
   };
-  fact = (record { shadow = refl; turn_reason = refl; lock = refl; aid = refl; no_fields = no_field (replicate (cells_in app.begins) (Char 0)) 0 (cells_in app.begins) }, tt);
+  fact = (record { shadow = refl; turn_reason = refl; lock = refl; aid = refl; no_fields = no_field (replicate (cells_in app.begins) (Char 0)) 0 (cells_in app.begins); home = refl }, tt);
   shown = tt;
 }
 
@@ -269,7 +269,7 @@ begun_kept given app is serves model terminal wanted lu = record {
     goes_down = record { vanished = []; whole = refl; none = λ _. refl };
     goes_up = record { vanished = []; whole = refl; none = λ _. refl };
   };
-  fact = (record { shadow = refl; turn_reason = refl; lock = refl; aid = refl; no_fields = no_field (replicate (cells_in app.begins) (Char 0)) 0 (cells_in app.begins) }, lu);
+  fact = (record { shadow = refl; turn_reason = refl; lock = refl; aid = refl; no_fields = no_field (replicate (cells_in app.begins) (Char 0)) 0 (cells_in app.begins); home = refl }, lu);
   shown = tt;
 }
 

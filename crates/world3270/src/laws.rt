@@ -107,9 +107,11 @@ pub fn what_was_pressed_is_acted_on()
 /// attached, an open question has the key whose AID the terminal's screen has, the LU that the terminal is bound to,
 /// the cursor address, and for no field another text than the screen shows, nulls removed. If each screen that the
 /// application asks for has its panel's fields, the question has a text for each field of the panel, and the field is
-/// on the screen, at its address and with its length. All this holds of each world over bytes that represents one over
-/// messages, since the screens of panels have their fields. Unless Clear was pressed last, the protected part of an
-/// attached terminal's screen is as the host's last restoring write left it, but for the row of messages.
+/// on the screen, at its address and with its length. At connect, when no key was pressed, the message that binds the
+/// terminal may still be under way. At connect and after Clear the question has no field, nor has the screen. All this
+/// holds of each world over bytes that represents one over messages, since the screens of panels have their fields.
+/// Unless Clear was pressed last, the protected part of an attached terminal's screen is as the host's last restoring
+/// write left it, but for the row of messages.
 pub fn what_is_asked_is_seen()
     ensures messages { AlwaysOf AskedIsSeen }
     ensures fields { AlwaysOf FieldsAreSeen }

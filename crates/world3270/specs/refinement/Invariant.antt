@@ -3,7 +3,7 @@ use Rattle.std.specs.Prelude.{◌≡◌, ◌<◌, ⊤, ℕ, Bool, false, List, [
 use Rattle.codes3270.specs.Aid.{is_short_aid}
 use Rattle.codes3270.specs.Size.{ScreenSize, cells_in}
 use Rattle.codes3270.specs.declared.attention.Aid.TheVariants.{NoAid, Clear}
-use Rattle.datastream.specs.Fields.{fields}
+use Rattle.datastream.specs.Fields.{IsUnformatted}
 use Rattle.datastream.specs.Grammar.{CommandParts}
 use Rattle.datastream.specs.KeptByKeys.{KeptByKeys}
 use Rattle.datastream.specs.InboundFields.{buffer_data}
@@ -27,7 +27,7 @@ use Rattle.tn3270e_msg.specs.Talk.{IsLuIfSome}
 use Rattle.host_core.specs.Application.{Application, IsSizeOf, message_place}
 use Rattle.host_core.specs.Session.{Session}
 use Rattle.host_core.specs.Laws.{IsPaintable}
-use Rattle.host_core.specs.NoteLaws.{HasMessageRow, TakesNotes, IsNoteOf}
+use Rattle.host_core.specs.NoteLaws.{HasMessageRow, HasNoFields, TakesNotes, IsNoteOf}
 use Rattle.host_core.specs.Takes.{may_have_changed}
 use Rattle.host_core.specs.declared.turn_reason.TurnReason.{TurnReason}
 use Rattle.host_core.specs.declared.turn_reason.TurnReason.TheVariants as turn_reasons
@@ -38,7 +38,7 @@ use Rattle.world3270.specs.statement.Headline.{SentFields}
 use Rattle.world3270.specs.refinement.Phases.{NegotiationPhase, SessionPhase, LinkPhase, IsAt}
 use Rattle.world3270.specs.statement.Showing.{WantsItsPanelOn, ShowsItsPanel}
 pub use Rattle.world3270.specs.statement.Showing.{IsTextKnown, IsKnownIfRead}
-use Rattle.world3270.specs.statement.TurnReasons.{IsOccasion, IsCursorFor, IsOpenBy, IsOpenFor, IsCleared}
+use Rattle.world3270.specs.statement.TurnReasons.{IsOccasion, IsCursorFor, IsHome, IsOpenBy, IsOpenFor, IsCleared}
 use Rattle.world3270.specs.refinement.Unreturned.{NotedSince, UnmodifiedIsKept}
 use Rattle.world3270.specs.refinement.View.{View}
 
@@ -99,7 +99,8 @@ pub record IsNew (s : LocalState) : Type 0 where
   pub turn_reason : s.turn_reason ≡ turn_reasons.Agreement
   pub lock : s.lock ≡ Wait
   pub aid : s.screen.aid ≡ NoAid
-  pub no_fields : fields s.screen.cells ≡ []
+  pub no_fields : IsUnformatted s.screen.cells
+  pub home : s.screen.cursor ≡ 0
 
 -- ---- a session
 
@@ -135,6 +136,7 @@ pub record Sees (unheard : Unheard) (size : ScreenSize) (screen : Screen) (shado
   pub exact : FactsAreExact shadow
   pub closed : IfRelies unheard (IsOpenBy screen.aid false shadow)
   pub cleared : screen.aid ≡ Clear → IsCleared size shadow
+  pub bare : screen.aid ≡ Clear → HasNoFields screen.cells
   pub meets : Meets shadow screen
   pub lists : ListsFields shadow screen
   pub told : SentFields screen.aid → IsTold shadow screen
@@ -147,6 +149,7 @@ pub record IsPressed (s : LocalState) (parts : InboundParts) : Type 0 where
   pub pressed : parts.aid ≡ s.screen.aid
   pub cursor : is_short_aid s.screen.aid ≡ false → parts.cursor ≡ Some s.screen.cursor
   pub some : s.screen.aid ≡ NoAid → ⊥
+  pub home : IsHome s.screen.aid s.screen.cursor
 
 -- The host will accept the key's data, and then `Then` holds of its belief.
 abbrev pub WillBeHeard : ScreenSize → Shadow → InboundParts → (Shadow → Type 0) → Type 0
@@ -163,10 +166,11 @@ pub record Decides (s : LocalState) (shadow : Shadow) : Type 0 where
   pub closed : IfRelies s.unheard (IsOpenFor s.turn_reason shadow)
   pub sees : Sees s.unheard s.size s.screen shadow
 
--- Holds while the screen is read before the host decides. It is never read after Clear.
+-- Holds while the screen is read before the host decides. It is never read after Clear, nor before a panel was shown.
 pub record IsRead (s : LocalState) : Type 0 where
   pub decides : Decides s s.shadow
   pub not_cleared : s.screen.aid ≡ Clear → ⊥
+  pub not_first : s.turn_reason ≡ turn_reasons.Agreement → ⊥
 
 -- Holds while the whole screen is under way to the host, with any AID: what the host hears of it, it then believes.
 pub record IsReported (s : LocalState) (parts : InboundParts) : Type 0 where
@@ -174,6 +178,7 @@ pub record IsReported (s : LocalState) (parts : InboundParts) : Type 0 where
   pub turn_reason : IsOccasion s.turn_reason s.screen.aid
   pub closed : IfRelies s.unheard (IsOpenFor s.turn_reason s.shadow)
   pub not_cleared : s.screen.aid ≡ Clear → ⊥
+  pub not_first : s.turn_reason ≡ turn_reasons.Agreement → ⊥
   pub says : parts ≡ buffer_data s.size (record s.screen { aid = parts.aid })
   pub will : WillBeHeard s.size s.shadow (buffer_data s.size s.screen) (Believed false s.screen)
   pub unbroken : rule_break s.shadow s.screen.cells ≡ None
@@ -226,9 +231,9 @@ abbrev pub HasShownItsPanel : Application → Bool → Session → (before scree
 HasShownItsPanel app waits host before screen = (host.turn_reason ≡ turn_reasons.Agreement → ⊥)
     → ShowsItsPanel app waits host before screen
 
--- Holds if the screen wasn't read since the key was pressed.
+-- Holds if a key was pressed, and the screen wasn't read since.
 abbrev pub IsUnread : TurnReason → Type 0
-IsUnread turn_reasons.Agreement = ⊤
+IsUnread turn_reasons.Agreement = ⊥
 IsUnread (turn_reasons.Key aid true) = ⊥
 IsUnread (turn_reasons.Key aid false) = ⊤
 IsUnread turn_reasons.Refusal = ⊤
@@ -237,6 +242,7 @@ IsUnread turn_reasons.Refusal = ⊤
 abbrev pub ShownIn : Application → Bool → Session → (before left now : Screen) → SessionPhase → Type 0
 ShownIn app waits host before left now SessionPhase.Deciding = HasShownItsPanel app waits host before left
     × IsKnownIfRead host.turn_reason host.shadow
+    × (host.turn_reason ≡ turn_reasons.Agreement → IsUnformatted now.cells)
 ShownIn app waits host before left now (SessionPhase.Reading number) = HasShownItsPanel app waits host before left
 ShownIn app waits host before left now (SessionPhase.BufferReturning number parts) =
     HasShownItsPanel app waits host before left

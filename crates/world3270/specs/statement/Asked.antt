@@ -1,7 +1,8 @@
 -- What the application is asked is what the operator sees (our profile).
-use Rattle.std.specs.Prelude.{◌≡◌, ◌+◌, ℕ, Bool, List, length, Option, Some, None, slice_get, if◌then◌else◌}
-use Rattle.codes3270.specs.declared.attention.Aid.TheVariants.{Clear}
-use Rattle.datastream.specs.Fields.{Field, fields}
+use Rattle.std.specs.Prelude.{◌≡◌, ◌⊎◌, ◌+◌, ℕ, Bool, true, false, List, [], length, Option, Some, None, slice_get, if◌then◌else◌}
+use Rattle.codes3270.specs.declared.attention.Aid.{Aid}
+use Rattle.codes3270.specs.declared.attention.Aid.TheVariants.{NoAid, Enter, Clear, Pf, Pa}
+use Rattle.datastream.specs.Fields.{Field, IsUnformatted, fields}
 use Rattle.datastream.specs.Inbound.{without_nulls}
 use Rattle.datastream.specs.Screen.{Screen}
 use Rattle.panels.specs.KeptFields.{IsFieldOn}
@@ -11,7 +12,7 @@ use Rattle.panels.specs.Values.{value_of}
 use Rattle.panels.specs.declared.message.Message.{Message}
 use Rattle.panels.specs.declared.panel.Field.{Field as PanelField}
 use Rattle.host_core.specs.Application.{Application, application_of, message_place}
-use Rattle.host_core.specs.Questions.{question_in, question_of}
+use Rattle.host_core.specs.Questions.{is_screen_empty, question_in, question_of}
 use Rattle.host_core.specs.State.{state_at, session_at}
 use Rattle.host_core.specs.declared.question.Question.{Question}
 use Rattle.world3270.specs.statement.AsLeft.{ProtectedIsAsLeft}
@@ -43,12 +44,21 @@ pub record IsPanelText (panel : List PanelField) (number : ℕ) (text : List ℕ
 
 -- ---- a question
 
--- Holds if the question has the AID of the key that the operator pressed (never Clear), the LU that the terminal is
--- bound to, the cursor address, and for no field another text than the screen shows. `panel`: the named panel's fields.
+-- Holds if the terminal is bound to the LU. At connect, with no AID, the message that binds it may still be under way;
+-- then it is bound to none.
+abbrev pub IsBoundFor : Aid → (bound : Option (List ℕ)) → (lu : List ℕ) → Type 0
+IsBoundFor NoAid bound lu = (bound ≡ None) ⊎ (bound ≡ Some lu)
+IsBoundFor Enter bound lu = bound ≡ Some lu
+IsBoundFor Clear bound lu = bound ≡ Some lu
+IsBoundFor (Pf key) bound lu = bound ≡ Some lu
+IsBoundFor (Pa key) bound lu = bound ≡ Some lu
+
+-- Holds if the question has the AID of the key that the operator pressed, or none if he pressed none, the LU that the
+-- terminal is bound to, the cursor address, and for no field another text than the screen shows. `panel`: the named
+-- panel's fields.
 pub record IsSeen (panel : List PanelField) (question : Question) (terminal : TerminalSeen) : Type 0 where
   pub key : question.aid ≡ terminal.screen.aid
-  pub not_clear : terminal.screen.aid ≡ Clear → ⊥
-  pub lu : terminal.bound ≡ Some question.lu
+  pub lu : IsBoundFor question.aid terminal.bound question.lu
   pub cursor : question.cursor ≡ terminal.screen.cursor
   pub texts : (number : ℕ) (text : List ℕ) → value_of question.values number ≡ Some text
       → IsPanelText panel number text terminal.screen
@@ -64,10 +74,17 @@ pub record IsFieldAsked (field : PanelField) (question : Question) (screen : Scr
   pub given : value_of question.values field.number ≡ Some text
   pub shown : IsFieldShown field text screen
 
--- Holds if the question has each field of the panel, with its text on the screen.
-abbrev pub AreFieldsAsked : List PanelField → Question → Screen → Type 0
-AreFieldsAsked panel question screen = (index : ℕ) (field : PanelField) → slice_get panel index ≡ Some field
+-- Holds if neither the question nor the screen has a field; or else, if the question has each field of the panel, with
+-- its text on the screen.
+abbrev pub AreFieldsAskedIf : (empty : Bool) → List PanelField → Question → Screen → Type 0
+AreFieldsAskedIf true panel question screen = (question.values ≡ []) × IsUnformatted screen.cells
+AreFieldsAskedIf false panel question screen = (index : ℕ) (field : PanelField) → slice_get panel index ≡ Some field
     → IsFieldAsked field question screen
+
+-- Holds if the question has each field of the panel, with its text on the screen. At connect and after Clear it has no
+-- field, and neither has the screen.
+abbrev pub AreFieldsAsked : List PanelField → Question → Screen → Type 0
+AreFieldsAsked panel question screen = AreFieldsAskedIf (is_screen_empty question.aid) panel question screen
 
 -- ---- the screen is the one that was left
 
@@ -123,13 +140,13 @@ abbrev pub asked_at : ℕ → ByteWorld → Option Question
 asked_at number world = question_of (application_of world.host.panels) (session_at number world.host)
     (state_at number world.host)
 
--- Holds if the question has the key, the LU, the cursor and each field of the panel as the terminal shows them, and the
--- protected part of the screen is as it was left.
+-- Holds if the question has the key, the LU, the cursor and each field of the panel as the terminal shows them, and,
+-- unless Clear was pressed, the protected part of the screen is as it was left.
 pub record IsPanelSeen (panel : List PanelField) (row : ℕ) (question : Question)
     (terminal : TerminalSeen) : Type 0 where
   pub seen : IsSeen panel question terminal
   pub fields : AreFieldsAsked panel question terminal.screen
-  pub protected : ProtectedIsAsLeft row terminal.last_restored.cells terminal.screen.cells
+  pub protected : IsScreenAsLeft row terminal
 
 -- Holds if each open question has what its terminal shows; and the protected part of each attached terminal's screen
 -- is as it was left, whether or not a question is open.

@@ -201,7 +201,8 @@ told_link t = record t.link { term = record t.link.term { display = t.told } }
 -- (b) to (d) Whenever the host may decide, these parts of the headline hold of what it was told. And the host's belief,
 -- but for the characters and MDT of input fields, is true of the terminal's present screen: it has the attributes and
 -- the protected characters that the host believes.
--- An open question has the key, the cursor and the text of each field of its panel of what the host was told.
+-- An open question has the key, the cursor and the text of each field of its panel of what the host was told; at
+-- connect and after Clear neither has a field.
 -- After a paint is answered, the screen that it left shows the panel, whatever was typed in the wait before it.
 -- Neither end has closed the connection for a cause: both are attached.
 pub record RightOf (app : Application) (lu : List ℕ) (t : LinkWithReport) : Type 0 where

@@ -12,7 +12,7 @@ use Rattle.tn3270e_msg.specs.Talk.{Talk}
 use Rattle.tn3270e_msg.specs.declared.host_talk.HostState.{HostState}
 use Rattle.host_core.specs.Acts.{Act, Decision, decision_on, is_settled_fact, wanted_by, when_shown}
 use Rattle.host_core.specs.Application.{Application}
-use Rattle.host_core.specs.Questions.{act_by, is_ask}
+use Rattle.host_core.specs.Questions.{act_by, is_ask, panel_for}
 use Rattle.host_core.specs.Session.{Session, model_in}
 use Rattle.host_core.specs.declared.question.Answer.{Answer as ApplicationAnswer}
 use Rattle.host_core.specs.declared.turn_reason.TurnReason.{TurnReason}
@@ -24,7 +24,7 @@ use Rattle.host_core.specs.declared.turn_reason.TurnReason.TheVariants as turn_r
 pub data IsDecided (app : Application) (conn : Session) (act : Act) : Type 0 where
   by_host : decision_on app conn conn.turn_reason ≡ Decision.Do act → IsDecided app conn act
   by_application : (said : ApplicationAnswer) → is_ask (decision_on app conn conn.turn_reason) ≡ true
-      → act ≡ act_by app conn said said.panel → IsDecided app conn act
+      → act ≡ act_by app conn said (panel_for app conn said) → IsDecided app conn act
 
 -- Holds if the text of a field is known, perhaps but for its nulls.
 abbrev pub IsTextKnown : Belief → Type 0

@@ -6,7 +6,7 @@ use Rattle.keyboard.specs.declared.key.Lock.TheVariants.{Wait}
 use Rattle.telnet_wire.specs.Reading.{Rest}
 use Rattle.panels.specs.declared.message.Message.TheVariants.{Told}
 use Rattle.host_core.specs.Application.{Application, application_of}
-use Rattle.host_core.specs.Questions.{values_for}
+use Rattle.host_core.specs.Questions.{panel_asked, panel_for, values_for}
 use Rattle.host_core.specs.Session.{Session, model_in}
 use Rattle.host_core.specs.State.{Service, state_at}
 use Rattle.host_core.specs.declared.question.Answer.{Answer as ApplicationAnswer}
@@ -51,10 +51,10 @@ PanelsStay event old new = (number : ℕ) (rest behind : Rest) (conn later : Ses
 -- ---- an answer
 
 -- Holds if the connection has the panel that the answer names (or, if it names none, the panel of the question), with
--- the answer's values, message and cursor field. `asked`: the connection when the question was open.
+-- the answer's values, message and cursor field. `asked`: the connection when the question was open, also at connect.
 pub record IsAnswered (app : Application) (asked : Session) (said : ApplicationAnswer) (now : Session) : Type 0 where
-  pub panel : now.panel ≡ app.shown (model_in asked) (unwrap_or said.panel asked.panel)
-  pub values : now.values ≡ values_for app asked said said.panel
+  pub panel : now.panel ≡ app.shown (model_in asked) (unwrap_or said.panel (panel_asked app asked asked.turn_reason))
+  pub values : now.values ≡ values_for app asked said (panel_for app asked said)
   pub message : now.message ≡ Told said.message said.cursor
 
 -- These events lead from `old` to `new`. Before each the host is attached to the connection; it decides nothing there.

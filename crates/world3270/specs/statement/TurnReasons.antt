@@ -43,12 +43,16 @@ IsOpenFor turn_reasons.Agreement shadow = NothingIsOpen shadow
 IsOpenFor (turn_reasons.Key aid buffered) shadow = IsOpenBy aid buffered shadow
 IsOpenFor turn_reasons.Refusal shadow = ⊥
 
+-- Holds if the cursor is at 0 after Clear.
+abbrev pub IsHome : Aid → (place : ℕ) → Type 0
+IsHome aid place = aid ≡ Clear → place ≡ 0
+
 -- Holds if the host knows the cursor address, unless the key was sent short, as PA and Clear are, and the screen wasn't
--- read since.
+-- read since. The cursor is at 0 before a first panel is shown, and after Clear.
 abbrev pub IsCursorFor : TurnReason → (known place : ℕ) → Type 0
-IsCursorFor turn_reasons.Agreement known place = ⊤
-IsCursorFor (turn_reasons.Key aid true) known place = known ≡ place
-IsCursorFor (turn_reasons.Key aid false) known place = is_short_aid aid ≡ false → known ≡ place
+IsCursorFor turn_reasons.Agreement known place = place ≡ 0
+IsCursorFor (turn_reasons.Key aid true) known place = (known ≡ place) × IsHome aid place
+IsCursorFor (turn_reasons.Key aid false) known place = (is_short_aid aid ≡ false → known ≡ place) × IsHome aid place
 IsCursorFor turn_reasons.Refusal known place = ⊤
 
 -- After Enter or a PF key a host that relies on the terminal's wait knows each unprotected field's text, or knows that

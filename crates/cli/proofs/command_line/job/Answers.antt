@@ -4,7 +4,7 @@ use Rattle.cli.proofs.command_line.job.Goals as goal
 
 pub returns : goal.returns
 returns c =
-    IfOk-weaker c.with_operand.result _ _
-    (λ new adds. job_made c.args.topic _ _ _ c.new-bare.result c.in_ok-job.job new c.name_of.ensures c.options_of.ensures c.operand_of.ensures
-    (record { is = c.new-bare.ensures.app; local = c.new-bare.ensures.local }) c.in_ok-job.ensures adds)
-    c.with_operand.ensures
+    IfOk-weaker c.with_options.result _ _
+    (λ new adds. job_made c.args.topic _ _ c.new-bare.result new c.name_of.ensures c.options_of.ensures
+    (record { is = c.new-bare.ensures.app; local = c.new-bare.ensures.local }) adds)
+    c.with_options.ensures

@@ -81,6 +81,7 @@ invariant_of-result c =
           (subst (λ fields. IsCursorBy (option_map (λ name. name.now) c.panel.inside.cursor) fields c.cursor_of.result) c.as_slice.ensures.value c.cursor_of.ensures);
       places = c.in_ok-targets.ensures.size;
       asked = c.in_ok-asked_keys.ensures;
+      asked_at_connect = c.asks_at_connect.ensures;
       targets = targets_lead c.args.self.now.panels c.args.panel.now c.in_ok-targets.field-0.items c.in_ok-targets.ensures;
     })
 
@@ -100,5 +101,6 @@ returns c =
           (subst (λ fields. IsCursorBy (option_map (λ name. name.now) c.panel.inside.cursor) fields c.cursor_of.result) c.as_slice.ensures.value c.cursor_of.ensures);
       places = c.in_ok-targets.ensures.size;
       asked = c.in_ok-asked_keys.ensures;
+      asked_at_connect = c.asks_at_connect.ensures;
       targets = targets_lead c.args.self.now.panels c.args.panel.now c.in_ok-targets.field-0.items c.in_ok-targets.ensures;
     }

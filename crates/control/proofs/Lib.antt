@@ -1,0 +1,4 @@
+pub mod Texts
+pub mod Cuts
+mod Words
+mod ReadBack

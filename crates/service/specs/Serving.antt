@@ -1,0 +1,32 @@
+-- The turns of `serve` with a control socket (our profile).
+use Rattle.std.specs.Prelude.{ℕ, Bool, true, false, List, Option, Some, None, Result, is_some}
+use Rattle.std.specs.declared.io.Error.{Error}
+use Rattle.host_core.specs.State.{Host}
+use Rattle.job_streams.specs.declared.fault.Fault.{Fault}
+use Rattle.service_events.specs.declared.notice.Notice.{Notice}
+use Rattle.service.specs.Control.{is_ended}
+use Rattle.service.specs.ServerTurns.{PollsAndServes}
+use Rattle.service.specs.declared.accepting.Arrival.{Arrival}
+use Rattle.service.specs.declared.server_core.ServerCore.{ServerCore}
+use Rattle.service.specs.declared.serving.Control.{Control}
+
+-- whether no new session is taken
+abbrev pub is_closed : Option Control → Bool
+is_closed None = false
+is_closed (Some control) = is_some control.orders.drained
+
+-- whether operators ended the service
+abbrev pub is_over : {S : Type 0} → Option Control → ServerCore S → Bool
+is_over None core = false
+is_over (Some control) core = is_ended control.drain control.orders core
+
+module _ {S W L C : Type 0} (gave : S → ℕ → List ℕ → Result ℕ Error → S → Type 0)
+    (took : S → List ℕ → Result ℕ Error → S → Type 0)
+    (noticed : W → Notice → Result Unit Fault → W → Type 0) (showed : W → Host → ℕ → Result Unit Fault → W → Type 0)
+    (accepts : L → Option (Arrival S) → L → Type 0) (refuses : C → Option (Arrival S) → C → Type 0) where
+  -- holds for a turn, in which connections are accepted by the listener unless the service is closed
+  abbrev pub PollsAndServesBy : (closed : Bool) → ServerCore S → W → Result Bool Fault → ServerCore S → W → Type 0
+  PollsAndServesBy true old watcher answer new after =
+      PollsAndServes gave took noticed showed refuses old watcher answer new after
+  PollsAndServesBy false old watcher answer new after =
+      PollsAndServes gave took noticed showed accepts old watcher answer new after
