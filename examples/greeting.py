@@ -1,15 +1,12 @@
-from http.server import BaseHTTPRequestHandler, ThreadingHTTPServer
 import json
+from wsgiref.simple_server import make_server
 
-class Greeting(BaseHTTPRequestHandler):
-    def do_POST(self):
-        question = json.loads(self.rfile.read(int(self.headers["Content-Length"])))
-        visitor = question.get("fields", {}).get("visitor")
-        message = f"GOOD MORNING, {visitor}" if visitor else "WHO ARE YOU?"
-        content = json.dumps({"message": message}).encode()
-        self.send_response(200)
-        self.send_header("Content-Length", str(len(content)))
-        self.end_headers()
-        self.wfile.write(content)
+def greeting(environ, start_response):
+    question = json.loads(environ["wsgi.input"].read(int(environ["CONTENT_LENGTH"])))
+    visitor = question.get("fields", {}).get("visitor")
+    message = f"GOOD MORNING, {visitor}" if visitor else "WHO ARE YOU?"
+    content = json.dumps({"message": message}).encode()
+    start_response("200 OK", [("Content-Length", str(len(content)))])
+    return [content]
 
-ThreadingHTTPServer(("127.0.0.1", 8080), Greeting).serve_forever()
+make_server("127.0.0.1", 8080, greeting).serve_forever()

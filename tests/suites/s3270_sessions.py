@@ -52,7 +52,7 @@ def sessions() -> Iterator[Session]:
     """The commands with s3270 that documents show as run."""
     for document in documents.DOCUMENTS:
         for at, command, behind in documents.runs(document):
-            lines = behind.index("END") + 1 if command.endswith("<<'END'") else 0
+            lines = 0
             while [command, *behind][lines].endswith("\\"):
                 lines += 1
             command = "\n".join([command, *behind[:lines]])

@@ -328,14 +328,9 @@ def signs_on(walk, command):
     is_there(walk, command, "bank.db")
 
 
-def panels(walk, command):
-    (walk.clone / "panels.toml").write_text(command.text + "\n")
-    walk.prints(command, "bin/quick check panels.toml", ["ok: 1 panel, 1 field, 2 LUs\n"])
-
-
 def answers_by_script(walk, command):
-    script = f"{walk.read('panels.toml')}%%\n{command.text}\n"
-    walk.prints(command, "bin/quick", ['\nteller="4711"\n', "\n NO SUCH TELLER\n"], script)
+    script = f"{walk.read('examples/greeting.toml')}%%\n{command.text}\n"
+    walk.prints(command, "bin/quick", ['\nvisitor="ADA"\n', "\n GOOD MORNING, ADA\n"], script)
 
 
 def own_script(walk, command):
@@ -402,12 +397,11 @@ STEPS = {
     "x3270 ": WINDOW,
     "(cd crates/panel3270 && rt run < stdin)": has_the_toolchain,
     "RT_JOBS=2 rt ci": same_as_ci,
-    "from http.server": lines_of("examples/greeting.py"),
+    "import json": lines_of("examples/greeting.py"),
     "panel3270 serve --port 3270 --panels examples/greeting.toml": greets,
     # examples/README.md
     f"{PROVED} < examples/sign-on.script": sign_on_script,
     "(cat examples/bank.toml; echo %%; cat MINE) |": own_script,
-    "connect 0\nsettle\ntype 0 4711\nkey 0 tab": lines_of("examples/transfer.script"),
     # docs/USING.md
     'start = "ASK"': lines_of("examples/first.toml"),
     "[[panel.text]]": lines_of("examples/first.toml"),
@@ -420,7 +414,6 @@ STEPS = {
     "panel3270 serve --port 3270 --control control": serves_with_a_socket,
     "panel3270 tell ": tells,
     "s3270 ": S3270,
-    "cat > sizes.s3270": S3270,
     "c3270 ": "needs c3270",
     "panel3270 term --port 3270 --lu BANK02": asks_for_an_lu,
     "echo 'Connect(NOSUCH": S3270,
@@ -433,8 +426,6 @@ STEPS = {
     "printf 'Connect(L:BANK04": "needs s3270 and stunnel: the suite s3270_sessions",
     "bin/serve --processes": "needs HAProxy: the suite processes",
     # docs/APPLICATIONS.md
-    'start = "SIGNON"': panels,
-    "panel3270 serve --port 3270 --panels panels.toml": serves,
     "python3 examples/": application,
     "panel3270 serve --port 3270 --panels examples/bank-asks.toml": signs_on,
     "POST /bank": PRINTED,
@@ -443,7 +434,7 @@ STEPS = {
     '{"panel": "MENU"': PRINTED,
     f"{LOG} event=application-replaced": "is a line of the log: the suite applications",
     f"{LOG} event=application-error": PRINTED,
-    "connect 0\nsettle\ntype 0 4711\nkey 0 enter": answers_by_script,
+    "connect 0\nsettle\ntype 0 ADA": answers_by_script,
 }
 
 
