@@ -5,7 +5,6 @@ ghost use Rattle.socket_links.specs.Sockets.{is_connected, slot_at};
 ghost use Rattle.service.specs.Control.{DeliversBelow, StopsAt};
 ghost use Rattle.service.specs.HostAnswers.{AsksHost, HandsAnswer, HearsFault, HearsReplaced, TakesEnd, asked_in, client_at, ended_if, usage_at};
 ghost use Rattle.service.specs.ServerTurns.{AcceptsWaiting, PollsAndServes, new_core};
-ghost use Rattle.service.specs.Serving.{PollsAndServesBy};
 ghost use Rattle.service.specs.TimeTurns.{KeepsTime};
 ghost use Rattle.service.specs.Visits.{VisitsEach};
 
@@ -410,25 +409,6 @@ impl Server {
             return Err(Fault::SocketFailed);
         }
         self.core.turn(&mut NoListener, watcher)
-    }
-
-    /// One turn as [`turn`](Server::turn), in which nobody is accepted if the service is closed.
-    pub(crate) fn turn_unless_closed<W: Watcher>(
-        &mut self,
-        closed: bool,
-        poll_timeout: Duration,
-        watcher: &mut W,
-    ) -> Result<bool, Fault>
-        ensures { PollsAndServesBy ⟦<TcpStream as RawRead>⟧.read_gave
-            ⟦<TcpStream as RawWrite>⟧.write_took W.noticed W.showed
-            ⟦<ProxyListener<TcpStream, PolledListener> as Listener<TcpStream>>⟧.gave
-            ⟦<NoListener as Listener<TcpStream>>⟧.gave closed self.old watcher.old result self.new watcher.new }
-    {
-        if closed {
-            self.turn_closed(poll_timeout, watcher)
-        } else {
-            self.turn(poll_timeout, watcher)
-        }
     }
 
     /// The server without its listener and its poll.

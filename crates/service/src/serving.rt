@@ -354,10 +354,13 @@ impl<R: Net + Clock, W: Watcher> TurnParts for Shift<'_, R, W> {
         × (answer ≡ done did) };
 
     fn serve_all(&mut self, busy: bool) -> Result<bool, Fault> {
-        let closed = self.serving.is_closed();
-        self.serving
-            .server
-            .turn_unless_closed(closed, poll_timeout(busy), self.watcher)
+        if self.serving.is_closed() {
+            self.serving
+                .server
+                .turn_closed(poll_timeout(busy), self.watcher)
+        } else {
+            self.serving.server.turn(poll_timeout(busy), self.watcher)
+        }
     }
 
     fn keep_time(&mut self, moved: bool) -> Result<bool, Fault> {
