@@ -346,10 +346,15 @@ def installs(walk, command):
     """As root would, in a folder of its own in place of the root; then what the unit for systemd
     starts listens."""
     root = walk.place / "root"
-    (root / "usr/local/bin").mkdir(parents=True)
+    for folder in ("usr/local/bin", "run/panel3270"):
+        (root / folder).mkdir(parents=True)
     lines = re.sub("^# ", "", command.text, flags=re.M).replace(PROVED, '"$(bin/quick --which)"')
-    unit = re.search("^ExecStart=(.*)", walk.read("examples/panel3270.service"), re.M)[1]
-    install, start = (re.sub("(^| )(?=/(usr|etc)/)", rf"\1{root}", it) for it in (lines, unit))
+    unit = walk.read("examples/panel3270.service").replace("\\\n", "")
+    says = dict(re.findall("^(Environment|ExecStart)=(.*)", unit, re.M))
+    start = f"env {says['Environment']} {says['ExecStart']}"
+    install, start = (
+        re.sub("(^|[ =])(?=/(usr|etc|run)/)", rf"\1{root}", it) for it in (lines, start)
+    )
     walk.prints(command, f"set -e\n{install}", [])
     walk.start(command, walk.here(start), HOST, LISTENS)
 
