@@ -201,6 +201,9 @@ class Walk:
         for port in ports or [*self.running]:
             if run := self.running.pop(port, None):
                 end_group(run)
+                end = time.monotonic() + PATIENCE
+                while is_listening(self.ports[port]) and time.monotonic() < end:
+                    time.sleep(0.05)
 
     def operate(self, command, text, wanted, rows=25):
         """An operator's terminal shows this on a tty with so many rows, and ends at Ctrl-]."""
