@@ -30,6 +30,7 @@ import termios
 import time
 from collections.abc import Iterator
 
+from harness.browser import TEXT, Page
 from harness.case import TOP, Case, Difference, Place, of_function
 from harness.hosts import free_port
 
@@ -310,6 +311,16 @@ def operates(walk, command):
     walk.operate(command, command.text, "BANK02" if "BANK02" in command.text else "BANK01", rows=44)
 
 
+def serves_pages(walk, command):
+    """A page at its port shows the host's panel."""
+    walk.start(command, walk.here(command.text), APPLICATION, "listening on http://127.0.0.1:8080/")
+    page = Page(int(walk.ports[APPLICATION]))
+    page.send(TEXT, b"open 2")
+    if not any(b"TELLER" in it for _, it in page.messages()):
+        command.fails("a page with TELLER", "another")
+    page.close()
+
+
 def application(walk, command):
     """Starts the program of an application, which has its port in its text."""
     text = walk.read(command.text.split()[1])
@@ -426,6 +437,7 @@ STEPS = {
     "panel3270 term --port 3270 --lu BANK02": asks_for_an_lu,
     "echo 'Connect(NOSUCH": S3270,
     "bin/operate ": operates,
+    "panel3270 web --port 8080": serves_pages,
     "                             TRANSFER ": PRINTED,
     "listening on 127.0.0.1:3270\ntime=": "is the log of s3270: the suite s3270_sessions",
     "warning: other machines": PRINTED,

@@ -22,13 +22,14 @@ name_of topic.Serve = codes "serve"
 name_of topic.Tell = codes "tell"
 name_of topic.Term = codes "term"
 name_of topic.Operate = codes "operate"
+name_of topic.Web = codes "web"
 name_of topic.Help = codes "help"
 name_of topic.Version = codes "version"
 
 -- the jobs of the program
 abbrev pub jobs : List HelpTopic
 jobs = topic.Script ∷ topic.Selfrun ∷ topic.Show ∷ topic.Check ∷ topic.Host ∷ topic.Serve ∷ topic.Tell
-    ∷ topic.Term ∷ topic.Operate ∷ topic.Help ∷ topic.Version ∷ []
+    ∷ topic.Term ∷ topic.Operate ∷ topic.Web ∷ topic.Help ∷ topic.Version ∷ []
 
 -- the job with this name
 abbrev pub topic_named : List ℕ → Option HelpTopic
@@ -42,6 +43,7 @@ topic_named name =
     if bytes_eq name (codes "tell") then Some topic.Tell else
     if bytes_eq name (codes "term") then Some topic.Term else
     if bytes_eq name (codes "operate") then Some topic.Operate else
+    if bytes_eq name (codes "web") then Some topic.Web else
     if bytes_eq name (codes "help") then Some topic.Help else
     if bytes_eq name (codes "version") then Some topic.Version else
     None
@@ -94,6 +96,10 @@ options_of topic.Term = needed (codes "port") kind.Port ∷ optional (codes "lu"
 options_of topic.Operate =
     needed (codes "port") kind.ServicePort ∷ optional (codes "host") kind.Address ∷ optional (codes "lu") kind.LuName
     ∷ optional (codes "model") kind.Model ∷ optional (codes "raw") kind.TtySize ∷ []
+options_of topic.Web =
+    needed (codes "port") kind.ServicePort ∷ needed (codes "connect") kind.Host
+    ∷ optional (codes "listen") kind.Address ∷ optional (codes "origin") kind.Url
+    ∷ optional (codes "sessions") kind.Sessions ∷ optional (codes "keep") kind.Seconds ∷ []
 options_of topic.Check = optional (codes "file") kind.Operand ∷ []
 options_of topic.Tell = needed (codes "socket") kind.Operand ∷ needed (codes "command") kind.Operand
     ∷ optional (codes "first") kind.Operand ∷ optional (codes "second") kind.Operand ∷ []

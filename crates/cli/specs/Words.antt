@@ -16,12 +16,13 @@ use Rattle.codes3270.specs.declared.size.Model.{Model}
 use Rattle.host_core.specs.declared.terminals.Terminals.{Terminals}
 use Rattle.host_core.specs.declared.terminals.Terminals.TheVariants.{Any, Verified, Waiting}
 use Rattle.tn3270e_msg.specs.Lu.{lu_of}
-use Rattle.jobs.specs.OptionValues.{address_of, is_same_port, model_of, port_of, reply_time_of, seconds_of, service_port_of, this_machine, tty_size_of, turns_of, usual_drain, usual_idle, usual_keepalive, usual_model, usual_negotiate, usual_reply_time, usual_turns}
+use Rattle.jobs.specs.OptionValues.{address_of, endpoint_of, is_same_port, model_of, port_of, reply_time_of, seconds_of, service_port_of, session_count_of, this_machine, tty_size_of, turns_of, usual_drain, usual_idle, usual_keep, usual_keepalive, usual_model, usual_negotiate, usual_reply_time, usual_sessions, usual_turns}
 use Rattle.cli.specs.Topics.{OptionRow, is_operand, jobs, name_of, options_of, takes_value, topic_named}
 use Rattle.jobs.specs.declared.job.Job.{Job}
 use Rattle.jobs.specs.declared.job.Job.TheVariants as job
 use Rattle.jobs.specs.declared.job.CommandWords.{CommandWords}
 use Rattle.jobs.specs.declared.job.OperateOptions.{OperateOptions}
+use Rattle.jobs.specs.declared.job.WebOptions.{WebOptions}
 use Rattle.jobs.specs.declared.job.HelpTopic.{HelpTopic}
 use Rattle.jobs.specs.declared.job.HelpTopic.TheVariants as topic
 use Rattle.jobs.specs.declared.service.ApplicationChoice.{ApplicationChoice}
@@ -153,6 +154,24 @@ given_live_options options =
     }) (given_tty options)) (given_model options)) (given_lu options)) (given_service_port options))
     (given_address (codes "host") options)
 
+abbrev pub given_sessions : List Row → Option ℕ
+given_sessions options = option_map_or session_count_of (first_of (codes "sessions") options) (Some usual_sessions)
+
+abbrev pub given_web : List Row → Option WebOptions
+given_web options =
+    option_and_then (λ listen. option_and_then
+    (λ port. option_and_then (λ host. option_and_then (λ sessions. option_map (λ keep. record {
+      listen = listen;
+      port = port;
+      host = host;
+      origin = first_of (codes "origin") options;
+      sessions = sessions;
+      keep = keep;
+    }) (given_seconds (codes "keep") usual_keep options)) (given_sessions options))
+    (option_and_then endpoint_of (first_of (codes "connect") options)))
+    (given_service_port options))
+    (given_address (codes "listen") options)
+
 abbrev pub given_reply_time : List Row → Option ℕ
 given_reply_time options = option_map_or reply_time_of (first_of (codes "application-timeout") options)
     (Some usual_reply_time)
@@ -201,6 +220,7 @@ job_of topic.Term options =
     option_and_then (λ port. option_and_then (λ lu. option_map (λ model. job.Term port lu model) (given_model options))
     (given_lu options)) (given_port options)
 job_of topic.Operate options = option_map (λ live. job.Operate live) (given_live_options options)
+job_of topic.Web options = option_map (λ web. job.Web web) (given_web options)
 job_of topic.Help options = option_map (λ topic. job.Help topic) (given_topic options)
 job_of topic.Version options = Some job.Version
 

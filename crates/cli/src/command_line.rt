@@ -1,12 +1,13 @@
 //! Parses the program's arguments.
+ghost use Rattle.std.specs.Option.{option_and_then};
 ghost use Rattle.std.specs.Prelude.{◌≡◌, [], IfOk, IfErr, codes, false, map, option_map, string_bytes, true};
 ghost use Rattle.clap.specs.Matches.{found_of};
 ghost use Rattle.clap.specs.Simple.{subcommand_rows_of};
 ghost use Rattle.clap.specs.Values.{kind_of};
 ghost use Rattle.clap.specs.Walk.{first_of, rows_of};
-ghost use Rattle.jobs.specs.OptionValues.{is_same_port};
+ghost use Rattle.jobs.specs.OptionValues.{endpoint_of, is_same_port};
 ghost use Rattle.cli.specs.Topics.{row_of};
-ghost use Rattle.cli.specs.Words.{HasNoJob, IsJobOf, program, job_by, job_by_kind, job_named, job_of, given_address, given_application, given_command, given_control, given_limits, given_live_options, given_lu, given_metrics, given_model, given_port, given_reply_time, given_script_terminals, given_seconds, given_service, given_service_port, given_terminals, given_topic, given_tty, given_turns, ends_by_dashes, is_given, job_shape, job_taken, option_rule, sound_service, topic_of, terminals_by};
+ghost use Rattle.cli.specs.Words.{HasNoJob, IsJobOf, program, job_by, job_by_kind, job_named, job_of, given_address, given_application, given_command, given_control, given_limits, given_live_options, given_lu, given_metrics, given_model, given_port, given_reply_time, given_script_terminals, given_seconds, given_service, given_service_port, given_sessions, given_terminals, given_topic, given_tty, given_turns, given_web, ends_by_dashes, is_given, job_shape, job_taken, option_rule, sound_service, topic_of, terminals_by};
 ghost use Rattle.cli.specs.ClapCommands.{AddsArguments, AddsJobs, IsArgument, IsCommand, IsJob, IsMatch, MayFail};
 
 use crate::help::VERSION;
@@ -17,8 +18,9 @@ use clap::{Arg, ArgAction, ArgMatches, Command};
 use codes3270::Model;
 use host_core::Terminals;
 use jobs::{
-    ApplicationChoice, CommandWords, ControlChoice, HelpTopic, Job, Operand, OperateOptions, Port,
-    ReplyTime, Seconds, Service, ServicePort, TimeLimits, TtySize, Turns, address_of, model_of,
+    ApplicationChoice, CommandWords, ControlChoice, HelpTopic, HostEndpoint, Job, Operand,
+    OperateOptions, Port, ReplyTime, Seconds, Service, ServicePort, SessionCount, TimeLimits,
+    TtySize, Turns, WebOptions, address_of, model_of,
 };
 use std::alloc::{AllocError, Global};
 use std::net::{IpAddr, Ipv4Addr};
@@ -300,6 +302,37 @@ fn live_options_in(options: &ArgMatches<'_>) -> Option<OperateOptions>
     })
 }
 
+/// The value of `--connect`.
+fn endpoint_in(options: &ArgMatches<'_>) -> Option<HostEndpoint>
+    ensures { result ≡ option_and_then endpoint_of (first_of (codes "connect") (rows_of (found_of options.now))) }
+{
+    HostEndpoint::read(given(options, "connect")?)
+}
+
+/// The value of `--sessions`; the default if it isn't given.
+fn sessions_in(options: &ArgMatches<'_>) -> Option<SessionCount>
+    ensures { result ≡ given_sessions (rows_of (found_of options.now)) }
+{
+    match given(options, "sessions") {
+        Some(word) => SessionCount::read(word),
+        None => Some(SessionCount::of(64)),
+    }
+}
+
+/// The options of `web`.
+fn web_in<'a>(options: &ArgMatches<'a>) -> Option<WebOptions<'a>>
+    ensures { result ≡ given_web (rows_of (found_of options.now)) }
+{
+    Some(WebOptions {
+        listen: address_in(options, "listen")?,
+        port: service_port_in(options)?,
+        host: endpoint_in(options)?,
+        sessions: sessions_in(options)?,
+        keep: seconds_in(options, "keep", Seconds::of(120))?,
+        origin: text_in(options, "origin"),
+    })
+}
+
 /// The value of `--application-timeout`; the default if it isn't given.
 fn reply_time_in(options: &ArgMatches<'_>) -> Option<ReplyTime>
     ensures { result ≡ given_reply_time (rows_of (found_of options.now)) }
@@ -399,6 +432,7 @@ fn job_of<'a>(topic: HelpTopic, options: &ArgMatches<'a>) -> Option<Job<'a>>
             model: model_in(options)?,
         },
         HelpTopic::Operate => Job::Operate(live_options_in(options)?),
+        HelpTopic::Web => Job::Web(web_in(options)?),
         HelpTopic::Help => Job::Help(topic_in(options)?),
         HelpTopic::Version => Job::Version,
     };

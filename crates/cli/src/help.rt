@@ -103,6 +103,13 @@ fn text_of(topic: HelpTopic) -> JobText {
             notes: "\n\nThe status row has the keyboard's lock, the LU and the cursor. ESC and ? show the keys; Ctrl-] \
                 ends the program.",
         },
+        HelpTopic::Web => JobText {
+            summary: "be terminals of a host, for operators in browsers, without end",
+            purpose: "Serve a page that is a terminal at a host, at http://127.0.0.1:P/, and log each session on \
+                standard error. Each page is a session of its own.",
+            notes: "\n\nThe page of http://127.0.0.1:P/#model=4&lu=NAME has that model, 2 to 5, and asks for that LU.\n\
+                The page has buttons for all keys. Passwords cross the network as they are: put TLS and a sign-on before it.",
+        },
         HelpTopic::Program | HelpTopic::Help => JobText {
             summary: "print this text, or with a job's name the help of that job",
             purpose: "Print the help of the program, or of a job.",
@@ -122,7 +129,7 @@ fn after_options(topic: HelpTopic) -> &'static str {
         HelpTopic::Check => " [FILE]",
         HelpTopic::Help => " [JOB]",
         HelpTopic::Tell => " SOCKET COMMAND",
-        HelpTopic::Program | HelpTopic::Operate | HelpTopic::Version => "",
+        HelpTopic::Program | HelpTopic::Operate | HelpTopic::Web | HelpTopic::Version => "",
         _ => " < INPUT",
     }
 }

@@ -18,6 +18,8 @@ pub(crate) enum ValueKind {
     Model,
     File,
     TtySize,
+    Host,
+    Sessions,
     Flag,
     Operand,
 }
@@ -41,7 +43,8 @@ impl ValueKind {
     pub(crate) fn placeholder(self) -> &'static str {
         match self {
             ValueKind::Port | ValueKind::ServicePort => " P",
-            ValueKind::Turns => " N",
+            ValueKind::Turns | ValueKind::Sessions => " N",
+            ValueKind::Host => " [HOST:]PORT",
             ValueKind::LuName => " NAME",
             ValueKind::Address => " ADDRESS",
             ValueKind::Seconds | ValueKind::ReplyTime => " SECONDS",
@@ -152,8 +155,19 @@ static OPERATE: [JobOption<'static>; 5] = [
     option!(takes "raw": TtySize, "the size of the tty, which is in raw mode: bin/operate says so"),
 ];
 
+static WEB: [JobOption<'static>; 6] = [
+    option!(needs "port": ServicePort, "the port of the page, 1 to 65535"),
+    option!(needs "connect": Host, "the host: a port of this machine, or an IPv4 address and a port"),
+    option!(takes "listen": Address,
+        "the IPv4 or IPv6 address to listen on; localhost is 127.0.0.1 [default: 127.0.0.1]"),
+    option!(takes "origin": Url,
+        "the page's origin behind a proxy, as https://terminals.example; without it browsers of this machine are served"),
+    option!(takes "sessions": Sessions, "the most sessions at one time, 1 to 64 [default: 64]"),
+    option!(takes "keep": Seconds, "keep a session without a page for this time, 0 to 1000000 [default: 120]"),
+];
+
 /// The jobs of the program.
-pub(crate) static JOBS: [HelpTopic; 11] = [
+pub(crate) static JOBS: [HelpTopic; 12] = [
     HelpTopic::Script,
     HelpTopic::Selfrun,
     HelpTopic::Show,
@@ -163,6 +177,7 @@ pub(crate) static JOBS: [HelpTopic; 11] = [
     HelpTopic::Tell,
     HelpTopic::Term,
     HelpTopic::Operate,
+    HelpTopic::Web,
     HelpTopic::Help,
     HelpTopic::Version,
 ];
@@ -182,6 +197,7 @@ pub(crate) fn options_of(topic: HelpTopic) -> &'static [JobOption<'static>]
         HelpTopic::Help => &HELP,
         HelpTopic::Term => &TERM,
         HelpTopic::Operate => &OPERATE,
+        HelpTopic::Web => &WEB,
         HelpTopic::Program | HelpTopic::Version => &[],
     }
 }
@@ -201,6 +217,7 @@ pub(crate) fn name_of<'a>(topic: HelpTopic) -> &'a str
         HelpTopic::Tell => "tell",
         HelpTopic::Term => "term",
         HelpTopic::Operate => "operate",
+        HelpTopic::Web => "web",
         HelpTopic::Help => "help",
         HelpTopic::Version => "version",
     }
@@ -220,6 +237,7 @@ pub(crate) fn topic_named(name: &str) -> Option<HelpTopic>
         "tell" => Some(HelpTopic::Tell),
         "term" => Some(HelpTopic::Term),
         "operate" => Some(HelpTopic::Operate),
+        "web" => Some(HelpTopic::Web),
         "help" => Some(HelpTopic::Help),
         "version" => Some(HelpTopic::Version),
         _ => None,

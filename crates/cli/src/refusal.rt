@@ -11,7 +11,8 @@ use clap::ArgMatches;
 use clap::error::ErrorKind;
 use job_streams::Sink;
 use jobs::{
-    HelpTopic, Port, ReplyTime, Seconds, ServicePort, TtySize, Turns, address_of, model_of,
+    HelpTopic, HostEndpoint, Port, ReplyTime, Seconds, ServicePort, SessionCount, TtySize, Turns,
+    address_of, model_of,
 };
 use std::alloc::Global;
 use std::fmt;
@@ -98,6 +99,8 @@ fn is_value(kind: ValueKind, word: &str) -> bool {
         ValueKind::Model => model_of(word).is_some(),
         ValueKind::ReplyTime => ReplyTime::read(word).is_some(),
         ValueKind::TtySize => TtySize::read(word).is_some(),
+        ValueKind::Host => HostEndpoint::read(word).is_some(),
+        ValueKind::Sessions => SessionCount::read(word).is_some(),
         ValueKind::Url | ValueKind::File | ValueKind::Flag | ValueKind::Operand => true,
     }
 }
@@ -105,6 +108,7 @@ fn is_value(kind: ValueKind, word: &str) -> bool {
 /// What a value of this kind must be, if an operator may well give another.
 fn need_of(kind: ValueKind) -> &'static str {
     match kind {
+        ValueKind::Host => ": a port is needed, or an IPv4 address, a colon and a port",
         ValueKind::Address => ": an IPv4 or IPv6 address is needed, or localhost",
         _ => "",
     }

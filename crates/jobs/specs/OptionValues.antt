@@ -8,6 +8,7 @@ use Rattle.std.specs.declared.net.ip_addr.IpAddr.TheVariants as ip
 use Rattle.codes3270.specs.declared.size.Model.{Model}
 use Rattle.codes3270.specs.declared.size.Model.TheVariants.{M2, M3, M4, M5}
 use Rattle.jobs.specs.LineParts.{number_of}
+use Rattle.jobs.specs.declared.endpoint.HostEndpoint.{HostEndpoint}
 use Rattle.jobs.specs.declared.tty_size.TtySize.{TtySize}
 
 -- the number from `low` to `high` that a word has in decimal digits; None if it has none
@@ -65,6 +66,22 @@ written_address word =
 abbrev pub address_of : List ℕ → Option IpAddr
 address_of word = if bytes_eq word (codes "localhost") then Some this_machine else written_address word
 
+-- the most sessions of `web`
+abbrev pub session_count_of : List ℕ → Option ℕ
+session_count_of word = number_in_word 1 64 word
+
+abbrev pub is_colon : ℕ → Bool
+is_colon char = char == 58
+
+-- the host that a word names: a port of this machine, or an address, a colon and a port
+abbrev pub endpoint_of : List ℕ → Option HostEndpoint
+endpoint_of word =
+    if bytes_eq (after_first is_colon word) []
+    then option_map (λ port. record { host = this_machine; port = port }) (service_port_of word)
+    else option_and_then
+    (λ host. option_map (λ port. record { host = host; port = port }) (service_port_of (after_first is_colon word)))
+    (address_of (before_first is_colon word))
+
 -- the letter between rows and columns
 abbrev pub is_x : ℕ → Bool
 is_x char = char == 120
@@ -102,3 +119,9 @@ usual_idle = 0
 
 abbrev pub usual_drain : ℕ
 usual_drain = 0
+
+abbrev pub usual_sessions : ℕ
+usual_sessions = 64
+
+abbrev pub usual_keep : ℕ
+usual_keep = 120

@@ -2,7 +2,8 @@
 ghost use Rattle.std.specs.Prelude.{◌≡◌};
 ghost use Rattle.jobs.specs.OptionValues.{model_numbered, model_of};
 
-use crate::number::{Port, ServicePort, Turns};
+use crate::endpoint::HostEndpoint;
+use crate::number::{Port, Seconds, ServicePort, SessionCount, Turns};
 use crate::service::{ApplicationChoice, ControlChoice, Service};
 use crate::tty_size::TtySize;
 use crate::word::number_of;
@@ -75,6 +76,7 @@ pub enum HelpTopic {
     Tell,
     Term,
     Operate,
+    Web,
     Help,
     Version,
 }
@@ -102,6 +104,23 @@ pub struct OperateOptions {
     pub model: Model,
     /// The size of the tty, which is then known to be in raw mode; None if it isn't known that there is such a tty.
     pub tty: Option<TtySize>,
+}
+
+/// The options of `web`: where it listens, the host, and the bounds of its sessions.
+#[derive(Debug, Drop)]
+pub struct WebOptions<'a> {
+    /// The address that it listens on.
+    pub listen: IpAddr,
+    /// The port that it listens on.
+    pub port: ServicePort,
+    /// The host to which each session is connected.
+    pub host: HostEndpoint,
+    /// The origin of the page behind a proxy; None if there is no proxy.
+    pub origin: Option<Operand<'a>>,
+    /// The most sessions at one time.
+    pub sessions: SessionCount,
+    /// How long a session without a page is kept, in seconds.
+    pub keep: Seconds,
 }
 
 /// A job of the program.
@@ -148,6 +167,8 @@ pub enum Job<'a> {
     },
     /// Runs a terminal at a host, for an operator at a tty.
     Operate(OperateOptions),
+    /// Serves a page that is a terminal at a host, to browsers, without end.
+    Web(WebOptions<'a>),
     /// Prints help.
     Help(HelpTopic),
     /// Prints the program's version.

@@ -6,6 +6,7 @@
 //! [`bytes_of_line`] reads a line of `show`. `specs/LineParts` and `specs/HexLines` define their results.
 #![tactic(auto)]
 
+mod endpoint;
 mod hex_line;
 mod job;
 mod number;
@@ -13,9 +14,12 @@ mod service;
 mod tty_size;
 mod word;
 
+pub use endpoint::HostEndpoint;
 pub use hex_line::bytes_of_line;
-pub use job::{CommandWords, HelpTopic, Job, Operand, OperateOptions, model_of};
-pub use number::{BoundedU16, BoundedU32, Port, ReplyTime, Seconds, ServicePort, Turns};
+pub use job::{CommandWords, HelpTopic, Job, Operand, OperateOptions, WebOptions, model_of};
+pub use number::{
+    BoundedU16, BoundedU32, Port, ReplyTime, Seconds, ServicePort, SessionCount, Turns,
+};
 pub use service::{ApplicationChoice, ControlChoice, Service, TimeLimits, address_of};
 pub use tty_size::TtySize;
 pub use word::{behind, number_of};

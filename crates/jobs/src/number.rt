@@ -44,6 +44,14 @@ impl<const LOW: u16, const HIGH: u16> BoundedU16<LOW, HIGH> {
         let BoundedU16 { number } = self;
         number
     }
+
+    /// This number.
+    pub fn of(number: u16) -> BoundedU16<LOW, HIGH>
+        requires { (LOW ≤ number) × (number ≤ HIGH) }
+        ensures { result ≡ number }
+    {
+        BoundedU16 { number }
+    }
 }
 
 /// A number in `LOW..=HIGH`. Contracts see the number.
@@ -106,6 +114,9 @@ pub type Seconds = BoundedU32<0, 1_000_000>;
 
 /// How long an application may take for a reply, in seconds, 1 to 3,600.
 pub type ReplyTime = BoundedU32<1, 3_600>;
+
+/// The most sessions of `web`, 1 to 64.
+pub type SessionCount = BoundedU16<1, 64>;
 
 /// A number of turns, 1 to 1,000,000.
 pub type Turns = BoundedU32<1, 1_000_000>;

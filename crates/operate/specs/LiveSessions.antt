@@ -95,6 +95,32 @@ module _ {S K T : Type 0} where
     pub types : Types typed old.live new.live
     pub rest : new ≡ record old { live = new.live }
 
+  -- holds for a turn of the live terminal, whose drawing is appended to other bytes
+  pub record Draws (came typed : List ℕ) (old new : Session S K T) (drawn_old drawn_new : List ℕ) : Type 0 where
+    pub turned : TakesTurn came typed old.live new.live drawn_old drawn_new
+    pub rest : new ≡ record old { live = new.live; stale = false }
+
+  -- holds for the effect of the bytes received and the bytes typed, if the caller takes the drawing
+  abbrev pub TakesBytes : (came typed : List ℕ) → (old new : Session S K T) → (drawn_old drawn_new : List ℕ) → Type 0
+  TakesBytes came typed old new drawn_old drawn_new =
+      ((is_quiet came typed old.stale ≡ true) × Rests typed old new × (drawn_new ≡ drawn_old))
+      ⊎ ((is_quiet came typed old.stale ≡ false) × Draws came typed old new drawn_old drawn_new)
+
+  -- Holds for a turn in which these bytes were typed: the connection is read once, the bytes are taken, the drawing is
+  -- appended to other bytes, and the output is written to the connection once.
+  pub record TakesTurnTyped (gave : S → ℕ → List ℕ → Result ℕ Error → S → Type 0)
+      (took : S → List ℕ → Result ℕ Error → S → Type 0) (typed : List ℕ) (old new : Session S K T)
+      (drawn_old drawn_new : List ℕ) : Type 0 where
+    pub came : List ℕ
+    pub heard : Session S K T
+    pub hears : ReadsHost gave came old heard
+    pub taken : Session S K T
+    pub takes : TakesBytes came typed heard taken drawn_old drawn_new
+    pub sent : Session S K T
+    pub moved : Bool
+    pub sends : SendsOver took taken sent moved
+    pub noted : new ≡ record sent { was_bound = sent.was_bound || is_bound (phase_of sent.live.seat.terminal.link) }
+
   module _ (seen : T → Output) where
     -- holds if all bytes to be drawn are written to the tty
     pub record WritesTty (old new : Session S K T) : Type 0 where

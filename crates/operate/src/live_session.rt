@@ -2,7 +2,7 @@
 ghost use Rattle.std.specs.Prelude.{◌≡◌, ◌≤◌, ◌||◌, IfOk, OnOk, length, take};
 ghost use Rattle.term_core.specs.State.{is_bound, phase_of};
 ghost use Rattle.job_streams.specs.Counting.{chunk_size};
-ghost use Rattle.operate.specs.LiveSessions.{AfterRead, Loses, ReadsHost, ReadsKeys, Rests, SendsOnce, SendsOver, TakesInput, TakesTurnOver, Works, WritesTty, got_count, is_quiet};
+ghost use Rattle.operate.specs.LiveSessions.{AfterRead, Draws, Loses, ReadsHost, ReadsKeys, Rests, SendsOnce, SendsOver, TakesBytes, TakesInput, TakesTurnOver, TakesTurnTyped, Works, WritesTty, got_count, is_quiet};
 ghost use Rattle.host_core.specs.Serves.{GotWithin, bytes_got};
 ghost use Rattle.socket_links.specs.Sockets.{Gives};
 
@@ -102,7 +102,7 @@ fn is_quiet(came: &[u8], typed: &[u8], stale: bool) -> bool
     came.is_empty() && typed.is_empty() && !stale
 }
 
-impl<S: RawRead + RawWrite + Drop, K: Source + Drop, T: Sink + Drop> OperatorSession<S, K, T> {
+impl<S: RawRead + RawWrite + Drop, K: Drop, T: Drop> OperatorSession<S, K, T> {
     /// A terminal of a model without a connection, at a tty of this size. An error if memory is refused.
     pub fn new(
         alloc: Global,
@@ -173,6 +173,101 @@ impl<S: RawRead + RawWrite + Drop, K: Source + Drop, T: Sink + Drop> OperatorSes
         send(&mut self.live, &mut self.socket)
     }
 
+    /// Takes the typed bytes, and draws nothing.
+    fn rest(&mut self, typed: &[u8]) -> Result<(), Fault>
+        ensures { OnOk result (Rests typed.now self.old self.new) }
+    {
+        self.live.take_typed(typed)?;
+        Ok(())
+    }
+
+    /// A fault if the host rejected the terminal's request for an LU, or if the terminal closed the connection.
+    fn check_phase(&mut self) -> Result<(), Fault>
+        ensures { OnOk result (self.new ≡ record self.old {
+          was_bound = self.old.was_bound || is_bound (phase_of self.old.live.seat.terminal.link);
+        }) }
+    {
+        let phase = self.live.phase();
+        self.was_bound |= phase.is_bound();
+        match phase {
+            TermPhase::Refused(reason) => Err(Fault::Live(LiveFault::LuRefused(reason))),
+            TermPhase::Closed(cause) => Err(Fault::Live(LiveFault::Closed(cause))),
+            TermPhase::Bound(_) => Ok(()),
+            TermPhase::Idle => Ok(()),
+            TermPhase::Talking => Ok(()),
+        }
+    }
+
+    /// Takes a turn of the live terminal, and appends what draws it.
+    fn draw(
+        &mut self,
+        alloc: Global,
+        came: &[u8],
+        typed: &[u8],
+        drawn: &mut Vec<u8>,
+    ) -> Result<(), Fault>
+        ensures { OnOk result
+            (Draws came.now typed.now self.old self.new drawn.old.items drawn.new.items) }
+    {
+        self.live.turn(alloc, came, typed, drawn)?;
+        self.stale = false;
+        Ok(())
+    }
+
+    /// Takes the bytes received and those typed, and appends what draws the screen, unless nothing happened.
+    fn take_bytes(
+        &mut self,
+        alloc: Global,
+        came: &[u8],
+        typed: &[u8],
+        drawn: &mut Vec<u8>,
+    ) -> Result<(), Fault>
+        ensures { OnOk result
+            (TakesBytes came.now typed.now self.old self.new drawn.old.items drawn.new.items) }
+    {
+        if is_quiet(came, typed, self.stale) {
+            self.rest(typed)
+        } else {
+            self.draw(alloc, came, typed, drawn)
+        }
+    }
+
+    /// One turn as [`turn`](OperatorSession::turn) in which these bytes were typed, and in which what draws the screen
+    /// is appended to `drawn`: the session's own keys and tty aren't used. Faults are those of the connection and of
+    /// memory.
+    pub fn turn_typed(
+        &mut self,
+        alloc: Global,
+        typed: &[u8],
+        drawn: &mut Vec<u8>,
+    ) -> Result<bool, Fault>
+        ensures { OnOk result (TakesTurnTyped S.read_gave S.write_took typed.now self.old self.new
+            drawn.old.items drawn.new.items) }
+    {
+        let mut came = [0; CHUNK];
+        let came_count = self.read_host(&mut came)?;
+        self.take_bytes(alloc, &came[..came_count], typed, drawn)?;
+        let sent = self.send();
+        self.check_phase()?;
+        Ok((came_count > 0) | sent)
+    }
+
+    /// The phase of the terminal's connection.
+    pub fn phase(&self) -> TermPhase
+        ensures { result ≡ phase_of self.now.live.seat.terminal.link }
+    {
+        self.live.phase()
+    }
+
+    /// What the operator has asked for since the last call of this function.
+    pub fn take_asked(&mut self) -> OperatorRequest
+        ensures asked { result ≡ self.old.live.seat.asks }
+    {
+        self.live.take_asked()
+    }
+}
+
+impl<S: RawRead + RawWrite + Drop, K: Source + Drop, T: Sink + Drop> OperatorSession<S, K, T> {
     /// Reads the tty once. Answers how many bytes were typed: 0 if no key was pressed, since the tty is in raw mode.
     fn read_keys(&mut self, typed: &mut [u8]) -> Result<usize, Fault>
         requires { length typed.old ≡ chunk_size }
@@ -208,14 +303,6 @@ impl<S: RawRead + RawWrite + Drop, K: Source + Drop, T: Sink + Drop> OperatorSes
         }
     }
 
-    /// Takes the typed bytes, and draws nothing.
-    fn rest(&mut self, typed: &[u8]) -> Result<(), Fault>
-        ensures { OnOk result (Rests typed.now self.old self.new) }
-    {
-        self.live.take_typed(typed)?;
-        Ok(())
-    }
-
     /// Takes a turn of the live terminal, and writes to the tty.
     fn work(&mut self, alloc: Global, came: &[u8], typed: &[u8]) -> Result<(), Fault>
         ensures { OnOk result (Works T.seen came.now typed.now self.old self.new) }
@@ -223,23 +310,6 @@ impl<S: RawRead + RawWrite + Drop, K: Source + Drop, T: Sink + Drop> OperatorSes
         self.live.turn(alloc, came, typed, &mut self.drawn)?;
         self.stale = false;
         self.write_tty()
-    }
-
-    /// A fault if the host rejected the terminal's request for an LU, or if the terminal closed the connection.
-    fn check_phase(&mut self) -> Result<(), Fault>
-        ensures { OnOk result (self.new ≡ record self.old {
-          was_bound = self.old.was_bound || is_bound (phase_of self.old.live.seat.terminal.link);
-        }) }
-    {
-        let phase = self.live.phase();
-        self.was_bound |= phase.is_bound();
-        match phase {
-            TermPhase::Refused(reason) => Err(Fault::Live(LiveFault::LuRefused(reason))),
-            TermPhase::Closed(cause) => Err(Fault::Live(LiveFault::Closed(cause))),
-            TermPhase::Bound(_) => Ok(()),
-            TermPhase::Idle => Ok(()),
-            TermPhase::Talking => Ok(()),
-        }
     }
 
     /// One turn: reads the connection and the tty once, hands the bytes to the terminal, writes the screen to the tty
@@ -260,11 +330,6 @@ impl<S: RawRead + RawWrite + Drop, K: Source + Drop, T: Sink + Drop> OperatorSes
         let sent = self.send();
         self.check_phase()?;
         Ok((came_count > 0) | sent)
-    }
-
-    /// What the operator has asked for since the last call of this function.
-    pub fn take_asked(&mut self) -> OperatorRequest {
-        self.live.take_asked()
     }
 }
 

@@ -20,6 +20,7 @@ use std::io::{self, ErrorKind, IsTerminal, Stdout};
 use std::process::ExitCode;
 use std::sync::Wait;
 use tell::run_tell;
+use web::run_web;
 
 /// The name of the standard input in reports.
 const STANDARD_INPUT: &str = "standard input";
@@ -165,6 +166,7 @@ fn do_job<T: Iterator<Item = ()>>(rt: &HostRuntime, turns: T, job: Job<'_>) -> u
             run_term(rt, port, model, lu, &mut input, &mut out, &mut faults)
         }
         Job::Operate(options) => operate(rt, &options),
+        Job::Web(options) => run_web(rt, alloc, turns, &options, &mut faults),
         Job::Help(topic) => run_help(topic, &mut open_ended(rt), &mut faults),
         Job::Version => run_version(&mut open_ended(rt), &mut faults),
     }

@@ -1,0 +1,3 @@
+pub mod Crowds
+pub mod Links
+pub mod Pages

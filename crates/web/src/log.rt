@@ -1,0 +1,95 @@
+//! The log of a server of pages.
+use jiff::Timestamp;
+use job_streams::Sink;
+use std::alloc::{AllocError, Global};
+use std::fmt;
+use std::net::SocketAddr;
+use std::time::Clock;
+use tn3270e_msg::Lu;
+
+/// What is logged. It prints as the words of its line, without the time. Nothing of it was typed or is on a screen.
+#[derive(Clone, Copy)]
+pub(crate) enum WebEvent {
+    /// A client is dropped, since 16 have no session.
+    TurnedAway(SocketAddr),
+    /// A client is refused, for the reason that this word names.
+    Refused(SocketAddr, &'static str),
+    /// A session begins, for a client at this address.
+    Opened(u64, SocketAddr),
+    /// A session is connected to the host, from this port.
+    Connected(u64, u16),
+    /// A session's terminal is bound to an LU.
+    Bound(u64, Lu),
+    /// A session has lost its page, for the reason that this word names, and is kept.
+    PageLost(u64, &'static str),
+    /// A page at this address resumes a session.
+    Resumed(u64, SocketAddr),
+    /// A session has ended, for the reason that this word names.
+    Ended(u64, &'static str),
+}
+
+impl fmt::Display for WebEvent {
+    fn fmt<W: fmt::Write>(&self, f: &mut fmt::Formatter<W>) -> fmt::Result {
+        match self {
+            WebEvent::TurnedAway(peer) => write!(f, "peer={peer} event=turned-away"),
+            WebEvent::Refused(peer, reason) => {
+                write!(f, "peer={peer} event=refused reason={reason}")
+            }
+            WebEvent::Opened(session, peer) => {
+                write!(f, "session={session} event=opened peer={peer}")
+            }
+            WebEvent::Connected(session, port) => {
+                write!(f, "session={session} event=connected port={port}")
+            }
+            WebEvent::Bound(session, lu) => write!(f, "session={session} event=bound lu={lu}"),
+            WebEvent::PageLost(session, reason) => {
+                write!(f, "session={session} event=page-lost reason={reason}")
+            }
+            WebEvent::Resumed(session, peer) => {
+                write!(f, "session={session} event=resumed peer={peer}")
+            }
+            WebEvent::Ended(session, reason) => {
+                write!(f, "session={session} event=ended reason={reason}")
+            }
+        }
+    }
+}
+
+/// What is told the events of a server.
+pub(crate) trait EventLog {
+    /// Takes down an event.
+    fn note(&mut self, event: &WebEvent);
+}
+
+/// Writes each event as a line that begins with the time. A line that can't be written, or for which memory is refused,
+/// is left out.
+#[derive(Drop)]
+pub(crate) struct WebLog<'a, C, E> {
+    /// The clock for the time of each line.
+    pub(crate) clock: &'a C,
+    /// The allocator for each line.
+    pub(crate) alloc: Global,
+    /// Where the lines are written.
+    pub(crate) lines: &'a mut E,
+}
+
+impl<C: Clock, E: Sink> WebLog<'_, C, E> {
+    /// The line of an event: first the time in UTC, in whole seconds (RFC 3339); `unknown` if the clock fails.
+    fn line(&self, event: &WebEvent) -> Result<String, AllocError> {
+        match Timestamp::now(self.clock) {
+            Ok(now) => format!(in self.alloc; "time={now:.0} {event}\n"),
+            Err(_) => format!(in self.alloc; "time=unknown {event}\n"),
+        }
+    }
+}
+
+impl<C: Clock, E: Sink> EventLog for WebLog<'_, C, E> {
+    fn note(&mut self, event: &WebEvent) {
+        match self.line(event) {
+            Ok(line) => {
+                let _ = self.lines.write_all(line.as_bytes());
+            }
+            Err(_) => {}
+        }
+    }
+}

@@ -1,0 +1,173 @@
+//! A client that has no session yet: it sends a request, or has begun a WebSocket and not opened a session.
+ghost use Rattle.std.specs.Prelude.{◌≡◌, IfOk, IfSome, option_map};
+ghost use Rattle.web_wire.specs.Heads.{IsAnswerTo, with_more};
+ghost use Rattle.web_wire.specs.Responses.{response};
+
+use crate::page_link::{PageLink, write_front};
+use codes3270::Model;
+use host_core::{LinkRead, LinkWrite};
+use job_streams::{CHUNK, RawRead, RawWrite};
+use socket_links::read_once;
+use std::alloc::{AllocError, Global};
+use std::net::SocketAddr;
+use tn3270e_msg::Lu;
+use web_wire::{
+    Answer, Closing, HeadReader, HttpStatus, Opening, PageParts, Received, Site, response_of,
+};
+
+/// An answer, and the bytes of the response.
+#[derive(Drop)]
+pub(crate) struct Response {
+    pub(crate) answer: Answer,
+    pub(crate) bytes: Vec<u8>,
+}
+
+/// Takes received bytes of a request, and returns the response to all bytes so far; None if the head isn't complete. An
+/// error if memory is refused.
+fn respond(
+    alloc: Global,
+    site: &Site,
+    page: PageParts<'_>,
+    head: &mut HeadReader,
+    bytes: &[u8],
+) -> Result<Option<Response>, AllocError>
+    ensures taken { IfOk result (λ _. head.new ≡ with_more head.old bytes.now) }
+    ensures answer { IfOk result
+        (λ found. IsAnswerTo site.now head.new (option_map (λ response. response.answer) found)) }
+    ensures response { IfOk result
+        (λ found. IfSome found (λ it. it.bytes.items ≡ response it.answer page.entry)) }
+{
+    match head.take(site, bytes)? {
+        Some(answer) => Ok(Some(Response {
+            answer,
+            bytes: response_of(alloc, answer, page)?,
+        })),
+        None => Ok(None),
+    }
+}
+
+/// What a turn of a client was.
+#[derive(Drop)]
+pub(crate) enum Visit {
+    /// The client goes on. `moved`: a byte was read or written.
+    Going { moved: bool },
+    /// The request has another answer than a handshake: its response.
+    Answered(HttpStatus, Vec<u8>),
+    /// The first message asks for a session of this model, for this LU if it names one.
+    Opened(Model, Option<Lu>),
+    /// The first message has a token with these bytes, to resume a session.
+    Resumed([u8; 16]),
+    /// The WebSocket is closed, for this reason.
+    Closed(Closing),
+    /// Its time is over.
+    Late,
+    /// The socket has ended or failed, or memory is refused.
+    Gone,
+}
+
+/// What a first message asks for.
+fn asked_by(opening: Opening) -> Visit {
+    match opening {
+        Opening::New(model, lu) => Visit::Opened(model, lu),
+        Opening::Resume(token) => Visit::Resumed(*token.as_bytes()),
+    }
+}
+
+/// A client without a session.
+#[derive(Drop)]
+pub(crate) struct Visitor<B> {
+    link: PageLink<B>,
+    /// The address of the client.
+    pub(crate) peer: SocketAddr,
+    /// When it connected, in milliseconds of the server's time.
+    pub(crate) began: u64,
+    /// The request so far; None once it is answered.
+    head: Option<HeadReader>,
+    /// What is left of the response that accepts the handshake.
+    response: Vec<u8>,
+}
+
+impl<B: RawRead + RawWrite + Drop> Visitor<B> {
+    /// A client that has just connected.
+    pub(crate) fn new(alloc: Global, socket: B, peer: SocketAddr, began: u64) -> Visitor<B> {
+        Visitor {
+            link: PageLink::new(alloc, socket),
+            peer,
+            began,
+            head: Some(HeadReader::new(alloc)),
+            response: Vec::new(alloc),
+        }
+    }
+
+    /// Its page.
+    pub(crate) fn into_link(self) -> PageLink<B> {
+        self.link
+    }
+
+    /// One turn: reads or writes once.
+    pub(crate) fn turn(&mut self, alloc: Global, site: &Site, page: PageParts<'_>) -> Visit {
+        if self.head.is_some() {
+            return self.read_head(alloc, site, page);
+        }
+        if !self.response.is_empty() {
+            return self.accept();
+        }
+        self.read_opening(alloc)
+    }
+
+    /// Reads once, and answers the request if its head is complete.
+    fn read_head(&mut self, alloc: Global, site: &Site, page: PageParts<'_>) -> Visit {
+        let mut came = [0; CHUNK];
+        let count = match read_once(self.link.socket_mut(), &mut came) {
+            LinkRead::Got(count) => count,
+            LinkRead::NotNow => return Visit::Going { moved: false },
+            LinkRead::Ended | LinkRead::Failed => return Visit::Gone,
+        };
+        let Some(head) = &mut self.head else {
+            return Visit::Gone;
+        };
+        match respond(alloc, site, page, head, &came[..count]) {
+            Ok(None) => Visit::Going { moved: true },
+            Ok(
+                Some(
+                    Response {
+                        answer: Answer::Status(status),
+                        bytes,
+                    },
+                ),
+            ) => Visit::Answered(status, bytes),
+            Ok(Some(Response { bytes, .. })) => {
+                self.head = None;
+                self.response = bytes;
+                self.accept()
+            }
+            Err(_) => Visit::Gone,
+        }
+    }
+
+    /// Writes the rest of the response that accepts the handshake once.
+    fn accept(&mut self) -> Visit {
+        match write_front(self.link.socket_mut(), &mut self.response) {
+            LinkWrite::Took(_) => Visit::Going { moved: true },
+            LinkWrite::NotNow => Visit::Going { moved: false },
+            LinkWrite::Failed => Visit::Gone,
+        }
+    }
+
+    /// Reads the first message, once it is complete.
+    fn read_opening(&mut self, alloc: Global) -> Visit {
+        let came = self.link.receive();
+        if matches!(came, LinkRead::Ended | LinkRead::Failed) {
+            return Visit::Gone;
+        }
+        self.link.send();
+        match self.link.read_frame(&mut Vec::new(alloc)) {
+            Received::Opened(opening) => asked_by(opening),
+            Received::Closed(closing) => Visit::Closed(closing),
+            Received::Waiting => Visit::Going {
+                moved: matches!(came, LinkRead::Got(_)),
+            },
+            Received::Handled | Received::Keys | Received::Pong => Visit::Going { moved: true },
+        }
+    }
+}

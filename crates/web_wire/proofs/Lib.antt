@@ -1,0 +1,5 @@
+pub mod OpenEffects
+pub mod Messages
+pub mod SocketLemmas
+pub mod Steps
+pub mod HeadLemmas

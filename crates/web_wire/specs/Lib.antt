@@ -1,0 +1,9 @@
+pub mod Origins
+pub mod Heads
+pub mod Responses
+pub mod Openings
+pub mod Notices
+pub mod Frames
+pub mod Sockets
+pub mod Steps
+pub mod Laws

@@ -1,0 +1,412 @@
+"""`web`: what it answers a browser, and what a hostile client gains: nothing, and nobody else notices.
+
+The requests are spelt by RFC 9112, the frames by RFC 6455; the limits are requirements: a head of
+8,192 bytes and 64 fields, 16 clients without a session for 5 seconds each, messages of 4,096 bytes,
+a ping every 25 seconds, and a minute of silence.
+"""
+import contextlib
+import re
+import socket
+import subprocess
+import tempfile
+import time
+
+from harness import programs
+from harness.browser import BINARY, CLOSE, PING, PONG, TEXT, Page, get, handshake, requested
+from harness.case import Checks, Difference, expect
+from harness.hosts import LOCALHOST, Server, free_port, run, until
+from harness.tty import BANK, Screen
+
+THREADS = 8
+LONG = True
+check = Checks()
+cases = check.cases
+ORIGIN = "https://terminals.bank.example"
+SIGN_ON = b"4711\tsecret\r"
+REDRAW, QUIT = b"\x0c", b"\x1d"
+
+
+class Web:
+    """A `web` beside a host."""
+
+    def __init__(self, *words, text=None):
+        self.host = Server("serve", text=text or BANK.read_bytes())
+        self.port, self.log = free_port(), tempfile.TemporaryFile()
+        words = ["web", "--port", str(self.port), "--connect", str(self.host.port), *words]
+        self.process = subprocess.Popen(
+            [programs.panel3270(), *words], stdin=subprocess.DEVNULL, stderr=self.log
+        )
+        until("web answers", self.answers)
+
+    def answers(self):
+        with contextlib.suppress(OSError):
+            return requested(self.port, get(self.port))[0] == 200
+        return False
+
+    def __enter__(self):
+        return self
+
+    def __exit__(self, *_):
+        self.process.kill()
+        self.process.wait()
+        self.host.__exit__()
+
+    def page(self, words="open 2", **fields):
+        page = Page(self.port, **fields)
+        page.send(TEXT, words.encode())
+        return page
+
+    def logged(self):
+        self.log.seek(0)
+        return self.log.read().decode()
+
+    def logs(self, words):
+        """Waits for a line of the log that ends with these words."""
+        until(f"a line {words}", lambda: any(it.endswith(words) for it in self.logged().splitlines()))
+
+
+def screen_of(page, shows, rows=25, columns=80):
+    """The tty of a page once it shows this text."""
+    screen, rest = Screen(rows, columns), b""
+    for opcode, payload in page.messages():
+        if opcode == TEXT and payload.startswith(b"size "):
+            screen = Screen(*map(int, payload.split()[1:]))
+        if opcode == BINARY:
+            rest += payload
+            rest = rest[screen.takes(rest) :]
+        if shows in screen.text():
+            return screen
+    raise Difference(f"a screen with {shows}", "the end")
+
+
+# ---- heads
+
+def heads(port):
+    """Requests, and the status of each; None is the handshake's 101."""
+    host = f"{LOCALHOST}:{port}"
+    own = f"http://{host}"
+    return {
+        "the page": (get(port), 200),
+        "the page at localhost": (get(port, Host=f"localhost:{port}"), 200),
+        "no host": (get(port, Host=None), 400),
+        "two hosts": (get(port, Host=[host, host]), 400),
+        "another host": (get(port, Host="attacker.example"), 403),
+        "the host without its port": (get(port, Host=LOCALHOST), 403),
+        "a longer host": (get(port, Host=f"{host}0"), 403),
+        "another target": (get(port, "/index.html"), 404),
+        "POST": (get(port, method="POST"), 405),
+        "HEAD": (get(port, method="HEAD"), 405),
+        "no request": (b"GET / FTP/1.1\r\n\r\n", 400),
+        "64 fields": (get(port, **{f"X{n}": "1" for n in range(63)}), 200),
+        "65 fields": (get(port, **{f"X{n}": "1" for n in range(64)}), 431),
+        "8,192 bytes without an end": (get(port, "/" + "a" * 8300)[:8192], 431),
+        "no origin": (handshake(port, Origin=None), 403),
+        "two origins": (handshake(port, Origin=[own, own]), 403),
+        "another origin": (handshake(port, Origin="http://attacker.example"), 403),
+        "an origin that begins like ours": (handshake(port, Origin=own + ".attacker.example"), 403),
+        "the origin null": (handshake(port, Origin="null"), 403),
+        "the other name's origin": (handshake(port, Origin=f"http://localhost:{port}"), 101),
+        "another version": (handshake(port, Sec_WebSocket_Version="8"), 426),
+        "no key": (handshake(port, Sec_WebSocket_Key=None), 400),
+        "a short key": (handshake(port, Sec_WebSocket_Key="c2hvcnQ="), 400),
+        "no upgrade": (handshake(port, Upgrade=None), 400),
+        "a handshake with bytes after it": (handshake(port) + b"\x89\x80abcd", 400),
+    }
+
+
+@check
+def heads_are_answered() -> None:
+    """Each head has its status."""
+    with Web() as web:
+        for name, (head, status) in heads(web.port).items():
+            if status != 101:
+                expect(name, requested(web.port, head)[0], status)
+
+
+@check
+def the_page_has_a_policy() -> None:
+    """The page's fields keep it from loading anything, from being framed and from being stored."""
+    with Web() as web:
+        _, fields, body = requested(web.port, get(web.port))
+    policy = fields["content-security-policy"]
+    expect("default", policy.startswith("default-src 'none'; "), True)
+    expect("frames", "frame-ancestors 'none'" in policy, True)
+    expect("unsafe", "unsafe" in policy, False)
+    expect("nosniff", fields["x-content-type-options"], "nosniff")
+    expect("store", fields["cache-control"], "no-store")
+    expect("length", int(fields["content-length"]), len(body))
+
+
+@check
+def another_origin_is_allowed() -> None:
+    """--origin allows the host and the origin of a proxy."""
+    with Web("--origin", ORIGIN) as web:
+        host = ORIGIN.partition("://")[2]
+        expect("its host", requested(web.port, get(web.port, Host=host))[0], 200)
+        web.page(Host=host, Origin=ORIGIN).close()
+
+
+@check
+def an_origin_is_served() -> None:
+    """The page is served at the origin of a proxy, and at no other."""
+    with Web("--origin", ORIGIN) as web:
+        fields = {"Host": "terminals.bank.example", "Origin": ORIGIN}
+        expect("the page", requested(web.port, get(web.port, Host=fields["Host"]))[0], 200)
+        screen_of(web.page(**fields), "TELLER")
+        other = handshake(web.port, **{**fields, "Origin": "https://bank.example"})
+        expect("another origin", requested(web.port, other)[0], 403)
+
+
+@check
+def wrong_words_are_refused() -> None:
+    """Words that name no host, origin or number of sessions end with status 2."""
+    for words, line in {
+        ("--connect", "3270", "--origin", "ftp://bank.example"): "--origin: the URL doesn't begin with",
+        ("--connect", "3270", "--origin", "bank.example"): "--origin: not a URL",
+        ("--connect", "3270", "--origin", "https://bank.example/x"): "--origin: the URL has more than",
+        ("--connect", "bank:3270"): "error: invalid value 'bank:3270' for '--connect'",
+        ("--connect", "127.0.0.1:"): "error: invalid value '127.0.0.1:' for '--connect'",
+        ("--connect", "3270", "--sessions", "65"): "error: invalid value '65' for '--sessions'",
+        ("--connect", "3270", "--sessions", "0"): "error: invalid value '0' for '--sessions'",
+    }.items():
+        status, _, faults = run(["web", "--port", str(free_port()), *words], b"")
+        expect("status", status, 2)
+        expect("line", faults.startswith(line), True)
+
+
+# ---- sessions
+
+@check
+def an_operator_signs_on() -> None:
+    """A page shows the host's panels, and a hidden field's characters are never sent to it."""
+    with Web() as web:
+        page = web.page()
+        screen_of(page, "TELLER")
+        came = []
+        receive = page.receive
+        page.receive = lambda: came.append(receive()) or came[-1]
+        page.keys(SIGN_ON)
+        screen_of(page, "TRANSFER OF FUNDS")
+        expect("hidden", any(b"s" in it or b"ecret" in it for op, it in came[:3]), False)
+        web.logs("event=bound lu=BANK01")
+        expect("log", [it for it in ("4711", "secret", "TELLER") if it in web.logged()], [])
+
+
+@check
+def keys_are_cut_anywhere() -> None:
+    """Keys in single bytes, and in fragments with pings between them, are the same keys."""
+    with Web() as web:
+        page = web.page()
+        screen_of(page, "TELLER")
+        for byte in b"47":
+            page.keys(bytes([byte]))
+        page.send(BINARY, b"1", final=False)
+        page.send(PING, b"now")
+        page.send(0, b"1\tsecret\r")
+        screen_of(page, "TRANSFER OF FUNDS")
+
+
+@check
+def models_have_their_sizes() -> None:
+    """A page is told the alternate size of its model and one row more; it asks for its LU."""
+    with Web() as web:
+        for model, size in {2: "25 80", 3: "33 80", 4: "44 80", 5: "28 132"}.items():
+            page = web.page(f"open {model} BANK0{model - 1}")
+            expect(f"model {model}", page.told("size"), size)
+            rows, columns = map(int, size.split())
+            screen_of(page, f"BANK0{model - 1}", rows, columns)
+
+
+# Frames after the first message, and the code of the close that answers them (section 7.4.1).
+FRAMES = {
+    "a frame without a mask": (dict(opcode=BINARY, payload=b"a", mask=b""), 1002),
+    "a reserved opcode": (dict(opcode=3), 1002),
+    "a continuation of nothing": (dict(opcode=0), 1002),
+    "a ping in fragments": (dict(opcode=PING, final=False), 1002),
+    "a ping of 126 bytes": (dict(opcode=PING, payload=bytes(126)), 1002),
+    "a message of 4,097 bytes": (dict(opcode=BINARY, payload=bytes(4097)), 1009),
+    "a text": (dict(opcode=TEXT, payload=b"open 2"), 1003),
+    "a text that isn't UTF-8": (dict(opcode=TEXT, payload=b"\xff"), 1007),
+    "a close": (dict(opcode=CLOSE, payload=b"\x03\xe8"), 1000),
+}
+
+
+@check
+def broken_rules_close() -> None:
+    """A frame that breaks a rule closes its WebSocket with its code, and no other."""
+    with Web("--keep", "0") as web:
+        other = web.page()
+        screen_of(other, "TELLER")
+        for name, (how, code) in FRAMES.items():
+            page = web.page()
+            screen_of(page, "TELLER")
+            page.send(**how)
+            expect(name, page.closing(), code)
+        other.keys(b"4")
+        screen_of(other, "4")
+
+
+@check
+def first_messages_are_checked() -> None:
+    """A first message that opens nothing closes with 1008."""
+    with Web() as web:
+        for words in ("", "open", "open 6", "open 2 9LU", "open 2  BANK01", "hello", "resume x"):
+            expect(repr(words), web.page(words).closing(), 1008)
+        page = Page(web.port)
+        page.keys(b"\r")
+        expect("keys", page.closing(), 1008)
+
+
+@check
+def silent_clients_are_dropped() -> None:
+    """16 clients without a session keep others out for 5 seconds; a session doesn't notice."""
+    with Web() as web, contextlib.ExitStack() as stack:
+        page = web.page()
+        screen_of(page, "TELLER")
+        begin = time.monotonic()
+        idle = []
+        for place in range(16):
+            it = stack.enter_context(socket.create_connection((LOCALHOST, web.port)))
+            it.sendall(b"GET / HTTP/1.1\r\n" if place % 2 else handshake(web.port))
+            idle.append(it)
+        late = stack.enter_context(socket.create_connection((LOCALHOST, web.port)))
+        expect("the 17th", late.recv(4096), b"")
+        web.logs("event=turned-away")
+        page.keys(b"4")
+        screen_of(page, "4")
+        idle[1].settimeout(20)
+        expect("the end", idle[1].recv(4096), b"")
+        expect("in time", 4 < time.monotonic() - begin < 8, True)
+        until("the page", web.answers)
+
+
+@check
+def sessions_are_counted() -> None:
+    """The page after the last session is told so, and another's end makes room."""
+    with Web("--sessions", "1", "--keep", "0") as web:
+        page = web.page()
+        screen_of(page, "TELLER")
+        expect("the second", web.page().ending(), ("ended all sessions are in use", 1000))
+        page.close()
+        web.logs("event=ended reason=not-resumed")
+        screen_of(web.page(), "TELLER")
+
+
+@check
+def a_slow_page_waits_alone() -> None:
+    """A page that takes nothing has one drawing that waits; another goes on; and once it reads, it
+    shows what is there."""
+    with Web() as web:
+        slow, other = web.page(), web.page()
+        screen_of(slow, "TELLER")
+        slow.socket.settimeout(0.2)
+        sent = 0
+        with contextlib.suppress(TimeoutError):
+            for _ in range(20_000):
+                slow.keys(REDRAW * 4000)
+                sent += 1
+        expect("its keys wait", sent < 20_000, True)
+        screen_of(other, "TELLER")
+        other.keys(SIGN_ON)
+        screen_of(other, "TRANSFER OF FUNDS")
+        size = int(re.search(r"VmRSS:\s+(\d+)", open(f"/proc/{web.process.pid}/status").read())[1])
+        expect("memory below 64 MB", size < 65_536, True)
+        slow.socket.settimeout(60)
+        screen_of(slow, "TELLER")
+
+
+# ---- a reload, and a lost network
+
+@check
+def a_reload_resumes() -> None:
+    """The token of a session resumes it, with what was typed."""
+    with Web("--keep", "30") as web:
+        page = web.page()
+        token = page.told("token")
+        screen_of(page, "TELLER")
+        page.keys(b"4711")
+        screen_of(page, "4711")
+        page.close()
+        web.logs("event=page-lost reason=lost")
+        again = web.page("resume " + token)
+        screen_of(again, "4711")
+        stranger = web.page("resume " + "0" * 32)
+        expect("no session", stranger.ending(), ("ended it isn't kept any more", 1000))
+        again.keys(b"\tsecret\r")
+        screen_of(again, "TRANSFER OF FUNDS")
+
+
+@check
+def the_newer_page_wins() -> None:
+    """Of two pages with one token the newer has the session."""
+    with Web() as web:
+        older = web.page()
+        token = older.told("token")
+        screen_of(older, "TELLER")
+        newer = web.page("resume " + token)
+        screen_of(newer, "TELLER")
+        expect("the older", older.ending(), ("ended another page has resumed it", 1000))
+        newer.keys(b"4711")
+        screen_of(newer, "4711")
+
+
+@check
+def a_session_is_kept_for_its_time() -> None:
+    """After its time a session without a page has ended, and its LU is free."""
+    with Web("--keep", "2") as web:
+        page = web.page("open 2 BANK01")
+        token = page.told("token")
+        screen_of(page, "BANK01")
+        page.send(CLOSE, b"\x03\xe9")
+        web.logs("event=page-lost reason=closed")
+        begin = time.monotonic()
+        web.logs("event=ended reason=not-resumed")
+        expect("in time", 1 < time.monotonic() - begin < 4, True)
+        expect("gone", web.page("resume " + token).ending()[0], "ended it isn't kept any more")
+        screen_of(web.page("open 2 BANK01"), "BANK01")
+
+
+@check
+def pages_are_pinged() -> None:
+    """A page gets a ping every 25 seconds, and one that answers none is dropped after a minute."""
+    with Web() as web:
+        deaf, there = web.page(), web.page()
+        begin = time.monotonic()
+        there.socket.settimeout(40)
+        while there.receive()[0] != PING:
+            pass
+        expect("the ping in time", 24 < time.monotonic() - begin < 28, True)
+        there.send(PONG)
+        until_silent = begin + 70
+        while "reason=silent" not in web.logged():
+            if time.monotonic() > until_silent:
+                raise Difference("a page that is dropped", web.logged())
+            time.sleep(0.2)
+        expect("the end in time", 58 < time.monotonic() - begin, True)
+        expect("only one", web.logged().count("event=page-lost"), 1)
+        deaf.close()
+        there.keys(b"4")
+        screen_of(there, "4")
+
+
+# ---- ends
+
+@check
+def ends_are_told() -> None:
+    """A page is told why its session has ended: its operator's key, an LU, and the host's end."""
+    with Web() as web:
+        page = web.page()
+        screen_of(page, "TELLER")
+        page.keys(QUIT)
+        expect("a key", page.ending(), ("ended it was ended by a key", 1000))
+        refused = web.page("open 2 OTHER01").ending()
+        expect("an LU", refused[0].startswith("ended the host refused an LU: "), True)
+        page = web.page()
+        screen_of(page, "TELLER")
+        web.host.__exit__()
+        expect("the host", page.ending(), ("ended the host ended the connection", 1000))
+        last = web.page().ending()[0]
+        address = f"{LOCALHOST}:{web.host.port}"
+        expect("no host", last, f"ended cannot connect to {address}: connection refused")
+        for word in ("operator", "lu-refused", "host-ended", "cannot-connect"):
+            web.logs(f"reason={word}")
