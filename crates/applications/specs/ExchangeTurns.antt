@@ -247,12 +247,12 @@ module _ {A : Type 0} (answered : AnswerCall A) (reported : FaultCall A) where
           → Shows old conn ticket answer reply result new
 
     -- Holds for the end of an exchange: by a reply, given the panel of its question, or by a fault.
-    pub data Ends (served : A → Panels → Type 0) (panel : ℕ) (old : A) (conn : ℕ) (ticket : Ticket)
+    pub data Ends (served : A → ℕ → Panels → Type 0) (panel : ℕ) (old : A) (conn : ℕ) (ticket : Ticket)
         (outcome : Result Reply ApplicationFault) (result : Result Bool Fault) (new : A) : Type 0 where
-      answers : (reply : Reply) (panels : Panels) (answer : Answer) → outcome ≡ Ok reply → served old panels
+      answers : (reply : Reply) (panels : Panels) (answer : Answer) → outcome ≡ Ok reply → served old conn panels
           → IsAnswerFor panels panel reply answer → Shows old conn ticket answer reply result new
           → Ends served panel old conn ticket outcome result new
-      refuses : (reply : Reply) (panels : Panels) (fault : AnswerFault) → outcome ≡ Ok reply → served old panels
+      refuses : (reply : Reply) (panels : Panels) (fault : AnswerFault) → outcome ≡ Ok reply → served old conn panels
           → IsAnswerFault panels panel reply fault → Fails old conn ticket (why.Answer fault) result new
           → Ends served panel old conn ticket outcome result new
       fails : (fault : ApplicationFault) → outcome ≡ Err fault → Fails old conn ticket fault result new
@@ -283,12 +283,12 @@ pub data CannotBegin {S : Type 0} (connected : Result S Error → Type 0) (reaso
   unconnected : (error : Error) → connected (Err error) → reason ≡ unconnected_by (error_kind error)
       → CannotBegin connected reason
 
-module _ {A : Type 0} (served : A → Panels → Type 0) (answered : AnswerCall A) (reported : FaultCall A) where
+module _ {A : Type 0} (served : A → ℕ → Panels → Type 0) (answered : AnswerCall A) (reported : FaultCall A) where
   -- Holds if an exchange for an open question begins, or fails at once.
   pub data AsksAbout {S : Type 0} (connected : ConnectCall A S) (written : Request → List ℕ) (boot now conn : ℕ)
       (query : Query) (old : A) (result : Result Bool Fault) (new : A) (after : Option (QuestionExchange S))
       : Type 0 where
-    begins : (asks : QuestionExchange S) → BeginsFor written boot now (served old) (connected old) query asks
+    begins : (asks : QuestionExchange S) → BeginsFor written boot now (served old conn) (connected old) query asks
         → after ≡ Some asks → new ≡ old → result ≡ Ok true
         → AsksAbout connected written boot now conn query old result new after
     cannot_begin : (reason : Absence) → CannotBegin (connected old) reason → after ≡ None

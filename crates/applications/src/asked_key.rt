@@ -27,13 +27,13 @@ pub enum JobWithoutApplication {
 /// A key about which a panel asks, or NoAid if it asks at connect, in a job that has no application. Prints as the line
 /// that refuses the panels.
 #[derive(Clone, Copy)]
-struct AskedKey<'a> {
+pub struct AskedKey<'a> {
     /// The panel's name.
-    panel: &'a str,
+    pub panel: &'a str,
     /// The key.
-    key: Aid,
+    pub key: Aid,
     /// The job.
-    by: JobWithoutApplication,
+    pub by: JobWithoutApplication,
 }
 
 /// The advice at the end of the line.

@@ -24,7 +24,7 @@ use std::marker::Model;
 /// Generic code obtains a relation only by a call, so its contract can say which calls it made, in which order, and
 /// with what.
 pub trait AskingServer {
-    ghost use Rattle.std.specs.Prelude.{◌<◌};
+    ghost use Rattle.std.specs.Prelude.{◌<◌, ℕ};
     ghost use Rattle.host_core.specs.State.{most_connections};
     ghost use Rattle.panels.specs.Panel.{Panels};
     ghost use Rattle.applications.specs.ExchangeTurns.{AnswerCall, ConnectCall, EndCall, FaultCall, QuestionCall, ReplyCall};
@@ -32,7 +32,7 @@ pub trait AskingServer {
     /// A connection to the application.
     type Stream: RawRead + RawWrite + Drop;
 
-    ghost served: { Self → Panels → Type 0 };
+    ghost served: { Self → ℕ → Panels → Type 0 };
 
     ghost asked: { QuestionCall Self };
 
@@ -46,9 +46,10 @@ pub trait AskingServer {
 
     ghost ended: { EndCall Self };
 
-    /// The panels that it serves.
-    fn panels(&self) -> &PanelSet
-        ensures { served self.now result.now };
+    /// The panels that a connection is served.
+    fn panels(&self, conn: usize) -> &PanelSet
+        requires { conn < most_connections }
+        ensures { served self.now conn result.now };
 
     /// The open question of a connection and who asks it, if there is one.
     fn question(&self, conn: usize) -> Result<Option<Query>, Fault>
@@ -183,7 +184,7 @@ fn end<A: AskingServer>(
     ensures { Ends A.answered A.reported A.noted A.served panel server.old conn ticket outcome.now result server.new }
 {
     match outcome {
-        Ok(reply) => match answer_of(alloc, server.panels(), panel, reply) {
+        Ok(reply) => match answer_of(alloc, server.panels(conn), panel, reply) {
             Ok(answer) => show(server, conn, ticket, &answer, reply),
             Err(fault) => fail(
                 alloc,
@@ -210,17 +211,19 @@ struct QuestionExchange<S> {
 fn begin<S: RawRead + RawWrite + Drop, A: AskingServer<Stream = S>>(
     asking: Asking<'_>,
     server: &A,
+    conn: usize,
     query: &Query,
 ) -> Result<QuestionExchange<S>, Absence>
+    requires { conn < most_connections }
     ensures begins { IfOk result (BeginsFor (request_bytes asking.entry.endpoint.now) asking.entry.boot asking.entry.now
-        (A.served server.now) (A.connected server.now) query.now) }
+        (A.served server.now conn) (A.connected server.now) query.now) }
     ensures cannot { IfErr result (CannotBegin (A.connected server.now)) }
 {
     match request_of(
         asking.alloc,
         asking.endpoint,
         asking.boot,
-        server.panels(),
+        server.panels(conn),
         query,
     ) {
         Ok(Some(request)) => match server.connect() {
@@ -248,7 +251,7 @@ fn ask_about<S: RawRead + RawWrite + Drop, A: AskingServer<Stream = S>>(
     ensures { AsksAbout A.served A.answered A.reported A.connected (request_bytes asking.entry.endpoint.now)
         asking.entry.boot asking.entry.now conn query.now server.old result server.new slot.new }
 {
-    match begin(asking, server, query) {
+    match begin(asking, server, conn, query) {
         Ok(asked) => {
             *slot = Some(asked);
             Ok(true)

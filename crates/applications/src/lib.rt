@@ -27,7 +27,7 @@ pub use answer_line::answer_in;
 pub use application_fault::{Absence, ApplicationFault, FailureMessage};
 pub use application_reply::{AnswerFault, Replaced, replaced_in};
 pub use application_request::{KeyName, Query};
-pub use asked_key::{JobWithoutApplication, first_asked, refuse_asking};
+pub use asked_key::{AskedKey, JobWithoutApplication, first_asked, refuse_asking};
 pub use ended_session::EndedSession;
 pub use exchange::IoProgress;
 pub use exchanges::{Asking, AskingServer, Exchanges};

@@ -17,9 +17,9 @@ use Rattle.tn3270e_msg.specs.HostTable.{granted}
 use Rattle.tn3270e_msg.specs.declared.cause.Cause.{Cause}
 use Rattle.tn3270e_msg.specs.declared.cause.Cause.TheVariants.{Wire}
 use Rattle.host_core.specs.Bytes.{ConnectionAndPool, TakesByte, TakesBytes, service_after}
-use Rattle.host_core.specs.Representation.{IsLeft, IsRunning, ItemTaken, OthersHold, claim, connection_and_pool_of}
+use Rattle.host_core.specs.Representation.{IsLeft, IsRunning, ItemTaken, claim, connection_and_pool_of}
 use Rattle.host_core.specs.Says.{item_sent}
-use Rattle.host_core.specs.Sound.{HoldsJust}
+use Rattle.host_core.specs.Sound.{HoldsJust, OthersHold}
 use Rattle.host_core.specs.Session.{Session}
 use Rattle.host_core.specs.State.{Service}
 use Rattle.host_core.specs.Takes.{HostStep, freed_if}

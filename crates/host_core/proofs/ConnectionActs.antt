@@ -118,7 +118,7 @@ answers_connection app said what now service box old new before after did report
 -- ---- the talk stays
 
 -- what is sent leaves the talk as it was
-abbrev Talks : Session → Option Sent → Type 0
+abbrev pub Talks : Session → Option Sent → Type 0
 Talks old what = IfSome what (λ (sent : Sent). sent.conn.talk ≡ old.talk)
 
 keeps : (what : Option Sent) (old new : Session) (before after : Vec ℕ Global) (answered : Acted) → Talks old what → DoesOn what old before answered new after → new.talk ≡ old.talk
@@ -137,17 +137,17 @@ done_keeps : (app : Application) (conn : Session) (act : Act) → (done app conn
 done_keeps app conn Act.Read = refl
 done_keeps app conn (Act.Show panel message keep values) = refl
 
-decided_talks : (app : Application) (conn : Session) (may : Bool) (decision : Decision) → Talks conn (option_and_then (decided app conn) (if may then Some decision else None))
+pub decided_talks : (app : Application) (conn : Session) (may : Bool) (decision : Decision) → Talks conn (option_and_then (decided app conn) (if may then Some decision else None))
 decided_talks app conn false decision = tt
 decided_talks app conn true (Decision.Do act) = done_keeps app conn act
 decided_talks app conn true Decision.Asks = tt
 
-answered_talks : (app : Application) (conn : Session) (act : Act) (ticket asking : Bool) → Talks conn (if ticket then (if asking then Some (done app conn act) else None) else None)
+pub answered_talks : (app : Application) (conn : Session) (act : Act) (ticket asking : Bool) → Talks conn (if ticket then (if asking then Some (done app conn act) else None) else None)
 answered_talks app conn act false asking = tt
 answered_talks app conn act true false = tt
 answered_talks app conn act true true = done_keeps app conn act
 
-note_talks : (text : List ℕ) (conn : Session) (may : Bool) → Talks conn (if may then Some (noted_as text conn) else None)
+pub note_talks : (text : List ℕ) (conn : Session) (may : Bool) → Talks conn (if may then Some (noted_as text conn) else None)
 note_talks text conn false = tt
 note_talks text conn true = refl
 

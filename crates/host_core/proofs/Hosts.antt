@@ -5,11 +5,10 @@ use Rattle.std.proofs.lemmas.List.{get_or-set_same, get_or-set_other, length-set
 use Rattle.lu_pool.specs.Pool.{Holds, HoldsNone, OneHolder}
 use Rattle.lu_pool.specs.declared.entry.Entry.{Entry}
 use Rattle.panels.specs.Panel.{Panels}
-use Rattle.host_core.specs.Representation.{OthersHold}
 use Rattle.host_core.specs.Connections.{service_of}
 use Rattle.host_core.specs.declared.connection.Service.{Service as ServiceValue}
 use Rattle.host_core.specs.Session.{agreed_lu}
-use Rattle.host_core.specs.Sound.{HoldsJust, IsShown, IsSound, NobodyShares}
+use Rattle.host_core.specs.Sound.{HoldsJust, IsShown, IsSound, NobodyShares, OthersHold}
 use Rattle.host_core.specs.declared.terminals.Terminals.{Terminals}
 use Rattle.host_core.specs.State.{Service, Connection, Host, Sessions, counted, most_connections, unused, connection_at, state_at, lu_of, phase_of, phase_agreed}
 use Rattle.host_core.specs.declared.phase.Phase.TheVariants as phase
@@ -47,8 +46,8 @@ changed_sound number pool connection host below sound here others shown =
     record {
       connections = length-set host.connections number connection ∙ sound.connections;
       sessions = sound.sessions;
-      held = at_each (λ n l. HoldsJust n pool (lu_of l.service)) number host.connections connection inside here
-          (λ other ne. λ lu. (λ h. (sound.held other lu).0 ((others other lu ne).0 h), λ e. (others other lu ne).1 ((sound.held other lu).1 e)));
+      held = at_each (λ n l. n < most_connections → HoldsJust n pool (lu_of l.service)) number host.connections connection inside (λ here_below. here)
+          (λ other ne. λ other_below. λ lu. (λ h. (sound.held other other_below lu).0 ((others other lu ne).0 h), λ e. (others other lu ne).1 ((sound.held other other_below lu).1 e)));
       shown = at_each (λ n l. IsShown host.panels l.service) number host.connections connection inside shown (λ other ne. sound.shown other);
     }
 
@@ -65,16 +64,26 @@ pub others_stay : (number : ℕ) (pool : List Entry) → OthersHold number pool 
 others_stay number pool other lu ne = (λ h. h, λ h. h)
 
 -- the LU that the line had
-pub held_here : (number : ℕ) (connection old : Connection) (host : Host) → IsSound host → old ≡ connection_at number host → lu_of connection.service ≡ lu_of old.service
+pub held_here : (number : ℕ) (connection old : Connection) (host : Host) → number < most_connections → IsSound host → old ≡ connection_at number host → lu_of connection.service ≡ lu_of old.service
     → HoldsJust number host.pool (lu_of connection.service)
-held_here number connection old host sound is same =
-    subst (HoldsJust number host.pool) (sym (same ∙ ap (λ (l : Connection). lu_of l.service) is)) (sound.held number)
+held_here number connection old host below sound is same =
+    subst (HoldsJust number host.pool) (sym (same ∙ ap (λ (l : Connection). lu_of l.service) is)) (sound.held number below)
 
-pub held_at_connection : (number : ℕ) (old : Connection) (host : Host) → IsSound host → old ≡ connection_at number host → HoldsJust number host.pool (lu_of old.service)
-held_at_connection number old host sound is = held_here number old old host sound is refl
+pub held_at_connection : (number : ℕ) (old : Connection) (host : Host) → number < most_connections → IsSound host → old ≡ connection_at number host → HoldsJust number host.pool (lu_of old.service)
+held_at_connection number old host below sound is = held_here number old old host below sound is refl
+
+inside : (connections : List Connection) (number : ℕ) (lu : List ℕ) → lu_of (get_or connections number unused).service ≡ Some lu → number < length connections
+inside [] number lu granted = absurd (cc)
+inside (first ∷ rest) zero lu granted = omega arith
+inside (first ∷ rest) (suc number) lu granted = let after = inside rest number lu granted in omega arith
 
 pub unshared : (host : Host) → IsSound host → OneHolder host.pool → NobodyShares host
-unshared host sound holder one other lu granted also = holder lu one other ((sound.held one lu).1 granted) ((sound.held other lu).1 also)
+unshared host sound holder one other lu granted also =
+    holder lu one other ((sound.held one (below one lu granted) lu).1 granted) ((sound.held other (below other lu also) lu).1 also)
+  where
+    -- only a number that there is has an LU
+    below : (number : ℕ) (lu : List ℕ) → lu_of (state_at number host) ≡ Some lu → number < most_connections
+    below number lu granted = subst (λ (n : ℕ). number < n) sound.connections (inside host.connections number lu granted)
 
 -- a number is free where its phase is
 pub free_phase : (service : Service) → phase_of service ≡ phase.Free → service ≡ Service.Free
@@ -158,7 +167,7 @@ unused_sound panels pool connections sessions terminals are counted nobody =
     record {
       connections = ap length are ∙ all_unused most_connections;
       sessions = counted;
-      held = λ number. subst (λ (l : Connection). HoldsJust number pool (lu_of l.service)) (sym (there number)) (held_by_none number pool (nobody number));
+      held = λ number below. subst (λ (l : Connection). HoldsJust number pool (lu_of l.service)) (sym (there number)) (held_by_none number pool (nobody number));
       shown = λ number. subst (λ (l : Connection). IsShown panels l.service) (sym (there number)) tt;
     }
 

@@ -6,6 +6,8 @@ pub mod Notes
 pub mod MessageRows
 pub mod KeptWhole
 pub mod Hosts
+pub mod OneNumber
+pub mod Reserving
 pub mod ConnectionActs
 pub mod KeepingAlive
 pub mod Turns

@@ -30,10 +30,10 @@ use Rattle.tn3270e_msg.specs.declared.reply.Reply.{Reply}
 use Rattle.tn3270e_msg.specs.declared.reply.Reply.TheVariants as reply
 use Rattle.tn3270e_msg.specs.declared.reply.OwnedMessage.TheVariants as sent
 use Rattle.host_core.specs.Items.{TakesItem, TakesRecord, TakesRecordIf, Talks}
-use Rattle.host_core.specs.Representation.{ItemTaken, OthersHold, step_of}
+use Rattle.host_core.specs.Representation.{ItemTaken, step_of}
 use Rattle.host_core.specs.declared.after_record.AfterRecord.{AfterRecord}
 use Rattle.host_core.specs.declared.after_record.AfterRecord.TheVariants.{GoesOn, Closes, Drops, Breaks}
-use Rattle.host_core.specs.Sound.{HoldsJust}
+use Rattle.host_core.specs.Sound.{HoldsJust, OthersHold}
 use Rattle.host_core.specs.Parts.{TalkTaken}
 use Rattle.host_core.specs.Messages.{ToTerminal}
 use Rattle.host_core.specs.Rejections.{lu_asked, rejection_by}

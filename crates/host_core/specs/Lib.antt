@@ -17,6 +17,8 @@ pub mod Does
 pub mod KeepAlive
 pub mod Machine
 pub mod Sound
+pub mod Reserving
+pub mod OneNumber
 pub mod Serves
 pub mod NoteLaws
 pub mod Laws

@@ -1,5 +1,5 @@
 -- How the code keeps a connection and takes its steps (our profile); only private contracts and proofs need it.
-use Rattle.std.specs.Prelude.{◌≡◌, ◌≢◌, ◌==◌, ◌↔◌, ◌<◌, ◌+◌, ⊤, ℕ, true, List, [], ◌∷◌, ◌++◌, drop, Option, Some, None, map, Vec, vec_len, if◌then◌else◌}
+use Rattle.std.specs.Prelude.{◌≡◌, ◌==◌, ◌<◌, ◌+◌, ⊤, ℕ, true, List, [], ◌∷◌, ◌++◌, drop, Option, Some, None, map, Vec, vec_len, if◌then◌else◌}
 use Rattle.std.specs.Vec.{vec_capacity}
 use Rattle.std.specs.declared.alloc.Global.{Global}
 use Rattle.codes3270.specs.Size.{ScreenSize, cells_in}
@@ -9,7 +9,6 @@ use Rattle.datastream.specs.Reading.{orders_in}
 use Rattle.datastream.specs.declared.command_code.CommandCode.{CommandCode}
 use Rattle.datastream.specs.declared.command_code.CommandCode.TheVariants.{Write, EraseWrite, EraseWriteAlternate}
 use Rattle.lu_pool.specs.Asking.{answer_to}
-use Rattle.lu_pool.specs.Pool.{Holds}
 use Rattle.lu_pool.specs.declared.entry.Entry.{Entry}
 use Rattle.shadow.specs.Belief.{Shadow, IsOfSize}
 use Rattle.shadow.specs.Stores.{is_plain}
@@ -118,10 +117,6 @@ pub record ItemTaken (number : ℕ) (pool : List Entry) (old : Session) (item : 
 abbrev pub claim : Option Cause → Session → Option (List ℕ)
 claim None conn = granted conn.talk.state
 claim (Some cause) conn = None
-
--- holds if other connections hold the same LUs as before
-abbrev pub OthersHold : ℕ → List Entry → List Entry → Type 0
-OthersHold number old new = (other : ℕ) (lu : List ℕ) → other ≢ number → Holds new other lu ↔ Holds old other lu
 
 -- ---- bytes
 

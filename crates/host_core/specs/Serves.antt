@@ -5,6 +5,7 @@ use Rattle.tn3270e_msg.specs.declared.cause.Stop.TheVariants.{Memory as FeedMemo
 use Rattle.host_core.specs.Application.{application_of}
 use Rattle.host_core.specs.Does.{Does, acted_by}
 use Rattle.host_core.specs.Feeds.{Feeds, connection_and_pool_at, with_connection_and_pool}
+use Rattle.host_core.specs.Sound.{OthersHold}
 use Rattle.host_core.specs.State.{Host, connection_at, state_at, with_connection}
 use Rattle.host_core.specs.declared.acted.Acted.{Acted}
 use Rattle.host_core.specs.declared.acted.Acted.TheVariants.{Memory as ActMemory}
@@ -82,10 +83,11 @@ SendCounts conn false ends ends_after failures failures_after = Stays ends ends_
 
 -- ---- a turn
 
--- the host takes bytes of one connection; others don't change
+-- the host takes bytes of one connection; others don't change, and hold the LUs that they held
 pub record FeedsHost (conn : ℕ) (old : Host) (bytes : List ℕ) (fed : Fed) (new : Host) : Type 0 where
   pub feeds : Feeds conn (connection_and_pool_at conn old) bytes fed (connection_and_pool_at conn new)
   pub others : new ≡ with_connection_and_pool conn (connection_and_pool_at conn new) old
+  pub holders : OthersHold conn old.pool new.pool
 
 -- the host acts on one connection; others don't change
 pub record ActsHost (conn : ℕ) (old : Host) (answer : Acted) (new : Host) : Type 0 where

@@ -1,5 +1,5 @@
 -- What holds of each host, whatever its peers send (our profile).
-use Rattle.std.specs.Prelude.{◌≡◌, ◌<◌, ◌↔◌, ⊤, ℕ, List, length, Option, Some}
+use Rattle.std.specs.Prelude.{◌≡◌, ◌≢◌, ◌<◌, ◌↔◌, ⊤, ℕ, List, length, Option, Some}
 use Rattle.lu_pool.specs.Pool.{Holds}
 use Rattle.lu_pool.specs.declared.entry.Entry.{Entry}
 use Rattle.panels.specs.Panel.{Panels, size_of}
@@ -11,9 +11,14 @@ use Rattle.host_core.specs.State.{Service, Host, most_connections, state_at, lu_
 abbrev pub HoldsJust : ℕ → List Entry → Option (List ℕ) → Type 0
 HoldsJust number pool held = (lu : List ℕ) → Holds pool number lu ↔ (held ≡ Some lu)
 
+-- holds if other connections hold the same LUs as before
+abbrev pub OthersHold : ℕ → List Entry → List Entry → Type 0
+OthersHold number old new = (other : ℕ) (lu : List ℕ) → other ≢ number → Holds new other lu ↔ Holds old other lu
+
 -- Holds if each connection holds exactly the LU that is granted there; so the LU of a closed connection is free.
+-- What is held under greater numbers is reserved (Reserving).
 abbrev pub LusAreHeld : Host → Type 0
-LusAreHeld host = (number : ℕ) → HoldsJust number host.pool (lu_of (state_at number host))
+LusAreHeld host = (number : ℕ) → number < most_connections → HoldsJust number host.pool (lu_of (state_at number host))
 
 -- holds if the connection's panel exists, and has the size of the connection's screen
 pub record IsShownOn (panels : Panels) (conn : Session) : Type 0 where

@@ -164,6 +164,11 @@ new_host panels pool = host_for Waiting panels pool
 abbrev pub restarted : Host → Host
 restarted host = record (host_for host.terminals host.panels host.pool) { sessions = host.sessions }
 
+-- the host that counts sessions on from another one's count, so that no session of it has a number of one there
+abbrev pub counting_on : (earlier : Host) → Host → Host
+counting_on earlier host =
+    record host { sessions = record { latest = host.sessions.latest; next = earlier.sessions.next } }
+
 -- the host after a connection is given up: its number is free, and so is its LU
 abbrev pub given_up : ℕ → Host → Host
 given_up number host = with_connection number unused (record host { pool = given_back number host.pool })

@@ -7,13 +7,13 @@ ghost use Rattle.tn3270e_msg.specs.HostTable.{granted};
 ghost use Rattle.host_core.specs.Does.{Does, DoesAnswer, acted_by, noted_by};
 ghost use Rattle.host_core.specs.Feeds.{Feeds};
 ghost use Rattle.host_core.specs.KeepAlive.{kept_alive, kept_alive_answer, may_keep_alive, no_operation};
-ghost use Rattle.host_core.specs.Representation.{IsRunning, IsLeft, OthersHold, connection_and_pool_of, cause_of, claim, shown_by};
+ghost use Rattle.host_core.specs.Representation.{IsRunning, IsLeft, connection_and_pool_of, cause_of, claim, shown_by};
 ghost use Rattle.host_core.specs.Connections.{StaysShown, ShadowIf};
 ghost use Rattle.host_core.specs.Notes.{IsNoteText};
 ghost use Rattle.host_core.specs.Questions.{HasTexts, answered_by, question_of};
 ghost use Rattle.host_core.specs.Reports.{events_of, oldest, without_oldest};
 ghost use Rattle.host_core.specs.Rooms.{HasRoomFor, out_room};
-ghost use Rattle.host_core.specs.Sound.{HoldsJust, IsShown};
+ghost use Rattle.host_core.specs.Sound.{HoldsJust, IsShown, OthersHold};
 ghost use Rattle.host_core.specs.State.Service.{Free};
 ghost use Rattle.host_core.specs.State.{opened, unused, lu_of, model_of, phase_of, turn_of, pending_of};
 

@@ -1,5 +1,6 @@
 //! The host: panels, a pool of LUs, and the connections that it serves.
-ghost use Rattle.std.specs.Prelude.{◌≡◌, ◌≤◌, ◌<◌, length, drop, replicate, IfOk, OnOk, OnErr};
+ghost use Rattle.lu_pool.specs.Pool.{Holds, OneHolder};
+ghost use Rattle.std.specs.Prelude.{◌≡◌, ◌≢◌, ◌≤◌, ◌<◌, ◌↔◌, ◌⊎◌, ℕ, List, length, drop, replicate, IfOk, OnOk, OnErr};
 ghost use Rattle.host_core.specs.Application.{application_of};
 ghost use Rattle.host_core.specs.Does.{Does, DoesAnswer, acted_by, noted_by};
 ghost use Rattle.host_core.specs.Feeds.{Feeds, connection_and_pool_at, with_connection_and_pool};
@@ -7,8 +8,9 @@ ghost use Rattle.host_core.specs.KeepAlive.{kept_alive, kept_alive_answer};
 ghost use Rattle.host_core.specs.Notes.{IsNoteText};
 ghost use Rattle.host_core.specs.Questions.{HasTexts, answered_by, question_of};
 ghost use Rattle.host_core.specs.Reports.{events_of, oldest, without_oldest};
-ghost use Rattle.host_core.specs.Sound.{IsSound, NobodyShares};
-ghost use Rattle.host_core.specs.State.{host_for, new_host, most_connections, restarted, session_at, unused, given_up, connection_at, reports_at, state_at, with_connection, with_opened, with_reports, model_of, phase_of, turn_of, pending_of, shadow_of};
+ghost use Rattle.host_core.specs.Reserving.{HasLu, IsTaken, released, reserved, reserver};
+ghost use Rattle.host_core.specs.Sound.{IsSound, NobodyShares, OthersHold};
+ghost use Rattle.host_core.specs.State.{counting_on, host_for, new_host, most_connections, restarted, session_at, unused, given_up, connection_at, reports_at, state_at, with_connection, with_opened, with_reports, model_of, phase_of, turn_of, pending_of, shadow_of};
 ghost use Rattle.host_core.specs.declared.phase.Phase.TheVariants as phase;
 
 use crate::acted::Acted;
@@ -26,7 +28,7 @@ use shadow::Shadow;
 use std::alloc::Global;
 use std::marker::Model;
 use telnet_wire::Memory;
-use tn3270e_msg::Fed;
+use tn3270e_msg::{Fed, Lu};
 
 /// The number of connections that a host has: connection numbers are `0..64` (our profile).
 pub const MOST_CONNECTIONS: usize = 64;
@@ -154,6 +156,7 @@ impl Host {
         ensures fed { Feeds conn (connection_and_pool_at conn self.old) bytes.now result
             (connection_and_pool_at conn self.new) }
         ensures others { self.new ≡ with_connection_and_pool conn (connection_and_pool_at conn self.new) self.old }
+        ensures holders { OthersHold conn self.old.pool self.new.pool }
     {
         self.connections[conn].feed(&mut self.pool, conn, bytes)
     }
@@ -334,11 +337,46 @@ impl Host {
         self.pool.free_all();
     }
 
+    /// Reserves an LU under a number, in place of what is reserved there, if the pool has the LU and nobody holds it: no
+    /// connection is granted it until it is released.
+    pub fn reserve(&mut self, number: usize, lu: Lu)
+        requires number { number < most_connections }
+        ensures reserved { self.new ≡ reserved number lu self.old }
+        // Afterwards somebody holds the LU, if the pool has it, and nobody holds any other LU than before.
+        ensures taken { HasLu self.new.pool lu → IsTaken self.new.pool lu }
+        ensures held { (holder : ℕ) (held : List ℕ) → Holds self.new.pool holder held
+            → Holds self.old.pool holder held ⊎ ((holder ≡ reserver number) × (held ≡ lu)) }
+        ensures others { OthersHold (reserver number) self.old.pool self.new.pool }
+    {
+        let holder = MOST_CONNECTIONS + number;
+        self.pool.give_back(holder);
+        let _ = self.pool.ask(holder, Some(lu.as_bytes()));
+    }
+
+    /// Releases the LU that is reserved under a number, if one is.
+    pub fn release(&mut self, number: usize)
+        requires number { number < most_connections }
+        ensures released { self.new ≡ released number self.old }
+        ensures held { (holder : ℕ) (lu : List ℕ) → Holds self.new.pool holder lu
+            ↔ (Holds self.old.pool holder lu × (holder ≢ reserver number)) }
+    {
+        self.pool.give_back(MOST_CONNECTIONS + number);
+    }
+
+    /// Counts sessions on from another host's count: no session of this host has the number of one there, so that no
+    /// answer to a question of that host is taken here.
+    pub fn count_on_from(&mut self, earlier: &Host)
+        ensures { self.new ≡ counting_on earlier.now self.old }
+    {
+        self.sessions.count_on_from(&earlier.sessions);
+    }
+
     /// Law: what holds of each host. A connection holds exactly the LU that is granted there, so no two connections
     /// are granted the same LU; and each open connection has a panel that exists, of the connection's size.
     pub fn hosts_are_sound(&self)
         ensures sound { IsSound self.now }
         ensures unshared { NobodyShares self.now }
+        ensures one_holder { OneHolder self.now.pool }
     {
         // For the contract: no LU has two holders.
         let _holders = self.pool.lu_held_by(0);

@@ -44,6 +44,13 @@ impl Sessions {
         self.next = self.next.wrapping_add(1);
     }
 
+    /// Counts on from another count.
+    pub(crate) fn count_on_from(&mut self, earlier: &Sessions)
+        ensures { self.new ≡ record { latest = self.old.latest; next = earlier.now.next } }
+    {
+        self.next = earlier.next;
+    }
+
     /// The session that this connection number was last opened for; 0 if it never was.
     pub(crate) fn at(&self, conn: usize) -> u64
         requires { conn < most_connections }

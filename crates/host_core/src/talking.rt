@@ -7,11 +7,11 @@ ghost use Rattle.lu_pool.specs.Pool.{HoldsNone};
 ghost use Rattle.telnet_wire.specs.Items.{item_of};
 ghost use Rattle.tn3270e_msg.specs.HostTable.{granted};
 ghost use Rattle.tn3270e_msg.specs.Writing.{HasRoomForReply};
-ghost use Rattle.host_core.specs.Representation.{ItemTaken, OthersHold, step_of};
+ghost use Rattle.host_core.specs.Representation.{ItemTaken, step_of};
 ghost use Rattle.host_core.specs.Parts.{TalkTaken};
 ghost use Rattle.host_core.specs.Reports.{reported};
 ghost use Rattle.host_core.specs.Session.{Session as SessionValue};
-ghost use Rattle.host_core.specs.Sound.{HoldsJust};
+ghost use Rattle.host_core.specs.Sound.{HoldsJust, OthersHold};
 ghost use Rattle.host_core.specs.Takes.{granted_by};
 
 use crate::after_record::AfterRecord;

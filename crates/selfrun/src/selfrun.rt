@@ -162,7 +162,8 @@ impl LoopbackRun {
                 self.type_text(terminal, typed_text(line), text)?;
             }
             ScriptCommand::Answer(conn) => {
-                let Some(answer) = answer_in(alloc, self.server.panels(), typed_text(line))? else {
+                let Some(answer) = answer_in(alloc, self.server.host().panels(), typed_text(line))?
+                else {
                     return Ok(false);
                 };
                 let stepped = self.answer(conn, &answer)?;
@@ -181,7 +182,7 @@ impl LoopbackRun {
             }
             ScriptCommand::Question(conn) => {
                 let question = question_on(self.server.host(), conn)?;
-                put_question(alloc, text, self.server.panels(), &question)?;
+                put_question(alloc, text, self.server.host().panels(), &question)?;
             }
         }
         Ok(true)

@@ -2,6 +2,7 @@
 use Rattle.std.proofs.Common.{◌≡◌, ◌∙◌, ◌+◌, add-one, ap, ℕ, List, Option, Some, Result, Ok, refl, subst, sym}
 use Rattle.applications.specs.declared.session_name.SessionName.{SessionName}
 use Rattle.host_core.specs.State.{Host}
+use Rattle.hosts.specs.Hosts.{Hosts}
 use Rattle.job_streams.specs.declared.fault.Fault.{Fault}
 use Rattle.service_events.specs.declared.notice.Notice.{Notice}
 use Rattle.socket_links.specs.Sockets.{Sockets}
@@ -10,15 +11,15 @@ use Rattle.service.specs.declared.accepting.Arrival.{Arrival}
 use Rattle.service.specs.declared.connection_info.ConnectionInfo.{ConnectionInfo}
 use Rattle.service.specs.declared.server_core.ServerCore.{ServerCore}
 
-pub begun_is : {S : Type 0} (old : ServerCore S) (host host_is : Host) (sockets sockets_are : Sockets S) (infos infos_are : List (Option ConnectionInfo))
-    (next next_is : SessionName) → host ≡ host_is → sockets ≡ sockets_are → infos ≡ infos_are → next ≡ next_is
-    → record old { host = host; sockets = sockets; infos = infos; next_session = next }
-    ≡ record old { host = host_is; sockets = sockets_are; infos = infos_are; next_session = next_is }
-begun_is old host host_is sockets sockets_are infos infos_are next next_is h s i n =
-    ap (λ it. record old { host = it; sockets = sockets; infos = infos; next_session = next }) h
-    ∙ ap (λ it. record old { host = host_is; sockets = it; infos = infos; next_session = next }) s
-    ∙ ap (λ it. record old { host = host_is; sockets = sockets_are; infos = it; next_session = next }) i
-    ∙ ap (λ it. record old { host = host_is; sockets = sockets_are; infos = infos_are; next_session = it }) n
+pub begun_is : {S : Type 0} (old : ServerCore S) (hosts hosts_are : Hosts) (sockets sockets_are : Sockets S) (infos infos_are : List (Option ConnectionInfo))
+    (next next_is : SessionName) → hosts ≡ hosts_are → sockets ≡ sockets_are → infos ≡ infos_are → next ≡ next_is
+    → record old { hosts = hosts; sockets = sockets; infos = infos; next_session = next }
+    ≡ record old { hosts = hosts_are; sockets = sockets_are; infos = infos_are; next_session = next_is }
+begun_is old hosts hosts_are sockets sockets_are infos infos_are next next_is h s i n =
+    ap (λ it. record old { hosts = it; sockets = sockets; infos = infos; next_session = next }) h
+    ∙ ap (λ it. record old { hosts = hosts_are; sockets = it; infos = infos; next_session = next }) s
+    ∙ ap (λ it. record old { hosts = hosts_are; sockets = sockets_are; infos = it; next_session = next }) i
+    ∙ ap (λ it. record old { hosts = hosts_are; sockets = sockets_are; infos = infos_are; next_session = it }) n
 
 module _ {S W L : Type 0} (noticed : W → Notice → Result Unit Fault → W → Type 0) (showed : W → Host → ℕ → Result Unit Fault → W → Type 0)
     (gave : L → Option (Arrival S) → L → Type 0) where

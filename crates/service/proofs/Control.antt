@@ -1,14 +1,24 @@
 -- Notes for each number, and open connections, one number more; and that a text of `control` is a note's text.
-use Rattle.std.proofs.Common.{◌≡◌, ◌||◌, ◌+◌, ◌∙◌, add-one, ap, arith, not, nat_lt, refl, subst, sym, ℕ, Bool, false, true, List, [], ◌∷◌, IsTrue, Option, is_some, length}
-use Rattle.std.proofs.lemmas.Bool.{and_parts}
+use Rattle.std.proofs.Common.{◌≡◌, ◌≢◌, ◌<◌, ◌==◌, ◌||◌, ◌+◌, ◌∙◌, add-one, ap, arith, not, nat_lt, refl, subst, sym, ℕ, Bool, false, true, List, [], ◌∷◌, IsTrue, Option, Result, Ok, Err, is_some, length}
+use Rattle.std.proofs.lemmas.Bool.{and_parts, eqb-false, eqb-true}
 use Rattle.std.proofs.lemmas.Bool.Decides.{nat_tests}
 use Rattle.std.proofs.lemmas.List.Elements.{All-from_recursion}
+use Rattle.std.specs.Prelude.{OnErr, OnOk}
 use Rattle.std.specs.List.{AllByRecursion, list_all}
 use Rattle.control.specs.Texts.{is_graphic, is_text, longest_text}
 use Rattle.control.specs.declared.command.Recipient.{Recipient}
 use Rattle.host_core.specs.Notes.{IsNoteText, is_graphic as is_note_character}
+use Rattle.host_core.specs.State.{Host, Service, phase_of}
+use Rattle.host_core.specs.declared.phase.Phase.{Phase}
+use Rattle.host_core.specs.declared.phase.Phase.TheVariants as phase
+use Rattle.hosts.specs.Apart.{service_at}
+use Rattle.hosts.specs.Hosts.{Hosts, IsFreePlace, reloaded}
+use Rattle.hosts.specs.declared.hosts.ReloadFault.{ReloadFault}
+use Rattle.job_streams.specs.declared.fault.Fault.{Fault}
+use Rattle.service_events.specs.declared.notice.Notice.{Notice}
+use Rattle.service.specs.Visits.{VisitsEach}
 use Rattle.socket_links.specs.Sockets.{is_connected, slot_at}
-use Rattle.service.specs.Control.{DeliversAt, DeliversBelow, has_recipient_below, is_open_below, queued_below, recipient_at, with_waiting}
+use Rattle.service.specs.Control.{DeliversAt, DeliversBelow, EndsTalkingAt, NobodyTalksBelow, Reloads, has_recipient_below, is_open_below, is_talking, queued_below, recipient_at, refused, reloads, with_waiting}
 use Rattle.service.specs.declared.note_queue.WaitingNote.{WaitingNote}
 use Rattle.service.specs.declared.server_core.ServerCore.{ServerCore}
 
@@ -75,3 +85,36 @@ module _ {S : Type 0} where
   unfolding DeliversBelow
   one_delivered conn old mid new notes rest left before one so_far this =
       subst (λ n. DeliversBelow n old notes (before || one) new left) (sym (add-one conn)) (before, one, mid, rest, so_far, this, refl)
+
+-- ---- no connection negotiates
+
+pub none_settled : (hosts : Hosts) → NobodyTalksBelow 0 hosts
+none_settled hosts conn below = absurd (omega (arith, below))
+
+pub one_settled : (conn : ℕ) (old new : Hosts) → NobodyTalksBelow conn old → phase_of (service_at conn new) ≢ phase.Talking
+    → ((other : ℕ) → other ≢ conn → service_at other new ≡ service_at other old) → NobodyTalksBelow (conn + 1) new
+one_settled conn old new before here others other below = by_test (other == conn) refl
+  where
+    by_test : (b : Bool) → (other == conn) ≡ b → phase_of (service_at other new) ≢ phase.Talking
+    by_test true e = subst (λ (n : ℕ). phase_of (service_at n new) ≢ phase.Talking) (sym (eqb-true other conn e)) here
+    by_test false e =
+        let ne : other ≢ conn = eqb-false other conn e in
+        subst (λ (service : Service). phase_of service ≢ phase.Talking) (sym (others other ne)) (before other (omega (arith, below, ne)))
+
+pub not_talking : (now : Phase) → is_talking now ≡ false → now ≢ phase.Talking
+not_talking now quiet talks = let both : true ≡ false = sym (ap is_talking talks) ∙ quiet in cc
+
+pub is_free_now : (now : Phase) → now ≡ phase.Free → now ≢ phase.Talking
+is_free_now now free talks = let both : phase.Free ≡ phase.Talking = sym free ∙ talks in cc
+
+-- ---- the panels are read again
+
+module _ {S W : Type 0} (noticed : W → Notice → Result Unit Fault → W → Type 0) (showed : W → Host → ℕ → Result Unit Fault → W → Type 0) where
+  pub reload_is : (host : Host) (old mid : ServerCore S) (watcher after : W) (ended : Bool) (answer : Result Unit ReloadFault) (hosts : Hosts)
+      → VisitsEach (EndsTalkingAt noticed showed) old watcher (Ok ended) mid after
+      → OnOk answer ((place : ℕ) × IsFreePlace place mid.hosts.owners × (hosts ≡ reloaded place host mid.hosts)) → OnErr answer (hosts ≡ mid.hosts)
+      → Reloads noticed showed host old watcher (Ok answer) (record mid { hosts = hosts }) after
+  reload_is host old mid watcher after ended (Ok done) hosts ends becomes same =
+      reloads ended becomes.0 mid ends becomes.1 (ap (λ (it : Hosts). record mid { hosts = it }) becomes.2) refl
+  reload_is host old mid watcher after ended (Err why) hosts ends becomes same =
+      refused ended why (subst (λ (it : Hosts). VisitsEach (EndsTalkingAt noticed showed) old watcher (Ok ended) (record mid { hosts = it }) after) (sym same) ends) refl

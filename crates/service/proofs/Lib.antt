@@ -5,3 +5,4 @@ pub mod Admitting
 pub mod Doors
 pub mod ServiceTurns
 pub mod Control
+pub mod Handing

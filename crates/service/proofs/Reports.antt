@@ -8,6 +8,8 @@ use Rattle.host_core.specs.declared.event.HostEvent.{HostEvent}
 use Rattle.host_core.specs.declared.event.HostEvent.TheVariants as event
 use Rattle.host_core.specs.declared.rejection.Rejection.{Rejection}
 use Rattle.shadow.specs.declared.rule_break.RuleBreak.{RuleBreak}
+use Rattle.hosts.specs.Hosts.{Hosts, host_at, with_host}
+use Rattle.hosts.proofs.Lookups.{put_again}
 use Rattle.job_streams.specs.declared.fault.Fault.{Fault}
 use Rattle.service_events.specs.declared.notice.Client.{Client}
 use Rattle.service_events.specs.declared.notice.Notice.{Notice}
@@ -107,6 +109,12 @@ pub just_reports_still : (conn : ℕ) (reports : Reports) (start host taken : Ho
 just_reports_still conn reports start host taken there just_reports takes =
     let more = taken_more conn reports start host taken there just_reports takes in
     more.0 ∙ ap (λ it. with_reports conn it start) (sym more.1)
+
+-- the hosts after one more call
+pub later_hosts : (conn : ℕ) (start hosts taken : Hosts) → hosts ≡ with_host conn (host_at conn hosts) start → taken ≡ with_host conn (host_at conn taken) hosts
+    → taken ≡ with_host conn (host_at conn taken) start
+later_hosts conn start hosts taken so_far takes =
+    takes ∙ ap (with_host conn (host_at conn taken)) so_far ∙ put_again conn (host_at conn hosts) (host_at conn taken) start
 
 -- ---- what is told
 

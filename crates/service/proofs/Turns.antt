@@ -3,6 +3,8 @@ use Rattle.std.proofs.Common.{◌≡◌, ◌∙◌, ℕ, List, [], ◌∷◌, Op
 use Rattle.host_core.specs.State.{Host, connection_at, phase_of, state_at}
 use Rattle.host_core.specs.declared.phase.Phase.{Phase}
 use Rattle.host_core.specs.declared.serving.Served.{Served}
+use Rattle.hosts.specs.Hosts.{Hosts, host_at, with_host}
+use Rattle.hosts.proofs.Lookups.{put_again}
 use Rattle.job_streams.specs.declared.fault.Fault.{Fault}
 use Rattle.service_events.specs.Notices.{ending_of}
 use Rattle.service_events.specs.declared.notice.Ending.{Ending}
@@ -23,14 +25,20 @@ any_is event found one e = ap (if_any event) e
 pub none_is : {A : Type 0} (event : A → Event) (found : Option A) → found ≡ None → if_any event found ≡ []
 none_is event found e = ap (if_any event) e
 
+-- the hosts once a number was served, and then reported
+pub reported_hosts : (conn : ℕ) (old served left : Hosts) (host : Host) → served ≡ with_host conn (host_at conn served) old → left ≡ with_host conn (host_at conn left) served
+    → host_at conn left ≡ host → left ≡ with_host conn host old
+reported_hosts conn old served left host serves reports is =
+    reports ∙ ap (λ it. with_host conn it served) is ∙ ap (with_host conn host) serves ∙ put_again conn (host_at conn served) host old
+
 module _ {S : Type 0} where
-  pub core_is : (old : ServerCore S) (host host_is : Host) (sockets : Sockets S) (infos infos_are : List (Option ConnectionInfo)) → host ≡ host_is
-      → infos ≡ infos_are → record old { host = host; sockets = sockets; infos = infos } ≡ record old { host = host_is; sockets = sockets; infos = infos_are }
-  core_is old host host_is sockets infos infos_are h i =
-      ap (λ it. record old { host = it; sockets = sockets; infos = infos }) h ∙ ap (λ it. record old { host = host_is; sockets = sockets; infos = it }) i
+  pub core_is : (old : ServerCore S) (hosts hosts_are : Hosts) (sockets : Sockets S) (infos infos_are : List (Option ConnectionInfo)) → hosts ≡ hosts_are
+      → infos ≡ infos_are → record old { hosts = hosts; sockets = sockets; infos = infos } ≡ record old { hosts = hosts_are; sockets = sockets; infos = infos_are }
+  core_is old hosts hosts_are sockets infos infos_are h i =
+      ap (λ it. record old { hosts = it; sockets = sockets; infos = infos }) h ∙ ap (λ it. record old { hosts = hosts_are; sockets = sockets; infos = it }) i
 
   pub unsent_is : (conn : ℕ) (old : ServerCore S) (out : List ℕ) (sockets : Sockets S)
-      → sockets ≡ with_slot conn (with_waiting (length out) (slot_at conn old.sockets)) old.sockets → out ≡ (connection_at conn old.host).out
+      → sockets ≡ with_slot conn (with_waiting (length out) (slot_at conn old.sockets)) old.sockets → out ≡ (connection_at conn (host_at conn old.hosts)).out
       → sockets ≡ with_unsent conn old
   unsent_is conn old out sockets e is = e ∙ ap (λ it. with_slot conn (with_waiting (length it) (slot_at conn old.sockets)) old.sockets) is
 

@@ -1,14 +1,16 @@
 -- The connections that a server accepts (our profile).
-use Rattle.std.specs.Prelude.{◌≡◌, ◌≤◌, ◌<◌, ◌⊎◌, ℕ, zero, suc, [], ◌∷◌, slice_set, Option, Some, None, Result, Ok, Err}
+use Rattle.std.specs.Prelude.{◌≡◌, ◌≢◌, ◌≤◌, ◌<◌, ◌⊎◌, ℕ, zero, suc, [], ◌∷◌, slice_set, Option, Some, None, Result, Ok, Err}
 use Rattle.applications.specs.SessionNames.{session_after}
-use Rattle.host_core.specs.State.{Host, most_connections, phase_of, state_at, with_opened}
+use Rattle.host_core.specs.State.{Host, most_connections, phase_of}
 use Rattle.host_core.specs.declared.phase.Phase.TheVariants as phase
+use Rattle.hosts.specs.Apart.{service_at}
+use Rattle.hosts.specs.Hosts.{Hosts, opened as with_opened}
 use Rattle.job_streams.specs.declared.fault.Fault.{Fault}
 use Rattle.job_streams.specs.declared.fault.Fault.TheVariants as fault
 use Rattle.service_events.specs.declared.notice.Client.{Client}
 use Rattle.service_events.specs.declared.notice.Notice.{Notice}
 use Rattle.service_events.specs.declared.notice.Notice.TheVariants as notice
-use Rattle.socket_links.specs.Sockets.{AreTaken, opened, slot_at, with_slot}
+use Rattle.socket_links.specs.Sockets.{opened, slot_at, with_slot}
 use Rattle.service.specs.ConnectionInfos.{new_info}
 use Rattle.service.specs.Watching.{Noticed, Told}
 use Rattle.service.specs.declared.accepting.Accepted.{Accepted}
@@ -29,11 +31,15 @@ door listener core watcher = record { listener = listener; core = core; watcher 
 abbrev pub most_accepted : ℕ
 most_accepted = 65536
 
+-- holds if no number below this one is free
+abbrev pub AreTaken : ℕ → Hosts → Type 0
+AreTaken below hosts = (conn : ℕ) → conn < below → phase_of (service_at conn hosts) ≢ phase.Free
+
 -- holds if `conn` is the least free connection number
-pub record IsLeastFree (conn : ℕ) (host : Host) : Type 0 where
+pub record IsLeastFree (conn : ℕ) (hosts : Hosts) : Type 0 where
   pub is_number : conn < most_connections
-  pub is_free : phase_of (state_at conn host) ≡ phase.Free
-  pub least : AreTaken conn host
+  pub is_free : phase_of (service_at conn hosts) ≡ phase.Free
+  pub least : AreTaken conn hosts
 
 module _ {S : Type 0} where
   -- the client on connection `conn`, with the name of the next session
@@ -43,7 +49,7 @@ module _ {S : Type 0} where
   -- the server once a connection has begun on number `conn`
   abbrev pub begun : ℕ → Accepted S → ServerCore S → ServerCore S
   begun conn accepted core = record core {
-    host = with_opened conn core.host;
+    hosts = with_opened conn core.hosts;
     sockets = with_slot conn (opened accepted.socket (slot_at conn core.sockets)) core.sockets;
     infos = slice_set core.infos conn (Some (new_info (client_of conn accepted core) core.now));
     next_session = session_after core.next_session;
@@ -56,12 +62,12 @@ module _ {S W : Type 0} (noticed : W → Notice → Result Unit Fault → W → 
   -- dropped.
   pub data Admits (accepted : Accepted S) (old : ServerCore S) (watcher : W) (answer : Result Unit Fault)
       (new : ServerCore S) (after : W) : Type 0 where
-    turned_away : AreTaken most_connections old.host → new ≡ old
+    turned_away : AreTaken most_connections old.hosts → new ≡ old
         → Told noticed showed (Noticed (notice.TurnedAway accepted.peer) ∷ []) watcher answer after
         → Admits accepted old watcher answer new after
-    starved : (conn : ℕ) → IsLeastFree conn old.host → new ≡ old → answer ≡ Err fault.NoMemory → after ≡ watcher
+    starved : (conn : ℕ) → IsLeastFree conn old.hosts → new ≡ old → answer ≡ Err fault.NoMemory → after ≡ watcher
         → Admits accepted old watcher answer new after
-    begins : (conn : ℕ) → IsLeastFree conn old.host → new ≡ begun conn accepted old
+    begins : (conn : ℕ) → IsLeastFree conn old.hosts → new ≡ begun conn accepted old
         → Told noticed showed (Noticed (notice.Connected (client_of conn accepted old)) ∷ []) watcher answer after
         → Admits accepted old watcher answer new after
 

@@ -1,15 +1,21 @@
 -- What operators command (our profile): notes for sessions, and the end of the service. A note that can't be sent now
 -- waits for its session.
-use Rattle.std.specs.Prelude.{◌≡◌, ◌||◌, ◌-◌, ◌==◌, not, ℕ, zero, suc, Bool, true, false, List, [], ◌∷◌, bytes_eq, slice_index_or, slice_set, Option, Some, None, Result, Ok, is_some, if◌then◌else◌}
+use Rattle.std.specs.Prelude.{◌≡◌, ◌≢◌, ◌<◌, ◌||◌, ◌-◌, ◌==◌, not, ℕ, zero, suc, Bool, true, false, List, [], ◌∷◌, bytes_eq, slice_index_or, slice_set, Option, Some, None, Result, Ok, Err, is_some, if◌then◌else◌}
 use Rattle.std.specs.Option.{option_and_then, option_map_or}
 use Rattle.control.specs.declared.command.Command.{Command}
 use Rattle.control.specs.declared.command.Command.TheVariants as command
 use Rattle.control.specs.declared.command.Recipient.{Recipient}
 use Rattle.control.specs.declared.command.Recipient.TheVariants as recipient
 use Rattle.host_core.specs.Does.{Does, noted_by}
-use Rattle.host_core.specs.State.{Host, connection_at, most_connections, state_at, with_connection}
+use Rattle.host_core.specs.State.{Host, connection_at, most_connections, phase_of, with_connection}
+use Rattle.host_core.specs.declared.phase.Phase.{Phase}
+use Rattle.host_core.specs.declared.phase.Phase.TheVariants as phase
 use Rattle.host_core.specs.declared.acted.Acted.{Acted}
 use Rattle.host_core.specs.declared.acted.Acted.TheVariants as acted
+use Rattle.hosts.specs.Apart.{service_at}
+use Rattle.hosts.specs.Hosts.{AreOwned, Hosts, IsFreePlace, closed, host_at, most_earlier, reloaded, with_host}
+use Rattle.hosts.specs.declared.hosts.ReloadFault.{ReloadFault}
+use Rattle.hosts.specs.declared.hosts.ReloadFault.TheVariants as reload_fault
 use Rattle.job_streams.specs.declared.fault.Fault.{Fault}
 use Rattle.service_events.specs.Timing.{is_over}
 use Rattle.service_events.specs.declared.notice.Ending.TheVariants as ending
@@ -17,6 +23,7 @@ use Rattle.service_events.specs.declared.notice.Notice.{Notice}
 use Rattle.socket_links.specs.Sockets.{is_connected, slot_at}
 use Rattle.service.specs.NumberTurns.{open_at}
 use Rattle.service.specs.TimeTurns.{IsEnded}
+use Rattle.service.specs.Visits.{VisitsEach}
 use Rattle.service.specs.declared.connection_info.ConnectionInfo.{ConnectionInfo}
 use Rattle.service.specs.declared.note_queue.Delivery.{Delivery}
 use Rattle.service.specs.declared.note_queue.Delivery.TheVariants as delivery
@@ -83,9 +90,11 @@ module _ {S : Type 0} where
   -- for its answer, the ends haven't agreed, or memory is refused.
   pub record SendsNote (conn : ℕ) (text : List ℕ) (old : ServerCore S) (answer : Acted) (new : ServerCore S)
       : Type 0 where
-    pub does : Does (noted_by text (state_at conn old.host)) (connection_at conn old.host) answer
-        (connection_at conn new.host)
-    pub others : new ≡ record old { host = with_connection conn (connection_at conn new.host) old.host }
+    pub does : Does (noted_by text (service_at conn old.hosts)) (connection_at conn (host_at conn old.hosts)) answer
+        (connection_at conn (host_at conn new.hosts))
+    pub host : host_at conn new.hosts
+        ≡ with_connection conn (connection_at conn (host_at conn new.hosts)) (host_at conn old.hosts)
+    pub others : new ≡ record old { hosts = with_host conn (host_at conn new.hosts) old.hosts }
 
   -- whether the session with this number is on an open connection
   abbrev pub has_session : ℕ → (session : ℕ) → ServerCore S → Bool
@@ -171,11 +180,52 @@ ordered (command.Note to text) core orders = with_note to text core orders
 ordered command.Sessions core orders = orders
 ordered command.Stop core orders = record orders { stopped = true }
 
--- Whether the service does a command: all but a note without a recipient, and `reload`, which it doesn't offer.
+-- Whether the service does what a command orders: all but a note without a recipient; `reload` is no order.
 abbrev pub is_done : {S : Type 0} → Command → ServerCore S → Bool
 is_done command.Reload core = false
 is_done (command.Note to text) core = has_recipient_below to core most_connections
 is_done _ core = true
+
+-- ---- reading the panels again
+
+-- whether the ends of a connection in this phase negotiate
+abbrev pub is_talking : Phase → Bool
+is_talking phase.Talking = true
+is_talking _ = false
+
+-- holds if no connection below this number negotiates
+abbrev pub NobodyTalksBelow : ℕ → Hosts → Type 0
+NobodyTalksBelow below hosts = (conn : ℕ) → conn < below → phase_of (service_at conn hosts) ≢ phase.Talking
+
+module _ {S W : Type 0} (noticed : W → Notice → Result Unit Fault → W → Type 0)
+    (showed : W → Host → ℕ → Result Unit Fault → W → Type 0) where
+  -- holds if a connection that negotiates is ended, and the watcher receives that
+  abbrev pub EndsTalkingIf : (talks : Bool) → Option ConnectionInfo → ℕ → ServerCore S → W → Result Bool Fault
+      → ServerCore S → W → Type 0
+  EndsTalkingIf false info conn old watcher answer new after = (answer ≡ Ok false) × (new ≡ old) × (after ≡ watcher)
+  EndsTalkingIf true (Some info) conn old watcher answer new after =
+      IsEnded noticed showed ending.Reloaded conn info old watcher answer new after
+  EndsTalkingIf true None conn old watcher answer new after =
+      (answer ≡ Ok true) × (new ≡ record old { hosts = closed conn old.hosts }) × (after ≡ watcher)
+
+  abbrev pub EndsTalkingAt : ℕ → ServerCore S → W → Result Bool Fault → ServerCore S → W → Type 0
+  EndsTalkingAt conn old watcher answer new after =
+      EndsTalkingIf (is_talking (phase_of (service_at conn old.hosts))) (open_at conn old) conn old watcher answer new after
+
+  -- Holds if new sessions are served by another host, and each other session stays in its host. First each connection
+  -- that negotiates is ended: its host could still grant it an LU that the new host grants, too. If sessions of too many
+  -- earlier hosts go on, nothing changes.
+  pub data Reloads (host : Host) (old : ServerCore S) (watcher : W) (answer : Result (Result Unit ReloadFault) Fault)
+      (new : ServerCore S) (after : W) : Type 0 where
+    full : AreOwned most_earlier old.hosts.owners → answer ≡ Ok (Err reload_fault.TooMany) → new ≡ old
+        → after ≡ watcher → Reloads host old watcher answer new after
+    failed : (why : Fault) → VisitsEach EndsTalkingAt old watcher (Err why) new after → answer ≡ Err why
+        → Reloads host old watcher answer new after
+    refused : (ended : Bool) (why : ReloadFault) → VisitsEach EndsTalkingAt old watcher (Ok ended) new after
+        → answer ≡ Ok (Err why) → Reloads host old watcher answer new after
+    reloads : (ended : Bool) (place : ℕ) (mid : ServerCore S) → VisitsEach EndsTalkingAt old watcher (Ok ended) mid after
+        → IsFreePlace place mid.hosts.owners → new ≡ record mid { hosts = reloaded place host mid.hosts }
+        → answer ≡ Ok (Ok tt) → Reloads host old watcher answer new after
 
 -- ---- ending sessions
 

@@ -16,6 +16,8 @@ use Rattle.host_core.specs.Does.{DoesAnswer}
 use Rattle.host_core.specs.Questions.{HasTexts, answered_by, question_of}
 use Rattle.host_core.specs.Reports.{Reports}
 use Rattle.host_core.specs.State.{Host, connection_at, model_of, state_at, session_at, with_connection, with_reports}
+use Rattle.hosts.specs.Apart.{service_at}
+use Rattle.hosts.specs.Hosts.{host_at, with_host}
 use Rattle.host_core.specs.declared.acted.Acted.{Acted}
 use Rattle.host_core.specs.declared.question.Answer.{Answer}
 use Rattle.host_core.specs.declared.question.Question.{Question}
@@ -47,7 +49,7 @@ module _ {S : Type 0} where
   -- the server once its host took an answer, and all of the host's reports were handed on
   abbrev pub core_answered : ℕ → ConnectionInfo → (old : ServerCore S) → Host → ServerCore S
   core_answered conn info old host =
-      record old { host = reported conn host; infos = slice_set old.infos conn (Some (info_after conn host info)) }
+      record old { hosts = with_host conn (reported conn host) old.hosts; infos = slice_set old.infos conn (Some (info_after conn host info)) }
 
   -- the client of a number's last connection, if it ever had one
   abbrev pub client_at : ℕ → ServerCore S → Option Client
@@ -85,7 +87,7 @@ module _ {S : Type 0} where
   abbrev pub asked_on : ℕ → ServerCore S → Question → Query
   asked_on conn core question = record {
     question = question;
-    model = unwrap_or (model_of (state_at conn core.host)) M2;
+    model = unwrap_or (model_of (service_at conn core.hosts)) M2;
     client = option_map (λ client. client.peer) (client_at conn core);
   }
 
@@ -93,9 +95,11 @@ module _ {S : Type 0} where
   -- question has texts.
   abbrev pub AsksHost : (conn : ℕ) → ServerCore S → Result (Option Query) Fault → Type 0
   AsksHost conn core (Ok query) = query ≡ option_map (asked_on conn core)
-      (question_of (application_of core.host.panels) (session_at conn core.host) (state_at conn core.host))
+      (question_of (application_of (host_at conn core.hosts).panels) (session_at conn (host_at conn core.hosts))
+      (service_at conn core.hosts))
   AsksHost conn core (Err why) = (why ≡ fault.NoMemory)
-      × HasTexts (question_of (application_of core.host.panels) (session_at conn core.host) (state_at conn core.host))
+      × HasTexts (question_of (application_of (host_at conn core.hosts).panels) (session_at conn (host_at conn core.hosts))
+      (service_at conn core.hosts))
 
 -- the name, the LU, and the event of the log
 abbrev pub words_of : SessionEnd → SessionName × List ℕ × List ℕ
@@ -118,14 +122,14 @@ module _ {S W : Type 0} (noticed : W → Notice → Result Unit Fault → W → 
   -- and then nothing is recorded.
   abbrev pub ReportsOf : Option ConnectionInfo → (conn : ℕ) → ServerCore S → Host → W → Result Unit Fault → ServerCore S
       → W → Type 0
-  ReportsOf None conn old host watcher (Ok done) new after = (new ≡ record old { host = host }) × (after ≡ watcher)
+  ReportsOf None conn old host watcher (Ok done) new after = (new ≡ record old { hosts = with_host conn host old.hosts }) × (after ≡ watcher)
   ReportsOf None conn old host watcher (Err why) new after = ⊥
   ReportsOf (Some info) conn old host watcher (Ok done) new after =
       HearsEach noticed showed (reports_of info.client conn host) watcher after
       × (new ≡ core_answered conn info old host)
   ReportsOf (Some info) conn old host watcher (Err why) new after =
       FailsAmong noticed showed (reports_of info.client conn host) watcher why after
-      × ((reports : Reports) × (new ≡ record old { host = with_reports conn reports host }))
+      × ((reports : Reports) × (new ≡ record old { hosts = with_host conn (with_reports conn reports host) old.hosts }))
 
   -- Holds if the host takes an answer, and the watcher receives what happened then. A fault of the watcher is returned.
   pub record HandsAnswer (conn : ℕ) (ticket : Ticket) (answer : Answer) (old : ServerCore S) (watcher : W)
@@ -134,7 +138,7 @@ module _ {S W : Type 0} (noticed : W → Notice → Result Unit Fault → W → 
     pub acted : Acted
     pub host : Host
     pub heard : Result Unit Fault
-    pub takes : TakesAnswer conn ticket answer old.host acted host
+    pub takes : TakesAnswer conn ticket answer (host_at conn old.hosts) acted host
     pub reports : ReportsOf (slice_index_or old.infos conn None) conn old host watcher heard new after
     pub result_is : result ≡ unless_failed acted heard
 

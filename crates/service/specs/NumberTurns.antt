@@ -3,11 +3,12 @@ use Rattle.std.specs.Prelude.{◌≡◌, ◌≢◌, ◌==◌, not, ℕ, Bool, fa
 use Rattle.std.specs.declared.io.Error.{Error}
 use Rattle.host_core.specs.Reports.{Reports, events_of, no_reports}
 use Rattle.host_core.specs.Serves.{Serves}
-use Rattle.host_core.specs.State.{Host, connection_at, given_up, phase_of, reports_at, state_at, with_reports}
+use Rattle.host_core.specs.State.{Host, connection_at, phase_of, reports_at, state_at, with_reports}
 use Rattle.host_core.specs.declared.event.HostEvent.{HostEvent}
 use Rattle.host_core.specs.declared.event.HostEvent.TheVariants as event
 use Rattle.host_core.specs.declared.serving.Served.{Served}
 use Rattle.host_core.specs.declared.serving.Served.TheVariants as served
+use Rattle.hosts.specs.Hosts.{closed, host_at, with_host}
 use Rattle.job_streams.specs.declared.fault.Fault.{Fault}
 use Rattle.job_streams.specs.declared.fault.Fault.TheVariants as fault
 use Rattle.service_events.specs.Notices.{ending_of}
@@ -53,14 +54,14 @@ module _ {S : Type 0} where
   -- the sockets, with the number of unsent bytes of a connection
   abbrev pub with_unsent : ℕ → ServerCore S → Sockets S
   with_unsent conn core =
-      with_slot conn (with_waiting (length (connection_at conn core.host).out) (slot_at conn core.sockets)) core.sockets
+      with_slot conn (with_waiting (length (connection_at conn (host_at conn core.hosts)).out) (slot_at conn core.sockets)) core.sockets
 
   -- The server after a connection's end: its number and its LU are free, its socket is closed, and its record says why.
   -- All else is unchanged.
   abbrev pub given_back : ℕ → ConnectionInfo → Ending → ServerCore S → ServerCore S
   given_back conn info ending core =
       record core {
-        host = given_up conn core.host;
+        hosts = closed conn core.hosts;
         sockets = with_slot conn (emptied (slot_at conn core.sockets)) core.sockets;
         infos = slice_set core.infos conn (Some (record info { ending = Some ending }));
       }
@@ -86,7 +87,7 @@ module _ {S : Type 0} where
   abbrev pub core_reported : ℕ → ConnectionInfo → (old : ServerCore S) → Host → Sockets S → ServerCore S
   core_reported conn info old host sockets =
       record old {
-        host = reported conn host;
+        hosts = with_host conn (reported conn host) old.hosts;
         sockets = sockets;
         infos = slice_set old.infos conn (Some (info_after conn host info));
       }
@@ -104,7 +105,7 @@ module _ {S W : Type 0} (gave : S → ℕ → List ℕ → Result ℕ Error → 
   -- Holds if the host serves a connection, by one read, one act and one write, with this answer, and these are the host
   -- and the sockets after it.
   abbrev pub IsServed : ℕ → ServerCore S → Served → Host → Sockets S → Type 0
-  IsServed conn old answer host sockets = Serves (GivesAt gave) (TakesAt took) conn old.host
+  IsServed conn old answer host sockets = Serves (GivesAt gave) (TakesAt took) conn (host_at conn old.hosts)
       (with_unsent conn old) answer host sockets
 
   -- Holds if a connection is served once, and the watcher receives each event, once and in order. If the connection is
@@ -116,7 +117,7 @@ module _ {S W : Type 0} (gave : S → ℕ → List ℕ → Result ℕ Error → 
     pub sockets : Sockets S
     pub serves : IsServed conn old answer host sockets
     pub fed : answer ≢ served.Memory
-    pub acts : acted ≡ not (length (connection_at conn host).out == length (connection_at conn old.host).out)
+    pub acts : acted ≡ not (length (connection_at conn host).out == length (connection_at conn (host_at conn old.hosts)).out)
     pub hears : HearsEach noticed showed
         (reports_of info.client conn host ++ end_in_turn conn info old answer host sockets) watcher after
     pub becomes : new ≡ given_back_if (ending_after conn answer host) conn (info_after conn host info)
@@ -127,12 +128,12 @@ module _ {S W : Type 0} (gave : S → ℕ → List ℕ → Result ℕ Error → 
   pub data BreaksOffAt (conn : ℕ) (info : ConnectionInfo) (old : ServerCore S) (watcher : W) (why : Fault)
       (new : ServerCore S) (after : W) : Type 0 where
     starved : (host : Host) (sockets : Sockets S) → IsServed conn old served.Memory host sockets → why ≡ fault.NoMemory
-        → new ≡ record old { host = host; sockets = sockets } → after ≡ watcher
+        → new ≡ record old { hosts = with_host conn host old.hosts; sockets = sockets } → after ≡ watcher
         → BreaksOffAt conn info old watcher why new after
     report_failed : (answer : Served) (host : Host) (sockets : Sockets S) (reports : Reports)
         → IsServed conn old answer host sockets → answer ≢ served.Memory
         → FailsAmong noticed showed (reports_of info.client conn host) watcher why after
-        → new ≡ record old { host = with_reports conn reports host; sockets = sockets }
+        → new ≡ record old { hosts = with_host conn (with_reports conn reports host) old.hosts; sockets = sockets }
         → BreaksOffAt conn info old watcher why new after
     end_failed : (answer : Served) (host : Host) (sockets : Sockets S) (told : W)
         → IsServed conn old answer host sockets → answer ≢ served.Memory

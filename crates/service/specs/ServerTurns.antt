@@ -2,6 +2,7 @@
 use Rattle.std.specs.Prelude.{◌≡◌, ◌||◌, ℕ, Bool, false, List, Option, None, Result, Ok, Err, replicate}
 use Rattle.std.specs.declared.io.Error.{Error}
 use Rattle.host_core.specs.State.{Host, most_connections}
+use Rattle.hosts.specs.Hosts.{only}
 use Rattle.job_streams.specs.declared.fault.Fault.{Fault}
 use Rattle.job_streams.specs.declared.fault.Fault.TheVariants as fault
 use Rattle.service_events.specs.declared.notice.Notice.{Notice}
@@ -15,7 +16,7 @@ use Rattle.service.specs.declared.server_core.ServerCore.{ServerCore}
 -- the server of a new host, without connections. `boot` is the first part of the names of its sessions
 abbrev pub new_core : {S : Type 0} → Host → (boot : ℕ) → ServerCore S
 new_core host boot = record {
-  host = host;
+  hosts = only host;
   sockets = new_sockets;
   infos = replicate most_connections None;
   next_session = record { boot = boot; number = 0 };

@@ -3,6 +3,7 @@
 use Rattle.std.specs.Prelude.{◌≡◌, ◌&&◌, ⊤, ℕ, Bool, true, false, [], ◌∷◌, slice_set, Option, Some, None, Result, Ok, Err, if◌then◌else◌}
 use Rattle.host_core.specs.KeepAlive.{kept_alive as with_nop, may_keep_alive}
 use Rattle.host_core.specs.State.{Host, connection_at, pending_of, phase_of, state_at, turn_of, with_connection}
+use Rattle.hosts.specs.Hosts.{host_at, with_host}
 use Rattle.job_streams.specs.declared.fault.Fault.{Fault}
 use Rattle.jobs.specs.declared.service.TimeLimits.{TimeLimits}
 use Rattle.service_events.specs.Timing.{are_applied, awaited_on, due, heard, is_operator, is_unanswered, kept_alive}
@@ -40,15 +41,15 @@ module _ {S : Type 0} where
   abbrev pub activity_at : ℕ → ConnectionInfo → ServerCore S → Activity
   activity_at conn info core =
       heard (slot_at conn core.sockets).received (slot_at conn core.sockets).sent
-      (awaited_at conn core.host) core.now info.activity
+      (awaited_at conn (host_at conn core.hosts)) core.now info.activity
 
   -- whether the application ends the session of a connection that waits for the operator
   abbrev pub is_finished : ℕ → ConnectionInfo → ServerCore S → Bool
-  is_finished conn info core = info.ends && is_operator (awaited_at conn core.host)
+  is_finished conn info core = info.ends && is_operator (awaited_at conn (host_at conn core.hosts))
 
   -- what the time limits require on this connection now
   abbrev pub due_at : TimeLimits → ℕ → ConnectionInfo → ServerCore S → Due
-  due_at limits conn info core = due limits (awaited_at conn core.host) (activity_at conn info core) core.now
+  due_at limits conn info core = due limits (awaited_at conn (host_at conn core.hosts)) (activity_at conn info core) core.now
 
   -- Whether bytes were received since the limits were last applied, and none sent: the peer's TCP waits for an ACK.
   abbrev pub is_unanswered_at : ℕ → ConnectionInfo → ServerCore S → Bool
@@ -61,14 +62,17 @@ module _ {S : Type 0} where
 
   -- the server with IAC NOP queued on a bound connection without waiting output
   abbrev pub nop_sent : ℕ → ServerCore S → ServerCore S
-  nop_sent conn core = record core { host = with_connection conn (with_nop (connection_at conn core.host)) core.host }
+  nop_sent conn core = record core {
+    hosts = with_host conn (with_connection conn (with_nop (connection_at conn (host_at conn core.hosts))) (host_at conn core.hosts))
+        core.hosts;
+  }
 
   abbrev pub nop_sent_if : Bool → ℕ → ServerCore S → ServerCore S
   nop_sent_if asked conn core = if asked then nop_sent conn core else core
 
   -- whether IAC NOP may be sent: the connection is bound, and no output waits there
   abbrev pub sends_nop : ℕ → ServerCore S → Bool
-  sends_nop conn core = may_keep_alive (connection_at conn core.host)
+  sends_nop conn core = may_keep_alive (connection_at conn (host_at conn core.hosts))
 
 module _ {S W : Type 0} (noticed : W → Notice → Result Unit Fault → W → Type 0)
     (showed : W → Host → ℕ → Result Unit Fault → W → Type 0) where

@@ -58,11 +58,12 @@ struct Watched<'a, N, W> {
 
 impl<N: Net, W: Watcher> AskingServer for Watched<'_, N, W> {
     ghost use Rattle.std.specs.Prelude.{◌≡◌, ⊤};
+    ghost use Rattle.hosts.specs.Hosts.{host_at};
     ghost use Rattle.service.specs.HostAnswers.{AsksHost, HandsAnswer, HearsFault, HearsReply, TakesEnd, client_at, ended_if};
 
     type Stream = TcpStream;
 
-    ghost served = { λ old panels. panels ≡ old.server.now.host.panels };
+    ghost served = { λ old conn panels. panels ≡ (host_at conn old.server.now.hosts).panels };
 
     ghost asked = { λ old conn answer. AsksHost conn old.server.now answer };
 
@@ -80,8 +81,8 @@ impl<N: Net, W: Watcher> AskingServer for Watched<'_, N, W> {
     ghost ended = { λ old conn end new. TakesEnd old.server.now conn end new.server.now
         × (new.watcher.now ≡ old.watcher.now) };
 
-    fn panels(&self) -> &PanelSet {
-        self.server.panels()
+    fn panels(&self, conn: usize) -> &PanelSet {
+        self.server.panels(conn)
     }
 
     fn question(&self, conn: usize) -> Result<Option<Query>, Fault> {

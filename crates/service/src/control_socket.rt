@@ -1,13 +1,14 @@
 //! The control socket of a service: a Unix socket at which operators command it, and the clients there.
 use crate::orders::Orders;
+use crate::reload::{PanelSource, Refusal, host_again};
 use crate::reply::{IoProgress, Reply};
 use crate::server::Server;
 use crate::watcher::Watcher;
 use control::{Answer, COMMAND_LIMIT, Command, LineBuffer, LineFault, Recipient, Status};
-use host_core::{LinkRead, MOST_CONNECTIONS};
+use host_core::{Host, LinkRead, MOST_CONNECTIONS};
 use job_streams::Fault;
 use mio::net::{UnixListener, UnixStream};
-use service_events::{Commanded, Notice, is_late};
+use service_events::{Commanded, Notice, PanelCounts, is_late};
 use socket_links::read_once;
 use std::alloc::{AllocError, Global};
 use std::fs::{self, Files, Permissions};
@@ -43,8 +44,10 @@ struct ControlClient {
 
 /// A service that operators command.
 #[derive(Drop)]
-struct Commanding<'a, W> {
+struct Commanding<'a, R, W> {
+    rt: &'a R,
     alloc: Global,
+    source: PanelSource<'a>,
     orders: &'a mut Orders,
     server: &'a mut Server,
     watcher: &'a mut W,
@@ -77,7 +80,7 @@ fn commanded(command: &Command, done: bool) -> Commanded {
     }
 }
 
-/// The text of the answer to a command that names no sessions.
+/// The text of the answer to a command, but for those that tell more.
 fn text_of(command: &Command, done: bool) -> &'static str {
     match command {
         Command::Note {
@@ -88,8 +91,7 @@ fn text_of(command: &Command, done: bool) -> &'static str {
         Command::Note { .. } => "shown, or as soon as the operator may type",
         Command::Drain { .. } => "draining",
         Command::Stop => "stopping",
-        Command::Reload => "reload isn't offered",
-        Command::Sessions => "",
+        Command::Reload | Command::Sessions => "",
     }
 }
 
@@ -119,10 +121,47 @@ fn sessions_of(alloc: Global, server: &Server) -> Result<String, AllocError> {
     format!(in alloc; "sessions={count}{rows}")
 }
 
-impl<W: Watcher> Commanding<'_, W> {
+impl<R: Files, W: Watcher> Commanding<'_, R, W> {
+    /// Serves new sessions by a host, and reports that. Returns how much its panels define.
+    fn serve_by(&mut self, host: Host) -> Result<Result<PanelCounts, Refusal>, Fault> {
+        let counts = PanelCounts {
+            panels: host.panels().len(),
+            lus: host.panels().lus().len(),
+        };
+        if let Err(fault) = self.server.reload(host, self.watcher)? {
+            return Ok(Err(fault.into()));
+        }
+        self.watcher.notice(&Notice::Reloaded(counts))?;
+        Ok(Ok(counts))
+    }
+
+    /// Reads the panels again. Returns the line of the answer.
+    fn reload(&mut self) -> Result<String, Fault> {
+        let outcome = match host_again(self.rt, self.alloc, &self.source) {
+            Ok(host) => self.serve_by(host)?,
+            Err(refusal) => Err(refusal),
+        };
+        let notice = Notice::Commanded(commanded(&Command::Reload, outcome.is_ok()));
+        self.watcher.notice(&notice)?;
+        let alloc = self.alloc;
+        match outcome {
+            Ok(counts) => {
+                let text = format!(in alloc; "reloaded: {counts}")?;
+                Ok(line_of(alloc, true, text.as_str())?)
+            }
+            Err(refusal) => {
+                let text = format!(in alloc; "{refusal}")?;
+                Ok(line_of(alloc, false, text.as_str())?)
+            }
+        }
+    }
+
     /// Does a command. Returns the line of the answer. NoMemory if memory is refused; any fault of the watcher is
     /// returned.
     fn obey(&mut self, command: &Command) -> Result<String, Fault> {
+        if let Command::Reload = command {
+            return self.reload();
+        }
         let done = self.orders.take(command, self.server.core());
         if let Command::Drain { .. } = command {
             self.server.close_port();
@@ -186,10 +225,10 @@ impl ControlClient {
 
     /// Reads or writes once, and does the command once its line is complete. The client is dropped if its time is over,
     /// or if its socket ended or failed.
-    fn serve<W: Watcher>(
+    fn serve<R: Files, W: Watcher>(
         &mut self,
         now: u64,
-        commanding: &mut Commanding<'_, W>,
+        commanding: &mut Commanding<'_, R, W>,
     ) -> Result<IoProgress, Fault> {
         if is_late(self.began, now) {
             return Ok(IoProgress::Over);
@@ -202,9 +241,9 @@ impl ControlClient {
     }
 
     /// Reads once. What follows the line is ignored: the client then has only to close.
-    fn read<W: Watcher>(
+    fn read<R: Files, W: Watcher>(
         &mut self,
-        commanding: &mut Commanding<'_, W>,
+        commanding: &mut Commanding<'_, R, W>,
     ) -> Result<IoProgress, Fault> {
         let mut buffer = [0; COMMAND_LIMIT];
         match read_once(&mut self.socket, &mut buffer) {
@@ -215,10 +254,10 @@ impl ControlClient {
     }
 
     /// Takes received bytes, and answers at once if they complete the line.
-    fn take<W: Watcher>(
+    fn take<R: Files, W: Watcher>(
         &mut self,
         bytes: &[u8],
-        commanding: &mut Commanding<'_, W>,
+        commanding: &mut Commanding<'_, R, W>,
     ) -> Result<IoProgress, Fault> {
         if self.answer.is_some() {
             return Ok(IoProgress::Still);
@@ -328,16 +367,20 @@ impl ControlSocket {
 
     /// Accepts the waiting clients, serves each client once, and does what they command. Drops those that are over.
     /// Answers whether a byte was read or written. NoMemory if memory is refused; any fault of the watcher is returned.
-    pub(crate) fn serve_all<W: Watcher>(
+    pub(crate) fn serve_all<R: Files, W: Watcher>(
         &mut self,
+        rt: &R,
         now: u64,
+        source: PanelSource<'_>,
         orders: &mut Orders,
         server: &mut Server,
         watcher: &mut W,
     ) -> Result<bool, Fault> {
         self.accept_all(server, now);
         let mut commanding = Commanding {
+            rt,
             alloc: self.alloc,
+            source,
             orders,
             server,
             watcher,
@@ -350,11 +393,11 @@ impl ControlSocket {
     }
 
     /// Serves the client with this index, if there is one.
-    fn serve<W: Watcher>(
+    fn serve<R: Files, W: Watcher>(
         &mut self,
         index: usize,
         now: u64,
-        commanding: &mut Commanding<'_, W>,
+        commanding: &mut Commanding<'_, R, W>,
     ) -> Result<bool, Fault> {
         if index >= self.clients.len() {
             return Ok(false);

@@ -19,6 +19,7 @@ mod metrics_port;
 mod note_queue;
 mod orders;
 mod proxy_listener;
+mod reload;
 mod reply;
 mod reporting;
 mod server;

@@ -70,8 +70,8 @@ impl Orders {
         self.drained = Some(self.drained.unwrap_or(now));
     }
 
-    /// Orders what a command asks for. Answers whether the service does it: a note needs a recipient, and `reload`
-    /// isn't offered.
+    /// Orders what a command asks for. Answers whether the service does it: a note needs a recipient, and `reload` is
+    /// no order.
     pub(crate) fn take<S: RawRead + RawWrite + Drop>(
         &mut self,
         command: &Command,

@@ -1,12 +1,14 @@
 //! Reports to the watcher what happened on a connection.
 ghost use Rattle.std.specs.Prelude.{◌≡◌, ◌<◌, OnOk};
 ghost use Rattle.host_core.specs.State.{most_connections, reports_at, with_reports};
+ghost use Rattle.hosts.specs.Hosts.{host_at, with_host};
 ghost use Rattle.service.specs.NumberTurns.{info_after, reported, reports_of, told_of};
 ghost use Rattle.service.specs.Watching.{Hears, Told};
 
 use crate::connection_info::ConnectionInfo;
 use crate::watcher::Watcher;
 use host_core::{Host, HostEvent};
+use hosts::Hosts;
 use job_streams::Fault;
 use service_events::{Client, Notice};
 
@@ -33,23 +35,25 @@ fn tell<W: Watcher>(
 /// Hands the watcher each event of a connection once, in the host's order, and records it. A fault of the watcher is
 /// returned, and nothing is reported after it.
 pub(crate) fn report<W: Watcher>(
-    host: &mut Host,
+    hosts: &mut Hosts,
     conn: usize,
     info: &mut ConnectionInfo,
     watcher: &mut W,
 ) -> Result<(), Fault>
     requires number { conn < most_connections }
-    ensures told { Told W.noticed W.showed (reports_of info.old.client conn host.old) watcher.old result watcher.new }
-    ensures others { host.new ≡ with_reports conn (reports_at conn host.new) host.old }
-    ensures taken { OnOk result (host.new ≡ reported conn host.old) }
-    ensures info { OnOk result (info.new ≡ info_after conn host.old info.old) }
+    ensures told { Told W.noticed W.showed (reports_of info.old.client conn (host_at conn hosts.old)) watcher.old result watcher.new }
+    ensures host { host_at conn hosts.new ≡ with_reports conn (reports_at conn (host_at conn hosts.new))
+        (host_at conn hosts.old) }
+    ensures others { hosts.new ≡ with_host conn (host_at conn hosts.new) hosts.old }
+    ensures taken { OnOk result (host_at conn hosts.new ≡ reported conn (host_at conn hosts.old)) }
+    ensures info { OnOk result (info.new ≡ info_after conn (host_at conn hosts.old) info.old) }
 {
     // For the proof: each connection number is in the host's range.
-    host.hosts_are_sound();
+    hosts.at(conn).hosts_are_sound();
     let client = info.client;
-    while let Some(event) = host.next_event(conn) {
+    while let Some(event) = hosts.next_event(conn) {
         info.take_down(&event);
-        tell(event, host, conn, &client, watcher)?;
+        tell(event, hosts.at(conn), conn, &client, watcher)?;
     }
     Ok(())
 }

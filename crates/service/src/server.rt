@@ -1,8 +1,9 @@
 //! A server: a host over sockets, served one turn at a time.
 ghost use Rattle.std.specs.Prelude.{◌≡◌, ◌<◌, IfOk};
 ghost use Rattle.host_core.specs.State.{most_connections};
+ghost use Rattle.hosts.specs.Hosts.{host_at};
 ghost use Rattle.socket_links.specs.Sockets.{is_connected, slot_at};
-ghost use Rattle.service.specs.Control.{DeliversBelow, StopsAt};
+ghost use Rattle.service.specs.Control.{DeliversBelow, Reloads, StopsAt};
 ghost use Rattle.service.specs.HostAnswers.{AsksHost, HandsAnswer, HearsFault, HearsReplaced, TakesEnd, asked_in, client_at, ended_if, usage_at};
 ghost use Rattle.service.specs.ServerTurns.{AcceptsWaiting, PollsAndServes, new_core};
 ghost use Rattle.service.specs.TimeTurns.{KeepsTime};
@@ -16,6 +17,7 @@ use crate::watcher::Watcher;
 use applications::{ApplicationFault, EndedSession, Query, Replaced};
 use codes3270::Model as TerminalModel;
 use host_core::{Acted, Answer, Host, MOST_CONNECTIONS, PanelSet, Ticket};
+use hosts::ReloadFault;
 use job_streams::{Fault, RawRead, RawWrite};
 use jobs::TimeLimits;
 use mio::event::Source;
@@ -206,18 +208,19 @@ impl Server {
         self.core.next_session.boot
     }
 
-    /// The host.
+    /// The host of the newest panels.
     pub fn host(&self) -> &Host
-        ensures { result.now ≡ self.now.host }
+        ensures { result.now ≡ self.now.hosts.current }
     {
-        &self.core.host
+        self.core.hosts.current()
     }
 
-    /// The panels that the host serves.
-    pub fn panels(&self) -> &PanelSet
-        ensures { result.now ≡ self.now.host.panels }
+    /// The panels that a number's connection is served.
+    pub fn panels(&self, conn: usize) -> &PanelSet
+        requires { conn < most_connections }
+        ensures { result.now ≡ (host_at conn self.now.hosts).panels }
     {
-        self.core.host.panels()
+        self.core.hosts.at(conn).panels()
     }
 
     /// What an operator gets to know of the session on an open connection; None if the number has none.
@@ -245,10 +248,15 @@ impl Server {
         requires { conn < most_connections }
         ensures { AsksHost conn self.now result }
     {
-        match self.core.host.question(conn) {
+        match self.core.hosts.at(conn).question(conn) {
             Ok(Some(question)) => Ok(Some(Query {
                 question,
-                model: self.core.host.model(conn).unwrap_or(TerminalModel::M2),
+                model: self
+                    .core
+                    .hosts
+                    .at(conn)
+                    .model(conn)
+                    .unwrap_or(TerminalModel::M2),
                 client: self.client(conn).map(|client| client.peer),
             })),
             Ok(None) => Ok(None),
@@ -318,6 +326,17 @@ impl Server {
         ensures { VisitsEach (StopsAt W.noticed W.showed) self.old watcher.old result self.new watcher.new }
     {
         self.core.stop_each(watcher)
+    }
+
+    /// Serves new sessions by another host (see `ServerCore::reload`).
+    pub(crate) fn reload<W: Watcher>(
+        &mut self,
+        host: Host,
+        watcher: &mut W,
+    ) -> Result<Result<(), ReloadFault>, Fault>
+        ensures { Reloads W.noticed W.showed host self.old watcher.old result self.new watcher.new }
+    {
+        self.core.reload(host, watcher)
     }
 
     /// Reports to the watcher why a connection's question has no answer.

@@ -1,9 +1,11 @@
 //! A server without its listener and its poll: the host, its connections, and the server's time.
-ghost use Rattle.std.specs.Prelude.{◌≡◌, ◌<◌, ◌∷◌, [], IfNone, IfOk, IfSome, None, slice_index_or};
-ghost use Rattle.host_core.specs.State.{most_connections};
-ghost use Rattle.socket_links.specs.Sockets.{AreTaken};
-ghost use Rattle.service.specs.Accepting.{Admits, AdmitsAll, IsLeastFree, Receives, door, most_accepted};
-ghost use Rattle.service.specs.Control.{SendsNote, StopsAt, is_open_below};
+ghost use Rattle.std.specs.Prelude.{◌≡◌, ◌≢◌, ◌<◌, ◌∷◌, ℕ, [], IfNone, IfOk, IfSome, None, OnOk, slice_index_or};
+ghost use Rattle.host_core.specs.State.{most_connections, phase_of};
+ghost use Rattle.host_core.specs.declared.phase.Phase.TheVariants as phase;
+ghost use Rattle.hosts.specs.Apart.{NobodyTalks, service_at};
+ghost use Rattle.hosts.specs.Hosts.{host_at};
+ghost use Rattle.service.specs.Accepting.{Admits, AdmitsAll, AreTaken, IsLeastFree, Receives, door, most_accepted};
+ghost use Rattle.service.specs.Control.{EndsTalkingAt, Reloads, SendsNote, StopsAt, is_open_below, is_talking};
 ghost use Rattle.service.specs.HostAnswers.{HandsAnswer, ReportsOf, asked_in, end_at, end_told, ended_if, usage_at};
 ghost use Rattle.service.specs.NumberTurns.{ServesAt, ServesIfOpen, ended, given_back, open_at};
 ghost use Rattle.service.specs.ServerTurns.{TakesTurn, new_core};
@@ -17,7 +19,8 @@ use crate::reporting::report;
 use crate::watcher::Watcher;
 use applications::SessionName;
 use control::NoteText;
-use host_core::{Acted, Answer, Host, MOST_CONNECTIONS, Phase, Served, Ticket, serve_turn};
+use host_core::{Acted, Answer, Host, MOST_CONNECTIONS, Phase, Served, Ticket};
+use hosts::{Hosts, ReloadFault};
 use job_streams::{Fault, RawRead, RawWrite};
 use jobs::TimeLimits;
 use service_events::{Client, Due, Ending, Notice, Usage, are_applied, awaited_on, ending_of};
@@ -30,7 +33,8 @@ const MOST_ACCEPTED: usize = 65_536;
 /// A host, the sockets of its connections, and a record of each. It opens no socket and reads no clock.
 #[derive(Drop)]
 pub struct ServerCore<S> {
-    pub(crate) host: Host,
+    /// The host of the newest panels, and the earlier ones.
+    pub(crate) hosts: Hosts,
     pub(crate) sockets: Sockets<S>,
     /// The record of the last connection of each number.
     pub(crate) infos: ConnectionInfos,
@@ -43,12 +47,12 @@ pub struct ServerCore<S> {
 }
 
 /// The least free connection number; None if none is free.
-fn free_number(host: &Host) -> Option<usize>
-    ensures least { IfSome result (λ conn. IsLeastFree conn host.now) }
-    ensures none { IfNone result (AreTaken most_connections host.now) }
+fn free_number(hosts: &Hosts) -> Option<usize>
+    ensures least { IfSome result (λ conn. IsLeastFree conn hosts.now) }
+    ensures none { IfNone result (AreTaken most_connections hosts.now) }
 {
     for conn in 0..MOST_CONNECTIONS {
-        if let Phase::Free = host.phase(conn) {
+        if let Phase::Free = hosts.at(conn).phase(conn) {
             return Some(conn);
         }
     }
@@ -60,10 +64,11 @@ impl<S: RawRead + RawWrite + Drop> ServerCore<S> {
     pub(crate) fn new(alloc: Global, host: Host, boot: u64) -> Result<ServerCore<S>, AllocError>
         ensures { IfOk result (λ core. core ≡ new_core host boot) }
     {
+        let hosts = Hosts::new(alloc, host)?;
         let sockets = Sockets::new(alloc)?;
         let infos = ConnectionInfos::new(alloc)?;
         Ok(ServerCore {
-            host,
+            hosts,
             sockets,
             infos,
             next_session: SessionName { boot, number: 0 },
@@ -78,10 +83,10 @@ impl<S: RawRead + RawWrite + Drop> ServerCore<S> {
         ensures { Admits W.noticed W.showed accepted self.old watcher.old result self.new watcher.new }
     {
         let Accepted { socket, peer } = accepted;
-        let Some(conn) = free_number(&self.host) else {
+        let Some(conn) = free_number(&self.hosts) else {
             return watcher.notice(&Notice::TurnedAway(peer));
         };
-        match self.host.open(conn) {
+        match self.hosts.open(conn) {
             Ok(()) => {}
             Err(_) => return Err(Fault::NoMemory),
         }
@@ -163,10 +168,12 @@ impl<S: RawRead + RawWrite + Drop> ServerCore<S> {
         ensures told { Told W.noticed W.showed
             (ended conn info.now self.old ending ∷ []) watcher.old result watcher.new }
         ensures given_back { self.new ≡ given_back conn info.now ending self.old }
+        ensures free { phase_of (service_at conn self.new.hosts) ≡ phase.Free }
+        ensures others { (other : ℕ) → other ≢ conn → service_at other self.new.hosts ≡ service_at other self.old.hosts }
     {
         let (sent, received) = (self.sockets.sent(conn), self.sockets.received(conn));
         let usage = info.usage(self.now, sent, received);
-        self.host.closed(conn);
+        self.hosts.closed(conn);
         self.sockets.close(conn);
         let ended = ConnectionInfo {
             ending: Some(ending),
@@ -188,16 +195,16 @@ impl<S: RawRead + RawWrite + Drop> ServerCore<S> {
         ensures { ServesIfOpen S.read_gave S.write_took W.noticed W.showed
             (Some info.now) conn self.old watcher.old result self.new watcher.new }
     {
-        let waiting = self.host.out(conn).len();
+        let waiting = self.hosts.at(conn).out(conn).len();
         self.sockets.set_waiting(conn, waiting);
-        let served = serve_turn(&mut self.host, &mut self.sockets, conn);
+        let served = self.hosts.serve(&mut self.sockets, conn);
         if let Served::Memory = served {
             return Err(Fault::NoMemory);
         }
-        let acted = self.host.out(conn).len() != waiting;
-        let ending = ending_of(&self.host.phase(conn), served);
+        let acted = self.hosts.at(conn).out(conn).len() != waiting;
+        let ending = ending_of(&self.hosts.at(conn).phase(conn), served);
         let mut after = *info;
-        report(&mut self.host, conn, &mut after, watcher)?;
+        report(&mut self.hosts, conn, &mut after, watcher)?;
         self.infos.set(conn, after);
         if let Some(ending) = ending {
             self.end(conn, &after, ending, watcher)?;
@@ -249,11 +256,11 @@ impl<S: RawRead + RawWrite + Drop> ServerCore<S> {
     /// connection. A fault of the watcher is returned, and nothing is reported after it.
     fn report_on<W: Watcher>(&mut self, conn: usize, watcher: &mut W) -> Result<(), Fault>
         requires number { conn < most_connections }
-        ensures { ReportsOf W.noticed W.showed (slice_index_or self.old.infos conn None) conn self.old self.old.host
-            watcher.old result self.new watcher.new }
+        ensures { ReportsOf W.noticed W.showed (slice_index_or self.old.infos conn None) conn self.old
+            (host_at conn self.old.hosts) watcher.old result self.new watcher.new }
     {
         if let Some(mut info) = self.infos.at(conn) {
-            report(&mut self.host, conn, &mut info, watcher)?;
+            report(&mut self.hosts, conn, &mut info, watcher)?;
             self.infos.set(conn, info);
         }
         Ok(())
@@ -271,7 +278,7 @@ impl<S: RawRead + RawWrite + Drop> ServerCore<S> {
         ensures { HandsAnswer W.noticed W.showed conn ticket answer.now self.old watcher.old result self.new
             watcher.new }
     {
-        let acted = self.host.answer(conn, ticket, answer);
+        let acted = self.hosts.answer(conn, ticket, answer);
         self.report_on(conn, watcher)?;
         Ok(acted)
     }
@@ -343,7 +350,7 @@ impl<S: RawRead + RawWrite + Drop> ServerCore<S> {
         ensures sends { result ≡ sends_nop conn self.old }
         ensures sent { self.new ≡ nop_sent conn self.old }
     {
-        matches!(self.host.keep_alive(conn), Acted::Sent)
+        matches!(self.hosts.keep_alive(conn), Acted::Sent)
     }
 
     /// Applies the time limits to a connection. Answers whether that did something.
@@ -359,8 +366,12 @@ impl<S: RawRead + RawWrite + Drop> ServerCore<S> {
             watcher.old result self.new watcher.new }
     {
         let (received, sent) = (self.sockets.received(conn), self.sockets.sent(conn));
-        let phase = self.host.phase(conn);
-        let awaited = awaited_on(&phase, self.host.turn(conn), self.host.pending(conn));
+        let phase = self.hosts.at(conn).phase(conn);
+        let awaited = awaited_on(
+            &phase,
+            self.hosts.at(conn).turn(conn),
+            self.hosts.at(conn).pending(conn),
+        );
         let unanswered = info.activity.is_unanswered(received, sent);
         let mut activity = info.activity;
         activity.hear(received, sent, awaited, self.now);
@@ -391,7 +402,7 @@ impl<S: RawRead + RawWrite + Drop> ServerCore<S> {
         requires number { conn < most_connections }
         ensures { SendsNote conn text.now self.old result self.new }
     {
-        self.host.note(conn, text.codes())
+        self.hosts.note(conn, text.codes())
     }
 
     /// Ends a number's connection, if it is open, since the service stops. Answers whether it did.
@@ -420,14 +431,81 @@ impl<S: RawRead + RawWrite + Drop> ServerCore<S> {
         Ok(stopped)
     }
 
+    /// Whether the ends of a number's connection negotiate.
+    fn is_talking(&self, conn: usize) -> bool
+        requires number { conn < most_connections }
+        ensures { result ≡ is_talking (phase_of (service_at conn self.entry.now.hosts)) }
+    {
+        match self.hosts.at(conn).phase(conn) {
+            Phase::Talking => true,
+            Phase::Free | Phase::Bound(_) | Phase::Closed(_) => false,
+        }
+    }
+
+    /// Ends a number's connection if its ends negotiate. Answers whether they did.
+    fn end_if_talking<W: Watcher>(&mut self, conn: usize, watcher: &mut W) -> Result<bool, Fault>
+        requires number { conn < most_connections }
+        ensures ends { EndsTalkingAt W.noticed W.showed conn self.old watcher.old result self.new watcher.new }
+        ensures settled { phase_of (service_at conn self.new.hosts) ≢ phase.Talking }
+        ensures others { (other : ℕ) → other ≢ conn → service_at other self.new.hosts ≡ service_at other self.old.hosts }
+    {
+        if !self.is_talking(conn) {
+            return Ok(false);
+        }
+        match self.open_info(conn) {
+            Some(info) => {
+                self.end(conn, &info, Ending::Reloaded, watcher)?;
+                Ok(true)
+            }
+            None => {
+                self.hosts.closed(conn);
+                Ok(true)
+            }
+        }
+    }
+
+    /// Ends each connection whose ends negotiate, in the order of the numbers. Answers whether there was one. The first
+    /// fault ends the call.
+    fn end_talking<W: Watcher>(&mut self, watcher: &mut W) -> Result<bool, Fault>
+        ensures ends { VisitsEach (EndsTalkingAt W.noticed W.showed) self.old watcher.old result self.new watcher.new }
+        ensures settled { OnOk result (NobodyTalks self.new.hosts) }
+    {
+        let mut ended = false;
+        for conn in 0..MOST_CONNECTIONS {
+            ended |= self.end_if_talking(conn, watcher)?;
+        }
+        Ok(ended)
+    }
+
+    /// Serves new sessions by this host from now on; each session that is bound to an LU stays in its host (see
+    /// `Hosts::reload`). Connections whose ends negotiate are ended. TooMany if sessions of too many earlier hosts go
+    /// on: then nothing changes. A fault of the watcher is returned.
+    pub(crate) fn reload<W: Watcher>(
+        &mut self,
+        host: Host,
+        watcher: &mut W,
+    ) -> Result<Result<(), ReloadFault>, Fault>
+        ensures { Reloads W.noticed W.showed host self.old watcher.old result self.new watcher.new }
+    {
+        if self.hosts.free_place().is_none() {
+            return Ok(Err(ReloadFault::TooMany));
+        }
+        self.end_talking(watcher)?;
+        Ok(self.hosts.reload(host))
+    }
+
     /// Whether the application ends the session of an open connection, and it waits for the operator: the terminal has
     /// answered the last screen.
     fn is_finished(&self, conn: usize, info: &ConnectionInfo) -> bool
         requires number { conn < most_connections }
         ensures { result ≡ is_finished conn info.now self.entry.now }
     {
-        let phase = self.host.phase(conn);
-        let awaited = awaited_on(&phase, self.host.turn(conn), self.host.pending(conn));
+        let phase = self.hosts.at(conn).phase(conn);
+        let awaited = awaited_on(
+            &phase,
+            self.hosts.at(conn).turn(conn),
+            self.hosts.at(conn).pending(conn),
+        );
         info.ends && awaited.is_operator()
     }
 

@@ -10,6 +10,7 @@ use crate::log::Log;
 use crate::metered::MetricsObserver;
 use crate::orders::Orders;
 use crate::proxy_listener::ProxyListener;
+use crate::reload::PanelSource;
 use crate::server::{PolledListener, Server};
 use crate::service_turn::{TurnParts, take_turns};
 use crate::uptime::Uptime;
@@ -100,6 +101,9 @@ pub fn run_host<N: Net, I: Source, E: Sink>(
 }
 
 // ---- serve
+
+/// The name of the standard input in reports.
+const STANDARD_INPUT: &str = "standard input";
 
 /// A warning that prints the address at which other machines can connect.
 #[derive(Clone, Copy)]
@@ -219,14 +223,20 @@ impl Serving {
     }
 
     /// Does what operators command, and sends the notes that can be sent. Answers whether it did something.
-    fn obey<W: Watcher>(&mut self, now: u64, watcher: &mut W) -> Result<bool, Fault> {
+    fn obey<R: Files, W: Watcher>(
+        &mut self,
+        rt: &R,
+        now: u64,
+        source: PanelSource<'_>,
+        watcher: &mut W,
+    ) -> Result<bool, Fault> {
         let Some(control) = &mut self.control else {
             return Ok(false);
         };
         let orders = &mut control.orders;
         let moved = control
             .socket
-            .serve_all(now, orders, &mut self.server, watcher)?;
+            .serve_all(rt, now, source, orders, &mut self.server, watcher)?;
         Ok(moved | self.server.deliver(&mut orders.notes))
     }
 
@@ -259,11 +269,12 @@ impl Serving {
 
     /// Reports to the watcher that the server listens, and takes a turn for each item of `turns`. Returns the fault
     /// that ended that; Ok if operators did.
-    fn serve_watched<R: Net + Clock, W: Watcher, T: Iterator<Item = ()>>(
+    fn serve_watched<R: Net + Clock + Files, W: Watcher, T: Iterator<Item = ()>>(
         &mut self,
         rt: &R,
         turns: T,
         service: &Service,
+        source: PanelSource<'_>,
         address: SocketAddr,
         watcher: &mut W,
     ) -> Result<(), Fault>
@@ -274,6 +285,7 @@ impl Serving {
         let mut shift = Shift {
             serving: self,
             rt,
+            source,
             limits: &service.limits,
             uptime: Uptime::new(),
             watcher,
@@ -283,12 +295,13 @@ impl Serving {
 
     /// Reports to the watcher that the server listens, takes a turn for each item of `turns`, and serves metrics at
     /// this port. Returns the fault that ended that; Ok if operators did.
-    fn serve_metered<R: Net + Clock, W: Watcher, T: Iterator<Item = ()>>(
+    fn serve_metered<R: Net + Clock + Files, W: Watcher, T: Iterator<Item = ()>>(
         &mut self,
         rt: &R,
         alloc: Global,
         turns: T,
         service: &Service,
+        source: PanelSource<'_>,
         address: SocketAddr,
         port: ServicePort,
         page: MetricsPage,
@@ -298,7 +311,9 @@ impl Serving {
         requires ends { IsFinite (T.remaining turns) }
     {
         match MetricsObserver::new(rt, alloc, &self.server, port, page, watcher) {
-            Ok(mut metered) => self.serve_watched(rt, turns, service, address, &mut metered),
+            Ok(mut metered) => {
+                self.serve_watched(rt, turns, service, source, address, &mut metered)
+            }
             Err(fault) => Err(fault),
         }
     }
@@ -309,12 +324,13 @@ impl Serving {
 struct Shift<'a, R, W> {
     serving: &'a mut Serving,
     rt: &'a R,
+    source: PanelSource<'a>,
     limits: &'a TimeLimits,
     uptime: Uptime,
     watcher: &'a mut W,
 }
 
-impl<R: Net + Clock, W: Watcher> TurnParts for Shift<'_, R, W> {
+impl<R: Net + Clock + Files, W: Watcher> TurnParts for Shift<'_, R, W> {
     ghost use Rattle.std.specs.Prelude.{Bool, Result};
     ghost use Rattle.job_streams.specs.declared.fault.Fault.{Fault};
     ghost use Rattle.service.specs.Control.{StopsAt};
@@ -376,7 +392,8 @@ impl<R: Net + Clock, W: Watcher> TurnParts for Shift<'_, R, W> {
     }
 
     fn obey(&mut self) -> Result<bool, Fault> {
-        self.serving.obey(self.uptime.millis(), self.watcher)
+        self.serving
+            .obey(self.rt, self.uptime.millis(), self.source, self.watcher)
     }
 
     fn tell(&mut self) -> bool {
@@ -397,11 +414,12 @@ impl<R: Net + Clock, W: Watcher> TurnParts for Shift<'_, R, W> {
 
 /// Serves a host, a turn for each item of `turns`, with a log on `faults`. Returns the fault that ended that; Ok if
 /// operators did.
-fn serve<R: Net + Clock + RandomSource, T: Iterator<Item = ()>, E: Sink>(
+fn serve<R: Net + Clock + RandomSource + Files, T: Iterator<Item = ()>, E: Sink>(
     rt: &R,
     alloc: Global,
     turns: T,
     service: &Service,
+    source: PanelSource<'_>,
     application: Option<Application>,
     control: Option<Control>,
     host: Host,
@@ -439,9 +457,11 @@ fn serve<R: Net + Clock + RandomSource, T: Iterator<Item = ()>, E: Sink>(
     };
     match service.metrics {
         Some(port) => {
-            serving.serve_metered(rt, alloc, turns, service, address, port, page, &mut log)
+            serving.serve_metered(
+                rt, alloc, turns, service, source, address, port, page, &mut log,
+            )
         }
-        None => serving.serve_watched(rt, turns, service, address, &mut log),
+        None => serving.serve_watched(rt, turns, service, source, address, &mut log),
     }
 }
 
@@ -484,10 +504,11 @@ fn begin<I: Source>(
 ///
 /// If an application is chosen, it is asked about the keys that panels ask about. The log says if it fails to answer.
 ///
-/// If the input has faults as a panel text, prints all of them to `faults`, as `check` does for an input of this name.
+/// If the input has faults as a panel text, prints all of them to `faults`, as `check` does. `file` is the input's name;
+/// None if it is the standard input.
 ///
-/// If a control socket is chosen, operators command the service there (see crate `control`). The file is removed when
-/// the service ends. The log has each command.
+/// If a control socket is chosen, operators command the service there (see crate `control`). `reload` reads the file
+/// again. The socket is removed when the service ends. The log has each command.
 ///
 /// Returns the exit status: 0 if operators ended the service; 1 if the input can't be read (as by [`read_whole`]), if
 /// it defines no panels, or if their LUs are no pool; 2 if the application's URL is invalid, or if no application is
@@ -500,7 +521,7 @@ pub fn run_serve<R: Net + Clock + RandomSource + Files, T: Iterator<Item = ()>, 
     service: &Service,
     choice: &ApplicationChoice<'_>,
     control: &ControlChoice<'_>,
-    name: &str,
+    file: Option<&str>,
     version: &'static str,
     input: &mut I,
     faults: &mut E,
@@ -515,7 +536,10 @@ pub fn run_serve<R: Net + Clock + RandomSource + Files, T: Iterator<Item = ()>, 
     let host = match host_of(alloc, service.terminals, text.as_str()) {
         Ok(host) => host,
         Err(Fault::NoMemory) => return report_and_exit_code(Fault::NoMemory, faults),
-        Err(fault) => return refuse_panels(alloc, name, text.as_str(), fault, faults),
+        Err(fault) => {
+            let name = file.unwrap_or(STANDARD_INPUT);
+            return refuse_panels(alloc, name, text.as_str(), fault, faults);
+        }
     };
     if application.is_none() {
         if let Some((panel, key)) = first_asked(host.panels()) {
@@ -531,11 +555,17 @@ pub fn run_serve<R: Net + Clock + RandomSource + Files, T: Iterator<Item = ()>, 
         Err(error) => return refuse_socket(socket, error.kind(), faults),
     };
     let has_socket = made.is_some();
+    let source = PanelSource {
+        file,
+        terminals: service.terminals,
+        has_application: application.is_some(),
+    };
     let ended = serve(
         rt,
         alloc,
         turns,
         service,
+        source,
         application,
         made,
         host,

@@ -59,6 +59,7 @@ ended_by (ending.Dropped overdue.Idle) counts = record counts { idle = raised co
 ended_by (ending.Dropped overdue.NoAgreement) counts = record counts { no_agreement = raised counts.no_agreement 1 }
 ended_by ending.ByApplication counts = record counts { by_application = raised counts.by_application 1 }
 ended_by ending.Stopped counts = counts
+ended_by ending.Reloaded counts = counts
 
 -- one open connection fewer, and one more that ended in this way
 abbrev pub with_end : Ending → Metrics → Metrics
@@ -125,6 +126,7 @@ counted (notice.RuleBroken client broken) counts = record counts { rule_breaks =
 counted (notice.Ended client how usage) counts = with_usage usage.turns usage.received usage.sent (with_end how counts)
 counted notice.Asked counts = record counts { asked = raised counts.asked 1 }
 counted (notice.Commanded commanded) counts = counts
+counted (notice.Reloaded sizes) counts = counts
 counted (notice.Answered millis) counts = record counts {
   answered = raised_at (bucket_of millis) counts.answered;
   answer_millis = raised counts.answer_millis millis;

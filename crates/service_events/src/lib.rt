@@ -16,5 +16,5 @@ mod scrape;
 pub use limits::{Activity, Awaited, Due, Overdue, are_applied, awaited_on};
 pub use metrics::Metrics;
 pub use metrics_page::MetricsPage;
-pub use notice::{BadHeader, Client, Commanded, Ending, Notice, Usage, ending_of};
+pub use notice::{BadHeader, Client, Commanded, Ending, Notice, PanelCounts, Usage, ending_of};
 pub use scrape::{HttpStatus, Method, RequestHead, is_late, response_of};

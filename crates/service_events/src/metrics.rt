@@ -161,8 +161,8 @@ impl Metrics {
             Ending::Dropped(Overdue::Idle) => raise(&mut self.idle, 1),
             Ending::Dropped(Overdue::NoAgreement) => raise(&mut self.no_agreement, 1),
             Ending::ByApplication => raise(&mut self.by_application, 1),
-            // The service ends, so that no page has these.
-            Ending::Stopped => {}
+            // The service ends, or no LU was granted.
+            Ending::Stopped | Ending::Reloaded => {}
         }
     }
 
@@ -190,7 +190,7 @@ impl Metrics {
                 raise(&mut self.answered[bucket_of(*millis)], 1);
                 raise(&mut self.answer_millis, *millis);
             }
-            Notice::Commanded(_) => {}
+            Notice::Commanded(_) | Notice::Reloaded(_) => {}
         }
     }
 

@@ -34,6 +34,8 @@ pub enum Ending {
     ByApplication,
     /// An operator stopped the service, or the time to drain it was over.
     Stopped,
+    /// The panels were read again while the ends negotiated.
+    Reloaded,
 }
 
 impl Ending {
@@ -48,6 +50,7 @@ impl Ending {
             Ending::Dropped(Overdue::Idle) => "idle",
             Ending::ByApplication => "ended-by-application",
             Ending::Stopped => "stopped",
+            Ending::Reloaded => "reloaded",
         }
     }
 }
@@ -89,6 +92,23 @@ pub struct Commanded {
     pub done: bool,
 }
 
+/// How much a panel text defines.
+#[derive(Clone, Copy)]
+pub struct PanelCounts {
+    /// The number of panels.
+    pub panels: usize,
+    /// The number of LUs.
+    pub lus: usize,
+}
+
+/// Prints as two keys.
+impl fmt::Display for PanelCounts {
+    fn fmt<W: fmt::Write>(&self, f: &mut fmt::Formatter<W>) -> fmt::Result {
+        let PanelCounts { panels, lus } = *self;
+        write!(f, "panels={panels} lus={lus}")
+    }
+}
+
 /// What happened at a server.
 #[derive(Clone, Copy)]
 pub enum Notice {
@@ -116,6 +136,8 @@ pub enum Notice {
     Answered(u64),
     /// A client of the control socket was answered.
     Commanded(Commanded),
+    /// New sessions are shown new panels, and granted LUs of these panels.
+    Reloaded(PanelCounts),
 }
 
 /// Prints as the keys that begin a connection's log line.
@@ -139,7 +161,11 @@ impl fmt::Display for Ending {
                 let number = cause.number();
                 write!(f, " cause={cause} number={number}")
             }
-            Ending::Lost | Ending::Dropped(_) | Ending::ByApplication | Ending::Stopped => Ok(()),
+            Ending::Lost
+            | Ending::Dropped(_)
+            | Ending::ByApplication
+            | Ending::Stopped
+            | Ending::Reloaded => Ok(()),
         }
     }
 }
@@ -218,6 +244,7 @@ impl fmt::Display for Notice {
             Notice::Asked => f.write_str("event=asked"),
             Notice::Answered(millis) => write!(f, "event=answered millis={millis}"),
             Notice::Commanded(commanded) => write!(f, "event=command {commanded}"),
+            Notice::Reloaded(counts) => write!(f, "event=reloaded {counts}"),
         }
     }
 }

@@ -1,13 +1,12 @@
 -- The connections of a host over sockets (our profile): the socket of each connection number, and the effect of a read
 -- and a write.
-use Rattle.std.specs.Prelude.{◌≡◌, ◌≢◌, ◌<◌, ◌≤◌, ◌+◌, ◌-◌, ◌^◌, min, ◌&&◌, ◌||◌, ◌==◌, ⊤, ℕ, Bool, true, false, not, ltb, List, [], length, replicate, slice_index, slice_set, slice_index_or, Option, Some, None, is_some, Result}
+use Rattle.std.specs.Prelude.{◌≡◌, ◌<◌, ◌≤◌, ◌+◌, ◌-◌, ◌^◌, min, ◌&&◌, ◌||◌, ◌==◌, ⊤, ℕ, Bool, true, false, not, ltb, List, [], length, replicate, slice_index, slice_set, slice_index_or, Option, Some, None, is_some, Result}
 use Rattle.std.specs.declared.io.Error.{Error}
-use Rattle.host_core.specs.State.{Host, most_connections, phase_of, state_at}
+use Rattle.host_core.specs.State.{most_connections}
 use Rattle.host_core.specs.declared.links.LinkRead.{LinkRead}
 use Rattle.host_core.specs.declared.links.LinkRead.TheVariants as read
 use Rattle.host_core.specs.declared.links.LinkWrite.{LinkWrite}
 use Rattle.host_core.specs.declared.links.LinkWrite.TheVariants as write
-use Rattle.host_core.specs.declared.phase.Phase.TheVariants as phase
 use Rattle.job_streams.specs.RawCalls.{link_read, link_write}
 
 -- The slot of a connection number: the socket, if there is a connection; the number of unsent bytes; how many of the
@@ -242,9 +241,3 @@ module _ {S : Type 0} where
     pub takes : Takes took (slot_at conn old) bytes answer (slot_at conn new)
     pub moved : new.moved ≡ (old.moved || has_taken answer)
     pub others : new.slots ≡ slice_set old.slots conn (slot_at conn new)
-
--- ---- free numbers
-
--- holds if no number below this one is free
-abbrev pub AreTaken : ℕ → Host → Type 0
-AreTaken below host = (conn : ℕ) → conn < below → phase_of (state_at conn host) ≢ phase.Free

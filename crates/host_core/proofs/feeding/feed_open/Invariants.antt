@@ -2,8 +2,8 @@ use Rattle.std.proofs.Common.{◌≡◌, ◌-◌, ◌≤◌, length, take, None}
 use Rattle.std.specs.Vec.{vec_capacity}
 use Rattle.tn3270e_msg.specs.HostTable.{granted}
 use Rattle.host_core.specs.Bytes.{TakesBytes}
-use Rattle.host_core.specs.Representation.{IsRunning, OthersHold, connection_and_pool_of}
-use Rattle.host_core.specs.Sound.{HoldsJust}
+use Rattle.host_core.specs.Representation.{IsRunning, connection_and_pool_of}
+use Rattle.host_core.specs.Sound.{HoldsJust, OthersHold}
 use Rattle.host_core.proofs.feeding.feed_open.Given as goal
 
 abbrev pub invariant-loop-taken : goal.invariant-loop-taken

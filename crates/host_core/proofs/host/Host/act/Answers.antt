@@ -10,7 +10,7 @@ invariant_of-self c =
     let host : Host = record { panels = c.self.inside.panels; pool = c.self.inside.pool; connections = c.self.inside.connections.items; sessions = c.self.inside.sessions; terminals = c.self.inside.terminals } in
     let got = connection_got c.args.conn host c.index_mut.result.now c.requires.number c.self.invariant.0 c.index_mut.ensures.value in (
       changed_sound c.args.conn c.self.inside.pool c.act.new.self host c.requires.number c.self.invariant.0
-          (held_here c.args.conn c.act.new.self c.index_mut.result.now host c.self.invariant.0 got c.act.ensures.held)
+          (held_here c.args.conn c.act.new.self c.index_mut.result.now host c.requires.number c.self.invariant.0 got c.act.ensures.held)
           (others_stay c.args.conn c.self.inside.pool) c.act.ensures.shown,
       c.self.invariant.1,
     )

@@ -1,3 +1,5 @@
+use Rattle.std.proofs.Common.{subst}
+use Rattle.host_core.specs.Sound.{OthersHold}
 use Rattle.host_core.specs.State.{Host}
 use Rattle.host_core.proofs.Hosts.{changed_sound, held_at_connection, connection_got, shown_here}
 use Rattle.host_core.proofs.host.Host.feed.Goals as goal
@@ -14,4 +16,7 @@ invariant_of-self c =
 pub feed-requires : goal.feed-requires
 feed-requires c =
     let host : Host = record { panels = c.self.inside.panels; pool = c.self.inside.pool; connections = c.self.inside.connections.items; sessions = c.self.inside.sessions; terminals = c.self.inside.terminals } in
-    held_at_connection c.args.conn c.index_mut.result.now host c.self.invariant.0 (connection_got c.args.conn host c.index_mut.result.now c.requires.number c.self.invariant.0 c.index_mut.ensures.value)
+    held_at_connection c.args.conn c.index_mut.result.now host c.requires.number c.self.invariant.0 (connection_got c.args.conn host c.index_mut.result.now c.requires.number c.self.invariant.0 c.index_mut.ensures.value)
+
+pub returns-clause-holders : goal.returns-clause-holders
+returns-clause-holders c = subst (λ (h : Host). OthersHold c.args.conn h.pool c.feed.new.pool) c.self.view_is c.feed.ensures.others

@@ -11,7 +11,7 @@ invariant_of-self c =
     let got = connection_got c.args.conn host c.index_mut.result.now c.requires.number c.self.invariant.0 c.index_mut.ensures.value in
     let stays = ap (λ (l : Connection). l.service) c.keep_alive.ensures.kept_alive ∙ service_stays c.index_mut.result.now in (
       changed_sound c.args.conn c.self.inside.pool c.keep_alive.new.self host c.requires.number c.self.invariant.0
-          (held_here c.args.conn c.keep_alive.new.self c.index_mut.result.now host c.self.invariant.0 got (ap lu_of stays))
+          (held_here c.args.conn c.keep_alive.new.self c.index_mut.result.now host c.requires.number c.self.invariant.0 got (ap lu_of stays))
           (others_stay c.args.conn c.self.inside.pool)
           (subst (λ (s : Service). IsShown host.panels s) (sym stays) (shown_here c.args.conn c.index_mut.result.now host c.self.invariant.0 got)),
       c.self.invariant.1,

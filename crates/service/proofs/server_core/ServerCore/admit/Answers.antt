@@ -1,6 +1,6 @@
 use Rattle.std.proofs.Common.{◌∙◌, Some, ap, refl, slice_set}
 use Rattle.applications.specs.SessionNames.{session_after}
-use Rattle.host_core.specs.State.{with_opened}
+use Rattle.hosts.specs.Hosts.{opened as with_opened}
 use Rattle.service_events.specs.declared.notice.Notice.TheVariants as notice
 use Rattle.socket_links.specs.Sockets.{opened, slot_at, with_slot}
 use Rattle.service.specs.Accepting.{begins, client_of, starved}
@@ -12,12 +12,12 @@ use Rattle.service.proofs.server_core.ServerCore.admit.Goals as goal
 
 pub returns-in-Err : goal.returns-in-Err
 returns-in-Err g c =
-    starved c.in-Some.conn c.in-Some.ensures.least (ap (λ it. record c.args.self.now { host = it }) c.in-Err.ensures.unchanged) refl refl
+    starved c.in-Some.conn c.in-Some.ensures.least (ap (λ it. record c.args.self.now { hosts = it }) c.in-Err.ensures.unchanged) refl refl
 
 pub returns : goal.returns
 returns g c =
     begins c.in-Some.conn c.in-Some.ensures.least
-    (begun_is c.args.self.now c.open.new.self (with_opened c.in-Some.conn c.args.self.now.host)
+    (begun_is c.args.self.now c.open.new.self (with_opened c.in-Some.conn c.args.self.now.hosts)
     c.open-2.new.self (with_slot c.in-Some.conn (opened c.args.accepted.socket (slot_at c.in-Some.conn c.args.self.now.sockets)) c.args.self.now.sockets)
     c.set.new.self (slice_set c.args.self.now.infos c.in-Some.conn (Some (new_info (client_of c.in-Some.conn c.args.accepted c.args.self.now) c.args.self.now.now)))
     c.next-self.result (session_after c.args.self.now.next_session)

@@ -1,0 +1,16 @@
+use Rattle.std.proofs.Common.{subst, ◌≢◌}
+use Rattle.std.specs.Prelude.{◌↔◌}
+use Rattle.lu_pool.specs.Pool.{Holds}
+use Rattle.host_core.specs.Reserving.{reserver}
+use Rattle.host_core.specs.State.{Host}
+use Rattle.host_core.proofs.Hosts.{gave_others}
+use Rattle.host_core.proofs.Reserving.{reserving_sound}
+use Rattle.host_core.proofs.OneNumber.{nothing_changed}
+use Rattle.host_core.proofs.host.Host.release.Goals as goal
+
+pub invariant_of-self : goal.invariant_of-self
+invariant_of-self c =
+    let host : Host = record { panels = c.self.inside.panels; pool = c.self.inside.pool; connections = c.self.inside.connections.items; sessions = c.self.inside.sessions; terminals = c.self.inside.terminals } in (
+      reserving_sound c.args.number c.give_back.new.self host c.self.invariant.0 (gave_others (reserver c.args.number) c.self.inside.pool c.give_back.new.self c.give_back.ensures.held),
+      c.self.invariant.1,
+    )

@@ -1,0 +1,4 @@
+pub mod Apart
+pub mod Lookups
+pub mod Places
+pub mod Reloads

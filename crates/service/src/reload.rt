@@ -1,0 +1,154 @@
+//! Reading the panels again while a service runs.
+use applications::{AskedKey, JobWithoutApplication, first_asked, host_of};
+use control::ANSWER_LIMIT;
+use host_core::{Host, Terminals};
+use hosts::ReloadFault;
+use job_streams::{CountedReader, Fault, read_whole};
+use std::alloc::{AllocError, Global};
+use std::fmt;
+use std::fs::{File, Files, OpenFile};
+use std::io::{self, ErrorKind};
+
+/// The most bytes of the findings in an answer: the rest of its line has the status, and how much is left out.
+const MOST_FINDINGS: usize = ANSWER_LIMIT - 128;
+
+/// Where a service has its panels from, and what they are for.
+#[derive(Clone, Copy)]
+pub(crate) struct PanelSource<'a> {
+    /// The file's name; None if they came from the standard input.
+    pub(crate) file: Option<&'a str>,
+    /// The terminals that connect.
+    pub(crate) terminals: Terminals,
+    /// Whether the service has an application.
+    pub(crate) has_application: bool,
+}
+
+/// Why panels aren't served. Prints as the text of the answer.
+#[derive(Drop)]
+pub(crate) enum Refusal {
+    /// The panels came from the standard input, which can't be read again.
+    StandardInput,
+    /// The file can't be opened.
+    NotOpened(ErrorKind),
+    /// What is wrong with the text, in one line.
+    Wrong(String),
+    /// Sessions of too many earlier panel texts go on.
+    TooMany,
+    /// Memory was refused.
+    Memory,
+}
+
+impl From<AllocError> for Refusal {
+    fn from(_: AllocError) -> Refusal {
+        Refusal::Memory
+    }
+}
+
+impl From<ReloadFault> for Refusal {
+    fn from(fault: ReloadFault) -> Refusal {
+        match fault {
+            ReloadFault::TooMany => Refusal::TooMany,
+            ReloadFault::Memory => Refusal::Memory,
+        }
+    }
+}
+
+impl fmt::Display for Refusal {
+    fn fmt<W: fmt::Write>(&self, f: &mut fmt::Formatter<W>) -> fmt::Result {
+        match self {
+            Refusal::StandardInput => {
+                f.write_str("the panels came from standard input; start serve with --panels FILE")
+            }
+            Refusal::NotOpened(ErrorKind::NotFound) => f.write_str("the file isn't there"),
+            Refusal::NotOpened(ErrorKind::PermissionDenied) => {
+                f.write_str("permission to read the file is denied")
+            }
+            Refusal::NotOpened(_) => f.write_str("the file can't be opened"),
+            Refusal::Wrong(text) => f.write_str(text.as_str()),
+            Refusal::TooMany => {
+                f.write_str("sessions of 8 earlier panel texts go on; wait until those of one end")
+            }
+            Refusal::Memory => f.write_str("no memory"),
+        }
+    }
+}
+
+/// Opens a file for reading. A directory is refused.
+fn open<R: Files>(rt: &R, name: &str) -> io::Result<R::File> {
+    let file = File::open(rt, name)?;
+    if file.metadata()?.is_dir() {
+        return Err(ErrorKind::IsADirectory.into());
+    }
+    Ok(file)
+}
+
+/// The lines of a page, joined by `; `. Lines beyond `MOST_FINDINGS` bytes are counted, but the last one has the totals.
+fn in_one_line(alloc: Global, page: &str) -> Result<String, AllocError> {
+    let mut joined = String::new(alloc);
+    let mut left_out: usize = 0;
+    let mut totals = "";
+    for line in page.lines() {
+        let finding = totals;
+        totals = line;
+        if finding.is_empty() {
+            continue;
+        }
+        if left_out > 0 || joined.len() + finding.len() > MOST_FINDINGS {
+            left_out = left_out.saturating_add(1);
+            continue;
+        }
+        joined.push_str(finding)?;
+        joined.push_str("; ")?;
+    }
+    if left_out > 0 {
+        write!(joined, "and {left_out} more; ")?;
+    }
+    joined.push_str(totals)?;
+    Ok(joined)
+}
+
+/// What `check` says of a text that a host refuses for this fault; just the fault if `check` finds none.
+fn refusal_of(alloc: Global, name: &str, text: &str, fault: Fault) -> Result<String, AllocError> {
+    let report = panel_check::check(alloc, text)?;
+    if report.faults() == 0 {
+        return format!(in alloc; "{fault}");
+    }
+    let page = report.page(alloc, name)?;
+    in_one_line(alloc, page.as_str())
+}
+
+/// A host of the panels that the file has now.
+pub(crate) fn host_again<R: Files>(
+    rt: &R,
+    alloc: Global,
+    source: &PanelSource<'_>,
+) -> Result<Host, Refusal> {
+    let Some(name) = source.file else {
+        return Err(Refusal::StandardInput);
+    };
+    let file = match open(rt, name) {
+        Ok(file) => file,
+        Err(error) => return Err(Refusal::NotOpened(error.kind())),
+    };
+    let text = match read_whole(alloc, &mut CountedReader::new(file)) {
+        Ok(text) => text,
+        Err(Fault::NoMemory) => return Err(Refusal::Memory),
+        Err(fault) => return Err(Refusal::Wrong(format!(in alloc; "{fault}")?)),
+    };
+    let host = match host_of(alloc, source.terminals, text.as_str()) {
+        Ok(host) => host,
+        Err(Fault::NoMemory) => return Err(Refusal::Memory),
+        Err(fault) => return Err(Refusal::Wrong(refusal_of(alloc, name, text.as_str(), fault)?)),
+    };
+    if source.has_application {
+        return Ok(host);
+    }
+    match first_asked(host.panels()) {
+        Some((panel, key)) => {
+            let by = JobWithoutApplication::Serve;
+            let asked = AskedKey { panel, key, by };
+            Err(Refusal::Wrong(format!(in alloc; "{asked}")?))
+        }
+        None => Ok(host),
+    }
+}
