@@ -1,5 +1,7 @@
-"""The metrics page of `serve`: what it counts, and who may read it."""
+"""The metrics port of `serve`: what it counts, who is connected, and who may read that."""
+import calendar
 import contextlib
+import json
 import re
 import select
 import socket
@@ -290,6 +292,68 @@ def each_request_has_its_answer():
         expect(
             "the answer to a slow client", scraped(host.metrics, *slow, pause=0.02).decode(), page
         )
+
+
+# What a response with sessions says: it isn't kept, and loads nothing.
+GUARDED = "Cache-Control: no-store\r\nContent-Security-Policy: default-src 'none'\r\n"
+
+
+def sessions(host, path, kind, name="localhost"):
+    """The body of the answer to a request for sessions, whose head is as it has to be."""
+    asked = f"GET {path} HTTP/1.1\r\nHost: {name}:{host.metrics}\r\n\r\n"
+    head, _, body = scraped(host.metrics, asked.encode()).decode().partition("\r\n\r\n")
+    fields = f"Content-Type: {kind}\r\nContent-Length: {len(body)}\r\nConnection: close"
+    expect(f"the head of {path}", head, f"HTTP/1.1 200 OK\r\n{GUARDED}{fields}")
+    return body
+
+
+@check
+def sessions_are_listed():
+    """Each open connection is listed with its session, LU, client, start, turns and phase, as data
+    and as a page; none that has ended; nothing that was typed."""
+    with metered() as host:
+        expect("no sessions", sessions(host, "/sessions.json", "application/json"), '{"sessions":[]}\n')
+        began = int(time.time())
+        first, second, third = host.client().signs_on("PNL01"), host.client(), host.client()
+        first.enters()
+        third.is_asked()
+        second.is_asked()
+        second.ends()
+        until("an end", lambda: "event=lost" in host.logged())
+        rows = json.loads(sessions(host, "/sessions.json", "application/json"))["sessions"]
+        boot = rows[0]["session"].partition("-")[0]
+        for row in rows:
+            since = time.strptime(row.pop("since"), "%Y-%m-%dT%H:%M:%SZ")
+            expect("a start", abs(calendar.timegm(since) - began) <= 5, True)
+        peers = [f"{LOCALHOST}:{it.socket.getsockname()[1]}" for it in (first, third)]
+        wanted = [
+            {"session": f"{boot}-0", "lu": "PNL01", "client": peers[0], "turns": 1, "phase": "operator"},
+            {"session": f"{boot}-2", "lu": None, "client": peers[1], "turns": 0, "phase": "negotiating"},
+        ]
+        expect("the sessions", rows, wanted)
+        page = sessions(host, "/sessions", "text/html; charset=utf-8", "127.0.0.1")
+        found = [re.split("<td>", it)[1:] for it in re.findall("<tr>(<td>.*)", page)]
+        expect(
+            "the page",
+            [[*it[:3], *it[4:]] for it in found],
+            [
+                [f"{boot}-0", "PNL01", peers[0], "1", "operator"],
+                [f"{boot}-2", "-", peers[1], "0", "negotiating"],
+            ],
+        )
+
+
+@check
+def sessions_are_told_at_this_machine_alone():
+    """A Host of another name, none, or two are refused, as a page of another site would send them
+    after DNS rebinding."""
+    with metered() as host:
+        refused = response("403 Forbidden")
+        for fields in ("Host: evil.example", "", "Host: localhost\r\nHost: localhost", "Host: localhost.evil"):
+            for path in ("/sessions", "/sessions.json?x"):
+                asked = f"GET {path} HTTP/1.1\r\n{fields}\r\n\r\n".replace("\r\n\r\n\r\n", "\r\n\r\n")
+                came = scraped(host.metrics, asked.encode()).decode()
+                expect(f"the answer to {asked!r}", came, refused)
 
 
 def answers_of(page):

@@ -26,6 +26,7 @@ mod server;
 mod server_core;
 mod service_turn;
 mod serving;
+mod session_page;
 mod uptime;
 mod watcher;
 

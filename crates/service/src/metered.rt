@@ -2,7 +2,7 @@
 ghost use Rattle.std.specs.Prelude.{◌<◌};
 ghost use Rattle.host_core.specs.State.{most_connections};
 
-use crate::metrics_port::MetricsPort;
+use crate::metrics_port::{MetricsPort, Served};
 use crate::server::Server;
 use crate::watcher::Watcher;
 use applications::{ApplicationFault, Replaced};
@@ -97,7 +97,7 @@ impl<W: Watcher> Watcher for MetricsObserver<'_, W> {
         if !self.port.accept_all(server, now) {
             return false;
         }
-        let page = self.page(server);
-        self.port.serve_all(now, &page)
+        let page = &self.page(server);
+        self.port.serve_all(now, Served { page, server })
     }
 }

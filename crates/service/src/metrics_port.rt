@@ -1,11 +1,12 @@
-//! The port of 127.0.0.1 at which a server serves its metrics, and the clients there.
+//! The port of 127.0.0.1 at which a server serves its metrics and a list of its sessions, and the clients there.
 use crate::reply::{IoProgress, Reply};
 use crate::server::Server;
+use crate::session_page::{session_data, session_page};
 use host_core::{LinkRead, MOST_CONNECTIONS};
 use job_streams::Fault;
 use jobs::ServicePort;
 use mio::net::{TcpListener, TcpStream};
-use service_events::{HttpStatus, MetricsPage, RequestHead, is_late, response_of};
+use service_events::{HttpStatus, MetricsPage, RequestHead, Resource, is_late, response_of};
 use socket_links::read_once;
 use std::alloc::{AllocError, Global};
 use std::net::{Ipv4Addr, Net, Shutdown, SocketAddr};
@@ -36,14 +37,35 @@ struct MetricsClient {
     response: Option<Reply>,
 }
 
-/// The response for a status, with the page of metrics if the status is 200.
-fn response_for(
-    alloc: Global,
-    status: HttpStatus,
-    page: &MetricsPage,
-) -> Result<String, AllocError> {
-    let page = format!(in alloc; "{page}")?;
-    response_of(alloc, status, page.as_str())
+/// What the port serves.
+#[derive(Clone, Copy)]
+pub(crate) struct Served<'a> {
+    /// The counts, with those of open connections.
+    pub(crate) page: &'a MetricsPage,
+    pub(crate) server: &'a Server,
+}
+
+impl Served<'_> {
+    /// The text of a resource.
+    fn text_of(&self, alloc: Global, resource: Resource) -> Result<String, AllocError> {
+        let Served { page, server } = *self;
+        match resource {
+            Resource::Metrics => format!(in alloc; "{page}"),
+            Resource::Sessions => session_page(alloc, server, page.started),
+            Resource::SessionData => session_data(alloc, server, page.started),
+        }
+    }
+
+    /// The response for a status, with the resource if the status is 200.
+    fn response_for(&self, alloc: Global, status: HttpStatus) -> Result<String, AllocError> {
+        match status {
+            HttpStatus::Found(_, resource) => {
+                let text = self.text_of(alloc, resource)?;
+                response_of(alloc, status, text.as_str())
+            }
+            _ => response_of(alloc, status, ""),
+        }
+    }
 }
 
 impl MetricsClient {
@@ -66,22 +88,22 @@ impl MetricsClient {
     }
 
     /// Reads or writes once. The client is dropped if its time is over, or if its socket ended or failed.
-    fn serve(&mut self, alloc: Global, now: u64, page: &MetricsPage) -> IoProgress {
+    fn serve(&mut self, alloc: Global, now: u64, served: Served<'_>) -> IoProgress {
         if is_late(self.began, now) {
             return IoProgress::Over;
         }
         if self.is_answering() {
             self.write()
         } else {
-            self.read(alloc, page)
+            self.read(alloc, served)
         }
     }
 
     /// Reads once.
-    fn read(&mut self, alloc: Global, page: &MetricsPage) -> IoProgress {
+    fn read(&mut self, alloc: Global, served: Served<'_>) -> IoProgress {
         let mut buffer = [0; READ_ROOM];
         match read_once(&mut self.socket, &mut buffer) {
-            LinkRead::Got(count) => self.take(alloc, &buffer[..count], page),
+            LinkRead::Got(count) => self.take(alloc, &buffer[..count], served),
             LinkRead::NotNow => IoProgress::Still,
             LinkRead::Ended | LinkRead::Failed => IoProgress::Over,
         }
@@ -89,20 +111,20 @@ impl MetricsClient {
 
     /// Takes received bytes. They are ignored once a response is being sent, since the client then has only to close.
     /// If memory is refused, the client is dropped.
-    fn take(&mut self, alloc: Global, bytes: &[u8], page: &MetricsPage) -> IoProgress {
+    fn take(&mut self, alloc: Global, bytes: &[u8], served: Served<'_>) -> IoProgress {
         if self.response.is_some() {
             return IoProgress::Still;
         }
         match self.asked.take(bytes) {
-            Ok(Some(status)) => self.respond(alloc, status, page),
+            Ok(Some(status)) => self.respond(alloc, status, served),
             Ok(None) => IoProgress::Moved,
             Err(_) => IoProgress::Over,
         }
     }
 
     /// Builds the response.
-    fn respond(&mut self, alloc: Global, status: HttpStatus, page: &MetricsPage) -> IoProgress {
-        match response_for(alloc, status, page) {
+    fn respond(&mut self, alloc: Global, status: HttpStatus, served: Served<'_>) -> IoProgress {
+        match served.response_for(alloc, status) {
             Ok(response) => {
                 self.response = Some(Reply::new(response));
                 IoProgress::Moved
@@ -125,7 +147,7 @@ impl MetricsClient {
     }
 }
 
-/// A port of 127.0.0.1 that answers with metrics.
+/// A port of 127.0.0.1 that answers with metrics and sessions.
 #[derive(Drop)]
 pub(crate) struct MetricsPort {
     alloc: Global,
@@ -181,21 +203,21 @@ impl MetricsPort {
     }
 
     /// Serves each client once, and drops those that are over. Answers whether a byte was read or written.
-    pub(crate) fn serve_all(&mut self, now: u64, page: &MetricsPage) -> bool {
+    pub(crate) fn serve_all(&mut self, now: u64, served: Served<'_>) -> bool {
         let mut moved = false;
         for index in (0..MOST_CLIENTS).rev() {
-            moved |= self.serve(index, now, page);
+            moved |= self.serve(index, now, served);
         }
         moved
     }
 
     /// Serves the client with this index, if there is one.
-    fn serve(&mut self, index: usize, now: u64, page: &MetricsPage) -> bool {
+    fn serve(&mut self, index: usize, now: u64, served: Served<'_>) -> bool {
         if index >= self.clients.len() {
             return false;
         }
         let alloc = self.alloc;
-        match self.clients[index].serve(alloc, now, page) {
+        match self.clients[index].serve(alloc, now, served) {
             IoProgress::Moved => true,
             IoProgress::Still => false,
             IoProgress::Over => {

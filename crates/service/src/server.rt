@@ -14,9 +14,9 @@ use crate::note_queue::NoteQueue;
 use crate::proxy_listener::{ConnectionAwaitingHeader, MOST_HELD, ProxyListener};
 use crate::server_core::ServerCore;
 use crate::watcher::Watcher;
-use applications::{ApplicationFault, EndedSession, Query, Replaced};
+use applications::{ApplicationFault, EndedSession, Query, Replaced, SessionName};
 use codes3270::Model as TerminalModel;
-use host_core::{Acted, Answer, Host, MOST_CONNECTIONS, PanelSet, Ticket};
+use host_core::{Acted, Answer, Host, MOST_CONNECTIONS, PanelSet, Ticket, Turn};
 use hosts::ReloadFault;
 use job_streams::{Fault, RawRead, RawWrite};
 use jobs::TimeLimits;
@@ -58,15 +58,22 @@ impl Model for Server {
     ghost view = { λ server. server.core };
 }
 
-/// What an operator gets to know of a session.
+/// What an operator gets to know of a session: nothing that was typed or shown.
 #[derive(Clone, Copy)]
 pub(crate) struct SessionRow {
+    pub(crate) name: SessionName,
     /// The LU that its terminal is bound to, if it is.
     pub(crate) lu: Option<Lu>,
     /// The address of its client.
     pub(crate) peer: SocketAddr,
+    /// When it began, in milliseconds of the server's time.
+    pub(crate) began: u64,
     /// How long it has lasted, in seconds.
     pub(crate) seconds: u64,
+    /// How many screens were shown after the first.
+    pub(crate) turns: u64,
+    /// Whose turn it is.
+    pub(crate) turn: Turn,
 }
 
 /// The listener of a server, and the poll to which accepted sockets are added.
@@ -228,10 +235,15 @@ impl Server {
         requires { conn < most_connections }
     {
         let info = self.core.open_info(conn)?;
+        let began = info.activity.began;
         Some(SessionRow {
+            name: info.client.session,
             lu: info.lu,
             peer: info.client.peer,
-            seconds: self.core.now.saturating_sub(info.activity.began) / 1000,
+            began,
+            seconds: self.core.now.saturating_sub(began) / 1000,
+            turns: info.screens.saturating_sub(1),
+            turn: self.core.hosts.at(conn).turn(conn),
         })
     }
 

@@ -1,11 +1,13 @@
 -- The answers to a client of the metrics port (our profile, after RFC 9110 and RFC 9112).
-use Rattle.std.specs.Prelude.{◌≡◌, ◌≤◌, ◌<◌, ◌-◌, ◌⊎◌, ◌||◌, ℕ, Bool, List, ◌++◌, length, take, codes, bytes_eq, nat_eq, nat_le, Option, Some, None, if◌then◌else◌}
+use Rattle.std.specs.Prelude.{◌≡◌, ◌≤◌, ◌<◌, ◌-◌, ◌==◌, ◌⊎◌, ◌||◌, ℕ, Bool, false, List, ◌++◌, before_first, length, map, take, codes, bytes_eq, nat_le, Option, Some, None, if◌then◌else◌}
 use Rattle.std.specs.Fmt.{decimal}
-use Rattle.std.specs.List.{starts_with}
 use Rattle.httparse.specs.Grammar.{RequestHead, ReadsRequest, HasNoRequest, NeverHasRequest}
-use Rattle.httparse.specs.Spans.{RequestExceeds}
+use Rattle.httparse.specs.Spans.{RequestExceeds, name_and_value}
+use Rattle.web_wire.specs.Heads.{only_value}
 use Rattle.service_events.specs.declared.scrape.Method.{Method}
 use Rattle.service_events.specs.declared.scrape.Method.TheVariants as method
+use Rattle.service_events.specs.declared.scrape.Resource.{Resource}
+use Rattle.service_events.specs.declared.scrape.Resource.TheVariants as resource
 use Rattle.service_events.specs.declared.scrape.HttpStatus.{HttpStatus}
 use Rattle.service_events.specs.declared.scrape.HttpStatus.TheVariants as status
 
@@ -30,26 +32,52 @@ client_time = 5000
 abbrev pub is_late : (began now : ℕ) → Bool
 is_late began now = nat_le client_time (now - began)
 
--- whether the target is /metrics, with or without a query
-abbrev pub names_metrics : List ℕ → Bool
-names_metrics target = bytes_eq target (codes "/metrics") || starts_with nat_eq target (codes "/metrics?")
+-- a target without its query, which follows the first `?`
+abbrev pub path_of : List ℕ → List ℕ
+path_of target = before_first (λ byte. byte == 63) target
 
--- the method with this name, of those that /metrics has
+-- the resource with this path
+abbrev pub resource_of : List ℕ → Option Resource
+resource_of path =
+    if bytes_eq path (codes "/metrics") then Some resource.Metrics else
+    if bytes_eq path (codes "/sessions") then Some resource.Sessions else
+    if bytes_eq path (codes "/sessions.json") then Some resource.SessionData else None
+
+-- the name of a host without its port, which follows the first `:`
+abbrev pub host_name : List ℕ → List ℕ
+host_name host = before_first (λ byte. byte == 58) host
+
+abbrev pub is_local_name : List ℕ → Bool
+is_local_name name = bytes_eq name (codes "127.0.0.1") || bytes_eq name (codes "localhost")
+
+-- whether the only field Host names this machine
+abbrev pub is_local : Option (List ℕ) → Bool
+is_local None = false
+is_local (Some host) = is_local_name (host_name host)
+
+-- the method with this name, of those that the resources have
 abbrev pub method_of : List ℕ → Option Method
 method_of name =
     if bytes_eq name (codes "GET") then Some method.Get else
     if bytes_eq name (codes "HEAD") then Some method.Head else None
 
--- the status for a complete head
-abbrev pub status_for_method : Option Method → (target : List ℕ) → HttpStatus
-status_for_method (Some asked) target = if names_metrics target then status.Found asked else status.NotFound
-status_for_method None target = status.MethodNotAllowed
+-- The status for a resource. Sessions are told at this machine's own names alone, against DNS rebinding.
+abbrev pub status_for_resource : Method → Option Resource → (host : Option (List ℕ)) → HttpStatus
+status_for_resource asked None host = status.NotFound
+status_for_resource asked (Some resource.Metrics) host = status.Found asked resource.Metrics
+status_for_resource asked (Some found) host = if is_local host then status.Found asked found else status.Forbidden
 
-abbrev pub status_of_parts : (name target : List ℕ) → HttpStatus
-status_of_parts name target = status_for_method (method_of name) target
+-- the status for a complete head
+abbrev pub status_for_method : Option Method → (target : List ℕ) → (host : Option (List ℕ)) → HttpStatus
+status_for_method (Some asked) target host = status_for_resource asked (resource_of (path_of target)) host
+status_for_method None target host = status.MethodNotAllowed
+
+abbrev pub status_of_parts : (name target : List ℕ) → (host : Option (List ℕ)) → HttpStatus
+status_of_parts name target host = status_for_method (method_of name) target host
 
 abbrev pub status_of : RequestHead → HttpStatus
-status_of head = status_of_parts head.method head.target
+status_of head =
+    status_of_parts head.method head.target (only_value (map name_and_value head.fields) (codes "Host"))
 
 -- holds if the bytes begin with a complete head that has this status
 abbrev pub HasHead : List ℕ → HttpStatus → Type 0
@@ -59,7 +87,8 @@ HasHead bytes found =
 -- Holds if the bytes have this status. A head is too large if it isn't complete within the most bytes, or has more than
 -- the most fields.
 abbrev pub IsCalledFor : List ℕ → HttpStatus → Type 0
-IsCalledFor bytes (status.Found asked) = HasHead bytes (status.Found asked)
+IsCalledFor bytes (status.Found asked found) = HasHead bytes (status.Found asked found)
+IsCalledFor bytes status.Forbidden = HasHead bytes status.Forbidden
 IsCalledFor bytes status.NotFound = HasHead bytes status.NotFound
 IsCalledFor bytes status.MethodNotAllowed = HasHead bytes status.MethodNotAllowed
 IsCalledFor bytes status.BadRequest = NeverHasRequest bytes
@@ -75,44 +104,54 @@ IsAnswerTo bytes (Some found) = IsCalledFor bytes found
 
 -- the status line's number and phrase
 abbrev pub status_text : HttpStatus → List ℕ
-status_text (status.Found asked) = codes "200 OK"
+status_text (status.Found asked found) = codes "200 OK"
 status_text status.BadRequest = codes "400 Bad Request"
+status_text status.Forbidden = codes "403 Forbidden"
 status_text status.NotFound = codes "404 Not Found"
 status_text status.MethodNotAllowed = codes "405 Method Not Allowed"
 status_text status.HeadTooLarge = codes "431 Request Header Fields Too Large"
 
--- the field Allow for a request with another method
-abbrev pub allow_field : HttpStatus → List ℕ
-allow_field status.MethodNotAllowed = codes "Allow: GET, HEAD\r\n"
-allow_field _ = codes ""
+-- the fields of a response with sessions: it isn't kept, and the page loads nothing
+abbrev pub session_fields : List ℕ
+session_fields = codes "Cache-Control: no-store\r\nContent-Security-Policy: default-src 'none'\r\n"
+
+-- the further fields: for a request with another method those that are allowed
+abbrev pub extra_fields : HttpStatus → List ℕ
+extra_fields status.MethodNotAllowed = codes "Allow: GET, HEAD\r\n"
+extra_fields (status.Found asked resource.Sessions) = session_fields
+extra_fields (status.Found asked resource.SessionData) = session_fields
+extra_fields _ = codes ""
 
 unfoldable pub status_lines : HttpStatus → List ℕ
-status_lines found = codes "HTTP/1.1 " ++ status_text found ++ codes "\r\n" ++ allow_field found
+status_lines found = codes "HTTP/1.1 " ++ status_text found ++ codes "\r\n" ++ extra_fields found
 
--- the Content-Type: Prometheus' text format
-unfoldable pub content_type : List ℕ
-content_type = codes "text/plain; version=0.0.4; charset=utf-8"
+-- the Content-Type; of metrics it is Prometheus' text format
+abbrev pub content_type : HttpStatus → List ℕ
+content_type (status.Found asked resource.Sessions) = codes "text/html; charset=utf-8"
+content_type (status.Found asked resource.SessionData) = codes "application/json"
+content_type _ = codes "text/plain; version=0.0.4; charset=utf-8"
 
 -- the connection is closed after each response
 unfoldable pub connection_field : List ℕ
 connection_field = codes "Connection: close\r\n"
 
 -- the fields of every response, and the empty line
-unfoldable pub field_lines : (length : ℕ) → List ℕ
-field_lines length =
-    codes "Content-Type: " ++ (content_type
+unfoldable pub field_lines : (kind : List ℕ) → (length : ℕ) → List ℕ
+field_lines kind length =
+    codes "Content-Type: " ++ (kind
     ++ (codes "\r\nContent-Length: " ++ (decimal length ++ (codes "\r\n" ++ (connection_field ++ codes "\r\n")))))
 
--- the body: the page for 200, otherwise empty
+-- the body: the resource for 200, otherwise empty
 abbrev pub body_for : HttpStatus → (page : List ℕ) → List ℕ
-body_for (status.Found asked) page = page
+body_for (status.Found asked found) page = page
 body_for _ page = codes ""
 
 -- what is sent of the body: nothing to HEAD (RFC 9110, section 9.3.2)
 abbrev pub sent_body : HttpStatus → (page : List ℕ) → List ℕ
-sent_body (status.Found method.Head) page = codes ""
+sent_body (status.Found method.Head found) page = codes ""
 sent_body found page = body_for found page
 
 -- a whole response; the length is that of the body, also to HEAD
 abbrev pub response : HttpStatus → (page : List ℕ) → List ℕ
-response found page = status_lines found ++ field_lines (length (body_for found page)) ++ sent_body found page
+response found page = status_lines found ++ field_lines (content_type found) (length (body_for found page))
+    ++ sent_body found page

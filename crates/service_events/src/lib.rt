@@ -17,4 +17,4 @@ pub use limits::{Activity, Awaited, Due, Overdue, are_applied, awaited_on};
 pub use metrics::Metrics;
 pub use metrics_page::MetricsPage;
 pub use notice::{BadHeader, Client, Commanded, Ending, Notice, PanelCounts, Usage, ending_of};
-pub use scrape::{HttpStatus, Method, RequestHead, is_late, response_of};
+pub use scrape::{HttpStatus, Method, RequestHead, Resource, is_late, response_of};

@@ -1,13 +1,17 @@
-//! The answers to a client of the metrics port: the part of HTTP/1.1 (RFC 9110, RFC 9112) that `/metrics` needs.
-ghost use Rattle.std.specs.Prelude.{◌≡◌, ◌≤◌, ◌++◌, [], ℕ, List, Some, IfOk, OnErr, OnOk, length, string_bytes, take};
+//! The answers to a client of the metrics port: the part of HTTP/1.1 (RFC 9110, RFC 9112) that its resources need.
+ghost use Rattle.std.specs.Prelude.{◌≡◌, ◌≤◌, ◌++◌, ◌==◌, [], ℕ, List, Some, All, IfOk, OnErr, OnOk, before_first, length, option_map, string_bytes, take};
 ghost use Rattle.httparse.specs.Grammar.{RequestHead as Head, ReadsRequest};
-ghost use Rattle.service_events.specs.Scrapes.{IsAnswerTo, allow_field, body_for, connection_field, content_type, most_fields, is_late, method_of, names_metrics, response, sent_body, status_lines, status_of, status_of_parts, status_text, with_more};
+ghost use Rattle.httparse.specs.Spans.{IsHeaderWithin};
+ghost use Rattle.service_events.specs.Scrapes.{IsAnswerTo, body_for, connection_field, extra_fields, content_type, most_fields, is_late, is_local, method_of, path_of, resource_of, response, sent_body, status_for_resource, status_lines, status_of, status_of_parts, status_text, with_more};
+ghost use Rattle.websocket.specs.Headers.{fields_of};
+ghost use Rattle.web_wire.specs.Heads.{only_value};
 
 use httparse::spans::{EMPTY_HEADER_SPAN, parse_request};
 use httparse::{Error, Status};
 use std::alloc::{AllocError, Global};
 use std::fmt;
 use std::marker::Model;
+use web_wire::only_value;
 
 /// The most bytes of a request's head.
 pub(crate) const MOST_HEAD: usize = 4096;
@@ -15,7 +19,7 @@ pub(crate) const MOST_HEAD: usize = 4096;
 /// The most header fields of a request.
 const MOST_FIELDS: usize = 64;
 
-/// The methods that /metrics has (RFC 9110, section 9.3).
+/// The methods that the resources have (RFC 9110, section 9.3).
 #[derive(Clone, Copy)]
 pub enum Method {
     Get,
@@ -23,14 +27,27 @@ pub enum Method {
     Head,
 }
 
+/// What the port serves (our profile).
+#[derive(Clone, Copy)]
+pub enum Resource {
+    /// `/metrics`, in Prometheus' text format.
+    Metrics,
+    /// `/sessions`, a page in HTML.
+    Sessions,
+    /// `/sessions.json`, the same in JSON.
+    SessionData,
+}
+
 /// The status of a response (RFC 9110, section 15).
 #[derive(Clone, Copy)]
 pub enum HttpStatus {
-    /// 200: the body is the page.
-    Found(Method),
+    /// 200: the body is this resource.
+    Found(Method, Resource),
     /// 400: the bytes don't begin an HTTP request.
     BadRequest,
-    /// 404: the path is not /metrics.
+    /// 403: sessions are asked for at another Host than this machine, as by DNS rebinding.
+    Forbidden,
+    /// 404: the path is of no resource.
     NotFound,
     /// 405: the method is neither GET nor HEAD.
     MethodNotAllowed,
@@ -38,14 +55,39 @@ pub enum HttpStatus {
     HeadTooLarge,
 }
 
-/// Whether a request's target is /metrics, with or without a query.
-fn names_metrics(target: &[u8]) -> bool
-    ensures { result ≡ names_metrics target.now }
+/// The bytes before the first one that is `end`; all if there is none.
+fn before(bytes: &[u8], end: u8) -> &[u8]
+    ensures { result.now ≡ before_first (λ byte. byte == end) bytes.now }
 {
-    target == b"/metrics".as_slice() || target.starts_with(b"/metrics?")
+    match bytes.iter().position(|byte| *byte == end) {
+        Some(place) => &bytes[..place],
+        None => bytes,
+    }
 }
 
-/// The method with this name; None if /metrics doesn't have it.
+/// The resource with this path; None if there is none.
+fn resource_of(path: &[u8]) -> Option<Resource>
+    ensures { result ≡ resource_of path.now }
+{
+    match path {
+        b"/metrics" => Some(Resource::Metrics),
+        b"/sessions" => Some(Resource::Sessions),
+        b"/sessions.json" => Some(Resource::SessionData),
+        _ => None,
+    }
+}
+
+/// Whether the only field Host of a request names this machine, at any port.
+fn is_local(host: Option<&[u8]>) -> bool
+    ensures { result ≡ is_local (option_map (λ value. value.now) host.entry) }
+{
+    match host {
+        Some(host) => matches!(before(host, b':'), b"127.0.0.1" | b"localhost"),
+        None => false,
+    }
+}
+
+/// The method with this name; None if the resources don't have it.
 fn method_of(name: &[u8]) -> Option<Method>
     ensures { result ≡ method_of name.now }
 {
@@ -56,13 +98,28 @@ fn method_of(name: &[u8]) -> Option<Method>
     }
 }
 
+/// The status for a resource that is asked for at a host.
+fn status_for_resource(
+    method: Method,
+    resource: Option<Resource>,
+    host: Option<&[u8]>,
+) -> HttpStatus
+    ensures { result ≡ status_for_resource method resource (option_map (λ value. value.now) host.entry) }
+{
+    match resource {
+        None => HttpStatus::NotFound,
+        Some(Resource::Metrics) => HttpStatus::Found(method, Resource::Metrics),
+        Some(resource) if is_local(host) => HttpStatus::Found(method, resource),
+        Some(_) => HttpStatus::Forbidden,
+    }
+}
+
 /// The status for a complete head.
-fn status_of_parts(method: &[u8], target: &[u8]) -> HttpStatus
-    ensures { result ≡ status_of_parts method.now target.now }
+fn status_of_parts(method: &[u8], target: &[u8], host: Option<&[u8]>) -> HttpStatus
+    ensures { result ≡ status_of_parts method.now target.now (option_map (λ value. value.now) host.entry) }
 {
     match method_of(method) {
-        Some(method) if names_metrics(target) => HttpStatus::Found(method),
-        Some(_) => HttpStatus::NotFound,
+        Some(method) => status_for_resource(method, resource_of(before(target, b'?')), host),
         None => HttpStatus::MethodNotAllowed,
     }
 }
@@ -77,7 +134,8 @@ pub fn status_for(bytes: &[u8]) -> Option<HttpStatus>
     let mut headers = [EMPTY_HEADER_SPAN; MOST_FIELDS];
     match parse_request(bytes, &mut headers) {
         Ok(Status::Complete(head)) => {
-            Some(status_of_parts(head.method.of(bytes), head.path.of(bytes)))
+            let host = only_value(bytes, &headers[..head.headers], b"Host");
+            Some(status_of_parts(head.method.of(bytes), head.path.of(bytes), host))
         }
         Ok(Status::Partial) if bytes.len() < MOST_HEAD => None,
         Ok(Status::Partial) => Some(HttpStatus::HeadTooLarge),
@@ -92,41 +150,49 @@ impl HttpStatus {
         ensures { result.now ≡ status_text self }
     {
         match self {
-            HttpStatus::Found(_) => "200 OK",
+            HttpStatus::Found(_, _) => "200 OK",
             HttpStatus::BadRequest => "400 Bad Request",
+            HttpStatus::Forbidden => "403 Forbidden",
             HttpStatus::NotFound => "404 Not Found",
             HttpStatus::MethodNotAllowed => "405 Method Not Allowed",
             HttpStatus::HeadTooLarge => "431 Request Header Fields Too Large",
         }
     }
 
-    /// The field Allow, if a response with this status has it.
-    fn allow_field(self) -> &'static str
-        ensures { result.now ≡ allow_field self }
+    /// The further fields of a response with this status: the methods that are allowed (RFC 9110, section 15.5.6); and
+    /// that nobody keeps who is connected, and that the page loads nothing.
+    fn extra_fields(self) -> &'static str
+        ensures { result.now ≡ extra_fields self }
     {
         match self {
             HttpStatus::MethodNotAllowed => "Allow: GET, HEAD\r\n",
+            HttpStatus::Found(_, Resource::Sessions | Resource::SessionData) => {
+                "Cache-Control: no-store\r\nContent-Security-Policy: default-src 'none'\r\n"
+            }
             _ => "",
+        }
+    }
+
+    /// The Content-Type of a response with this status. Metrics are in Prometheus' text format.
+    fn content_type(self) -> &'static str
+        ensures { result.now ≡ content_type self }
+    {
+        match self {
+            HttpStatus::Found(_, Resource::Sessions) => "text/html; charset=utf-8",
+            HttpStatus::Found(_, Resource::SessionData) => "application/json",
+            _ => "text/plain; version=0.0.4; charset=utf-8",
         }
     }
 }
 
-/// Adds the status line, and the field Allow if there is one.
+/// Adds the status line, and further fields if there are any.
 #[tactic(auto, unfolding(crate::specs::Scrapes::status_lines))]
 fn put_status(text: &mut String, status: HttpStatus) -> Result<(), AllocError>
     ensures { OnOk result (string_bytes text.new ≡ string_bytes text.old ++ status_lines status) }
 {
     let phrase = status.text();
-    let allow = status.allow_field();
-    write!(text, "HTTP/1.1 {phrase}\r\n{allow}")
-}
-
-/// The Content-Type of every response: Prometheus' text format.
-#[tactic(auto, unfolding(crate::specs::Scrapes::content_type))]
-fn content_type() -> &'static str
-    ensures { result.now ≡ content_type }
-{
-    "text/plain; version=0.0.4; charset=utf-8"
+    let extra = status.extra_fields();
+    write!(text, "HTTP/1.1 {phrase}\r\n{extra}")
 }
 
 /// The field Connection of every response.
@@ -137,21 +203,23 @@ fn connection_field() -> &'static str
     "Connection: close\r\n"
 }
 
-/// Adds the fields of every response, with the length of the body in bytes, and the empty line.
+/// Adds the fields of every response, with its Content-Type and the length of the body in bytes, and the empty line.
 #[derive(Clone, Copy)]
-struct Fields(usize);
+struct Fields {
+    kind: &'static str,
+    length: usize,
+}
 
 impl fmt::Display for Fields {
     ghost use Rattle.std.specs.Prelude.{Some};
     ghost use Rattle.service_events.specs.Scrapes.{field_lines};
 
-    ghost output = { λ fields. Some (field_lines fields.0) };
+    ghost output = { λ fields. Some (field_lines fields.kind fields.length) };
 
     #[tactic(auto, unfolding(crate::specs::Scrapes::field_lines))]
     fn fmt<W: fmt::Write>(&self, f: &mut fmt::Formatter<W>) -> fmt::Result {
-        let kind = content_type();
+        let Fields { kind, length } = *self;
         let close = connection_field();
-        let length = self.0;
         write!(
             f,
             "Content-Type: {kind}\r\nContent-Length: {length}\r\n{close}\r\n"
@@ -159,12 +227,12 @@ impl fmt::Display for Fields {
     }
 }
 
-/// The body of a response: the page of metrics, or nothing.
+/// The body of a response: the resource, or nothing.
 fn body_for(status: HttpStatus, page: &str) -> &str
     ensures { result.now ≡ body_for status page.now }
 {
     match status {
-        HttpStatus::Found(_) => page,
+        HttpStatus::Found(_, _) => page,
         _ => "",
     }
 }
@@ -174,7 +242,7 @@ fn sent_body(status: HttpStatus, page: &str) -> &str
     ensures { result.now ≡ sent_body status page.now }
 {
     match status {
-        HttpStatus::Found(Method::Head) => "",
+        HttpStatus::Found(Method::Head, _) => "",
         status => body_for(status, page),
     }
 }
@@ -184,12 +252,15 @@ fn put_response(text: &mut String, status: HttpStatus, page: &str) -> Result<(),
     ensures { OnOk result (string_bytes text.new ≡ string_bytes text.old ++ response status page.now) }
 {
     put_status(text, status)?;
-    let fields = Fields(body_for(status, page).len());
+    let fields = Fields {
+        kind: status.content_type(),
+        length: body_for(status, page).len(),
+    };
     let body = sent_body(status, page);
     write!(text, "{fields}{body}")
 }
 
-/// The response for a status. Only 200 has a body: the page of metrics.
+/// The response for a status. Only 200 has a body: the resource, which is `page`.
 pub fn response_of(alloc: Global, status: HttpStatus, page: &str) -> Result<String, AllocError>
     ensures { IfOk result (λ text. string_bytes text ≡ response status page.now) }
 {

@@ -71,8 +71,9 @@ fn from_named<'s>(buf: &[u8], fields: &'s [HeaderSpan], name: &[u8]) -> &'s [Hea
     &[]
 }
 
-/// The value of the only field with this name; None if there is none, or more than one.
-fn only_value<'b>(buf: &'b [u8], fields: &[HeaderSpan], name: &[u8]) -> Option<&'b [u8]>
+/// The value of the only field with this name, whatever the case of its letters; None if there is none, or more than
+/// one. `fields` are those of the request that `buf` begins with.
+pub fn only_value<'b>(buf: &'b [u8], fields: &[HeaderSpan], name: &[u8]) -> Option<&'b [u8]>
     requires { All (IsHeaderWithin (length buf.now)) fields.now }
     ensures { option_map (λ value. value.now) result ≡ only_value (fields_of buf.now fields.now) name.now }
 {

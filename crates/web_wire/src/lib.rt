@@ -19,7 +19,7 @@ mod response;
 mod socket;
 mod token;
 
-pub use head::{Answer, HttpStatus};
+pub use head::{Answer, HttpStatus, only_value};
 pub use head_reader::HeadReader;
 pub use notice::Notice;
 pub use opening::Opening;

@@ -3,4 +3,4 @@ use Rattle.service_events.proofs.scrape.FieldsDisplay.fmt.Goals as goal
 
 pub returns-clause-writes : goal.returns-clause-writes
 unfolding field_lines
-returns-clause-writes g c = rw (← c.content_type-kind.ensures, ← c.connection_field-close.ensures) c.write.ensures.writes
+returns-clause-writes g c = rw (← c.connection_field-close.ensures) c.write.ensures.writes
