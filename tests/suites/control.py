@@ -14,11 +14,15 @@ from harness import programs
 from harness.case import TOP, Checks, expect
 from harness.hosts import (
     Client,
+    DEVICE_IN_USE,
     ENTER,
+    FUNCTIONS_IS,
+    FUNCTIONS_REQUEST,
     LOCALHOST,
     NEXT_WRITE,
     PATIENCE,
     Server,
+    device_type,
     event,
     free_port,
     in_seconds,
@@ -325,6 +329,188 @@ def tell_needs_a_service():
     expect("tell", run(["tell", "/nowhere", "stop"], b""), (4, "", "/nowhere: no such file\n"))
 
 
+# ---- reload
+
+# As hosts.FIRST_WRITE, NEXT_WRITE and ENTER, for a field in row 5 in place of row 3: the attributes
+# at 326 and 335, the field at 327, the cursor behind an A at 328 (addresses of 12 bits, GA23-0059).
+NEW_FIRST_WRITE = bytes.fromhex(
+    "00 00 02 00 00 F5 C3 11 C5 C6 1D 40 11 C5 4F 1D F0 11 5C F0 1D F8 11 C5 C7 13 FF EF"
+)
+NEW_NEXT_WRITE = bytes.fromhex("F1 C3 11 C5 C7 00 00 00 00 00 00 00 00 11 C5 C7 13 FF EF")
+NEW_ENTER = bytes.fromhex("7D C5 C8 11 C5 C7 C1 FF EF")
+
+
+class NewClient(Client):
+    """A client that is shown the new panel."""
+
+    def is_bound(self, lu):
+        self.hears(device_type(4, lu))
+        self.says(FUNCTIONS_REQUEST)
+        self.hears(FUNCTIONS_IS, NEW_FIRST_WRITE)
+        self.takes_write()
+
+    def enters(self):
+        self.says(bytes(5), NEW_ENTER)
+        self.hears(b"\0\0\2", self.writes.to_bytes(2, "big"), NEW_NEXT_WRITE)
+        self.takes_write()
+
+
+def new_panels(*lus):
+    return panels(*lus).replace(b"row = 3", b"row = 5")
+
+
+@contextlib.contextmanager
+def of_file(*lus, words=()):
+    """A host with a control socket, whose panels are in a file."""
+    with tempfile.TemporaryDirectory() as folder:
+        file = pathlib.Path(folder, "panels.toml")
+        file.write_bytes(panels(*lus))
+        with controlled("--panels", str(file), *words) as host:
+            host.file = file
+            yield host
+
+
+def reloads(host, text):
+    host.file.write_bytes(text)
+    return tells(host, "reload")
+
+
+@check
+def new_sessions_get_the_new_panels():
+    """Old ones keep theirs to their end; so after a second reload."""
+    with of_file("PNL01", "PNL02", "PNL03") as host:
+        old = host.client().signs_on("PNL01")
+        lus = "PNL01", "PNL02", "PNL03", "PNL04"
+        expect("tell", reloads(host, new_panels(*lus)), (0, "ok reloaded: panels=1 lus=4"))
+        new = NewClient(host.port).signs_on("PNL02")
+        old.enters()
+        new.enters()
+        expect("tell", reloads(host, panels(*lus)), (0, "ok reloaded: panels=1 lus=4"))
+        last = host.client().signs_on("PNL03")
+        for it in (old, new, last):
+            it.enters()
+        for it in (old, new):
+            it.ends()
+        host.has_logged(
+            event(0, old, "connected"),
+            event(0, old, "bound lu=PNL01"),
+            "event=reloaded panels=1 lus=4",
+            command("reload"),
+            event(1, new, "connected"),
+            event(1, new, "bound lu=PNL02"),
+            "event=reloaded panels=1 lus=4",
+            command("reload"),
+            event(2, last, "connected"),
+            event(2, last, "bound lu=PNL03"),
+            event(0, old, "lost turns=2"),
+            event(1, new, "lost turns=2"),
+        )
+
+
+@check
+def an_lu_has_one_session():
+    """The LU of an old session is in use until that ends; one that isn't in the new text isn't granted."""
+    with of_file("PNL01", "PNL02") as host:
+        old, gone = host.client().signs_on("PNL01"), host.client().signs_on("PNL02")
+        expect("tell", reloads(host, new_panels("PNL01", "PNL03"))[0], 0)
+        new = NewClient(host.port)
+        new.is_asked()
+        for lu in ("PNL01", "PNL02"):
+            new.asks_for(lu)
+            reason = 1 if lu == "PNL01" else 3
+            new.hears(b"\xff\xfa\x28\x02\x06\x05", bytes([reason]), b"\xff\xf0")
+        new.asks_for(None)
+        new.is_bound("PNL03")
+        last = NewClient(host.port)
+        last.is_asked()
+        last.asks_for(None)
+        last.hears(DEVICE_IN_USE)
+        old.enters()
+        old.ends()
+        last.asks_for(None)
+        last.is_bound("PNL01")
+        gone.enters()
+        gone.ends()
+        last.enters()
+
+
+@check
+def a_wrong_text_changes_nothing():
+    """The answer is what `check` prints, in one line; a long one is cut."""
+    with of_file("PNL01", "PNL02") as host:
+        old = host.client().signs_on("PNL01")
+        wrong = panels("PNL01").replace(b"'WORD'}", b"'NONE'}").replace(b"length = 8", b"lenght = 8")
+        told = reloads(host, wrong)
+        said = run(["check", str(host.file)], b"")[1]
+        expect("tell", told, (1, "error " + said.rstrip("\n").replace("\n", "; ")))
+        many = b", ".join(b"{name = 'P%d', keys = {enter = 'NONE'}}" % it for it in range(300))
+        status, answer = reloads(host, b"start = 'P0'\nlus = ['A']\npanel = [" + many + b"]\n")
+        faults = int(run(["check", str(host.file)], b"")[1].split()[-2])
+        shown = answer.count("; ") - 1
+        expect("tell", (status, len(answer) < 8192), (1, True))
+        expect("its end", answer.split("; ")[-2:], [f"and {faults - shown} more", f"{faults} faults"])
+        host.file.unlink()
+        expect("tell", tells(host, "reload"), (1, "error the file isn't there"))
+        host.file.mkdir()
+        expect("tell", tells(host, "reload"), (1, "error the file can't be opened"))
+        host.client().signs_on("PNL02").enters()
+        old.enters()
+        expect("logged", [it for it in host.events() if "reload" in it], [command("reload", "error")] * 4)
+
+
+@check
+def panels_that_ask_need_an_application():
+    with of_file("PNL01") as host:
+        asking = panels("PNL01").replace(b"keys =", b"asks = ['enter'], keys =").replace(b"{enter = 'WORD'}", b"{}")
+        why = "panel WORD asks the application about enter; give --application URL"
+        expect("tell", reloads(host, asking), (1, f"error {why}"))
+
+
+@check
+def a_reload_ends_negotiations():
+    """Who isn't bound yet could still get an LU of the old text: the connection ends."""
+    with of_file("PNL01") as host:
+        asks = host.client()
+        asks.is_asked()
+        expect("tell", reloads(host, new_panels("PNL01"))[0], 0)
+        asks.hears_the_end()
+        NewClient(host.port).signs_on("PNL01").enters()
+        host.has_logged(
+            event(0, asks, "connected"),
+            event(0, asks, "reloaded"),
+            "event=reloaded panels=1 lus=1",
+            command("reload"),
+            *host.events()[5:],
+        )
+
+
+@check
+def eight_earlier_texts_are_kept():
+    """A further reload is refused until the sessions of one of them have ended."""
+    lus = [f"PNL{it:02}" for it in range(10)]
+    with of_file(*lus) as host:
+        clients = []
+        for lu in lus[:8]:
+            clients.append(host.client().signs_on(lu))
+            expect("tell", reloads(host, panels(*lus))[0], 0)
+        clients.append(host.client().signs_on(lus[8]))
+        refused = (1, "error sessions of 8 earlier panel texts go on; wait until those of one end")
+        expect("tell", reloads(host, new_panels(*lus)), refused)
+        host.client().signs_on(lus[9]).ends()
+        clients.pop(3).ends()
+        until("it reloads", lambda: reloads(host, new_panels(*lus))[0] == 0)
+        NewClient(host.port).signs_on(lus[3]).enters()
+        for it in clients:
+            it.enters()
+
+
+@check
+def standard_input_is_read_once():
+    with controlled() as host:
+        why = "the panels came from standard input; start serve with --panels FILE"
+        expect("tell", tells(host, "reload"), (1, f"error {why}"))
+
+
 # ---- bin/serve
 
 
@@ -382,5 +568,21 @@ def hup_keeps_the_sessions():
     with script() as it:
         client = Client(it.port).signs_on("PNL01")
         it.send_signal(signal.SIGHUP)
-        until("it answers", lambda: "error reload isn't offered" in it.logged())
+        until("it answers", lambda: "error the panels came from standard input" in it.logged())
         client.enters()
+
+
+@check
+def hup_reloads():
+    with tempfile.NamedTemporaryFile() as file:
+        file.write(panels("PNL01", "PNL02"))
+        file.flush()
+        with script("--panels", file.name) as it:
+            client = Client(it.port).signs_on("PNL01")
+            file.seek(0)
+            file.write(new_panels("PNL01", "PNL02"))
+            file.flush()
+            it.send_signal(signal.SIGHUP)
+            until("it answers", lambda: "ok reloaded: panels=1 lus=2" in it.logged())
+            NewClient(it.port).signs_on("PNL02").enters()
+            client.enters()

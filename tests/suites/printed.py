@@ -30,36 +30,53 @@ def terminal(host, *does):
     return term
 
 
+FILLED_IN = """\
+                             TRANSFER OF FUNDS
+                                                           TELLER  4711
+         FROM ACCOUNT        1234567890
+         TO ACCOUNT          9876543210
+         AMOUNT              150.00
+         REFERENCE
+ ENTER TRANSFER   PF3 SIGN OFF   CLEAR SIGN OFF
+ KEY NOT ACTIVE
+connected                               BANK01         ESC ? shows keys 009/036
+"""
+HOST_ENDED = """\
+                             TRANSFER DONE
+         FROM      1234567890
+         TO        9876543210
+         AMOUNT    150.00
+not connected   X SYSTEM                Enter connects ESC ? shows keys 001/001
+"""
+
+
 @check
 def an_operator_sees_the_printed_screens():
-    """The session of bin/operate shows these rows, of which the page omits empty ones, after the
-    keys that its text names."""
+    """A session of bin/operate shows these rows, of which empty ones are left out: those that
+    the page prints, and then those below."""
 
-    def shows(before):
-        wanted = [
-            it
-            for it in documents.block(OPERATING, before).splitlines()
-            if it and not it.startswith("$ ")
-        ]
+    def shows(what, text):
+        wanted = [it for it in text.splitlines() if it and not it.startswith("$ ")]
         operator.until(
-            f"the block after {before!r}",
+            what,
             lambda screen: [it for it in screen.text().splitlines() if it] == wanted,
         )
 
     with tty.serve_bank() as host, tty.Operator(host.port) as operator:
         operator.sees("FIRST NATIONAL BANK")
         operator.types("A")
-        shows("`tmux capture-pane -p` printed")
+        before = "`tmux capture-pane -p` printed"
+        shows(f"the block after {before!r}", documents.block(OPERATING, before))
         operator.types(tty.RESET, "4711", tty.TAB, "SECRET", tty.ENTER)
         operator.sees("TRANSFER OF FUNDS")
         operator.types(b"\x1b[15~")
         operator.sees("KEY NOT ACTIVE")
         operator.types(tty.HOME, "1234567890", "9876543210", "150.00")
-        shows("After Home three fields are filled in:")
+        shows("three fields that are filled in", FILLED_IN)
         operator.types(tty.ENTER)
         operator.sees("TRANSFER DONE")
         host.__exit__()
-        shows("Enter is pressed, and then the host is killed:")
+        shows("a host that ended", HOST_ENDED)
         with tty.serve_bank(host.port):
             operator.types(tty.ENTER)
             operator.sees("FIRST NATIONAL BANK")

@@ -3,8 +3,8 @@
 Operators at s3270, of each model, press random keys and Reset in the wait, leave and come again; an
 application answers each question, and fails in each way; hostile clients say random bytes, half a
 record, or nothing. An operator's texts begin with the name of their LU: so the screen shows whether
-an operator sees what is another's. No connection but a hostile one is closed by the host, no end of
-a session is told twice, and the host doesn't grow."""
+an operator sees what is another's. Every second the host reads its panels again. No connection but
+a hostile one is closed by the host, no end of a session is told twice, and the host doesn't grow."""
 import collections
 import contextlib
 import json
@@ -24,6 +24,8 @@ from harness.s3270 import S3270, is_wanted
 MINUTES = float(os.environ.get("TESTS_MINUTES", "1"))
 SECONDS = 60 * MINUTES + 300
 OPERATORS, HOSTILE = 48, 8
+RELOADED = f"ok reloaded: panels=3 lus={OPERATORS + HOSTILE}"
+TOO_MANY = "error sessions of 8 earlier panel texts go on; wait until those of one end"
 # What the host's memory may grow by between the first and the last third, in KiB.
 MOST_GROWTH = 256
 
@@ -56,8 +58,10 @@ def lu_of(number: int) -> str:
     return f"OP{number:02}"
 
 
-def panel_text() -> bytes:
+def panel_text(is_turned: bool = False) -> bytes:
+    """The panels; their LUs from the last to the first, if the text is turned."""
     lus = [lu_of(it) for it in range(OPERATORS)] + [f"HOST{it}" for it in range(HOSTILE)]
+    lus = lus[::-1] if is_turned else lus
     panels = PANEL.format(name="ONE", own="one", next="TWO") + PANEL.format(name="TWO", own="two", next="ONE") + SHOWN
     return f'start = "ONE"\nlus = {json.dumps(lus)}\n{panels}'.encode()
 
@@ -221,6 +225,28 @@ def is_hostile(port: int, over: threading.Event, seed: int) -> None:
 # ---- the host
 
 
+class Reloads:
+    """Has a host read its panels again, each second another text."""
+
+    def __init__(self, folder: str, over: threading.Event) -> None:
+        self.file, self.control = f"{folder}/panels.toml", f"{folder}/control"
+        self.over, self.done, self.wrong = over, collections.Counter[str](), ""
+        self.writes(False)
+
+    def writes(self, is_turned: bool) -> None:
+        with open(self.file, "wb") as it:
+            it.write(panel_text(is_turned))
+
+    def goes_on(self) -> None:
+        while not self.over.wait(1):
+            self.writes(self.done.total() % 2 == 0)
+            _, answer, _ = hosts.run(["tell", self.control, "reload"], b"")
+            answer = answer.rstrip("\n")
+            self.done[answer] += 1
+            if answer not in (RELOADED, TOO_MANY):
+                self.wrong = f"tell reload: {answer}"
+
+
 def memory_of(process) -> int:
     """The memory of a process in KiB (proc(5))."""
     with open(f"/proc/{process.pid}/statm", encoding="ascii") as it:
@@ -239,9 +265,11 @@ def closed_by_host(log: str) -> list[str]:
 def soak() -> str:
     over, sizes = threading.Event(), []
     desk = Desk(over)
-    with tempfile.TemporaryFile() as log:
+    with tempfile.TemporaryDirectory() as folder, tempfile.TemporaryFile() as log:
+        reloads = Reloads(folder, over)
         words = ["--application", desk.application.url, "--application-timeout", "1"]
-        with hosts.Server("serve", *words, text=panel_text(), log=log) as host:
+        words += ["--panels", reloads.file, "--control", reloads.control]
+        with hosts.Server("serve", *words, log=log) as host:
             people = [Person(it, host.port, desk, over) for it in range(OPERATORS)]
             threads = [threading.Thread(target=it.works, daemon=True) for it in people]
             threads += [
@@ -249,6 +277,7 @@ def soak() -> str:
                 for it in range(HOSTILE)
             ]
             threads.append(threading.Thread(target=desk.serves, daemon=True))
+            threads.append(threading.Thread(target=reloads.goes_on, daemon=True))
             for it in threads:
                 it.start()
             try:
@@ -263,7 +292,7 @@ def soak() -> str:
                 it.join()
             log.seek(0)
             text = log.read().decode(errors="replace")
-    wrong = [it.wrong for it in people if it.wrong] + closed_by_host(text)
+    wrong = [it.wrong for it in [*people, reloads] if it.wrong] + closed_by_host(text)
     expect("what is wrong, and operators' connections that the host closed", wrong, [])
     expect("ends that are told twice", [it for it, times in desk.ended.items() if times > 1], [])
     third = len(sizes) // 3 or 1
@@ -272,7 +301,8 @@ def soak() -> str:
     return (
         f"{sum(it.turns for it in people)} turns of {OPERATORS} operators, "
         f"{desk.done['replies']} replies, {desk.done['failures']} failures, {len(desk.ended)} ends, "
-        f"{text.count('event=connected')} connections; {max(sizes)} KiB, grown by {growth} KiB"
+        f"{text.count('event=connected')} connections, {reloads.done[RELOADED]} reloads; "
+        f"{max(sizes)} KiB, grown by {growth} KiB"
     )
 
 

@@ -88,6 +88,7 @@ fn text_of(topic: HelpTopic) -> JobText {
                 sessions         list the sessions\n  \
                 note LU|* TEXT   show TEXT in the last row of an LU's screen, or of each screen\n  \
                 drain [TEXT]     take no new session, show TEXT on each screen, and end after the last session\n  \
+                reload           read the panels again, for new sessions; old ones keep theirs\n  \
                 stop             end\n\
                 TEXT is one word: quote it. It has at most 131 characters.",
         },
@@ -108,7 +109,8 @@ fn text_of(topic: HelpTopic) -> JobText {
             purpose: "Serve a page that is a terminal at a host, at http://127.0.0.1:P/, and log each session on \
                 standard error. Each page is a session of its own.",
             notes: "\n\nThe page of http://127.0.0.1:P/#model=4&lu=NAME has that model, 2 to 5, and asks for that LU.\n\
-                The page has buttons for all keys. Passwords cross the network as they are: put TLS and a sign-on before it.",
+                The page has buttons for all keys. Passwords cross the network as they are: put TLS and a sign-on \
+                before it.",
         },
         HelpTopic::Program | HelpTopic::Help => JobText {
             summary: "print this text, or with a job's name the help of that job",

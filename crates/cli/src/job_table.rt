@@ -161,7 +161,8 @@ static WEB: [JobOption<'static>; 6] = [
     option!(takes "listen": Address,
         "the IPv4 or IPv6 address to listen on; localhost is 127.0.0.1 [default: 127.0.0.1]"),
     option!(takes "origin": Url,
-        "the page's origin behind a proxy, as https://terminals.example; without it browsers of this machine are served"),
+        "the page's origin behind a proxy, as https://terminals.example; without it browsers of this machine are \
+            served"),
     option!(takes "sessions": Sessions, "the most sessions at one time, 1 to 64 [default: 64]"),
     option!(takes "keep": Seconds, "keep a session without a page for this time, 0 to 1000000 [default: 120]"),
 ];

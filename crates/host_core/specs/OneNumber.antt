@@ -17,8 +17,8 @@ pub record KeepsLu (old new : Service) : Type 0 where
   pub granted : IsSettled old → (lu : List ℕ) → lu_of new ≡ Some lu → lu_of old ≡ Some lu
   pub free : new ≡ Service.Free → old ≡ Service.Free
 
--- Holds if no other number changes, other holders hold the same LUs, the pool has no new LU, and the number keeps its LU
--- once it is settled.
+-- Holds if no other number changes, other holders hold the same LUs, the pool has no new LU, and the number keeps its
+-- LU once it is settled.
 pub record ChangesOne (number : ℕ) (old new : Host) : Type 0 where
   pub others : (other : ℕ) → other ≢ number → connection_at other new ≡ connection_at other old
   pub holders : OthersHold number old.pool new.pool

@@ -49,7 +49,7 @@ is_screen_empty (Pa key) = false
 abbrev pub fields_asked : Aid → List Field → List Field
 fields_asked aid fields = if is_screen_empty aid then [] else fields
 
--- the panel that a question is about: the one that was shown last; at connect the first one
+-- the panel of a question: the one that was shown last; at connect the first one
 abbrev pub panel_asked : Application → Session → TurnReason → ℕ
 panel_asked app conn turn_reasons.Agreement = first_panel app conn
 panel_asked app conn (turn_reasons.Key aid buffered) = conn.panel

@@ -438,7 +438,7 @@ impl Session {
         texts_known(*self.sent.allocator(), &self.shadow, fields)
     }
 
-    /// The number of the panel that a question is about: the one that was shown last; at connect the first one.
+    /// The number of the panel of a question: the one that was shown last; at connect the first one.
     fn panel_asked(&self, panels: &PanelSet) -> usize
         requires { self.now.panel < length panels.now.panels }
         ensures panel { result ≡ panel_asked (application_of panels.now) self.now self.now.turn_reason }

@@ -337,8 +337,8 @@ impl Host {
         self.pool.free_all();
     }
 
-    /// Reserves an LU under a number, in place of what is reserved there, if the pool has the LU and nobody holds it: no
-    /// connection is granted it until it is released.
+    /// Reserves an LU under a number, in place of what is reserved there, if the pool has the LU and nobody holds it:
+    /// no connection is granted it until it is released.
     pub fn reserve(&mut self, number: usize, lu: Lu)
         requires number { number < most_connections }
         ensures reserved { self.new ≡ reserved number lu self.old }

@@ -29,15 +29,18 @@ pub record IsEarlier (hosts : Hosts) (conn place : ℕ) : Type 0 where
   pub is_open : state_at conn (host_of (Some place) hosts) ≢ Service.Free
   pub settled : IsSettled (state_at conn (host_of (Some place) hosts))
   pub free_now : state_at conn hosts.current ≡ Service.Free
-  pub reserved : (lu : List ℕ) → lu_of (state_at conn (host_of (Some place) hosts)) ≡ Some lu → HasLu hosts.current.pool lu
+  pub reserved : (lu : List ℕ) → lu_of (state_at conn (host_of (Some place) hosts)) ≡ Some lu
+      → HasLu hosts.current.pool lu
       → Holds hosts.current.pool (reserver conn) lu
 
 -- what holds of a host and the earlier ones
 pub record IsApart (hosts : Hosts) : Type 0 where
   pub owners : length hosts.owners ≡ most_connections
   pub earlier : (conn place : ℕ) → owner_at conn hosts ≡ Some place → IsEarlier hosts conn place
-  pub unshared : (one other place there : ℕ) (lu : List ℕ) → owner_at one hosts ≡ Some place → owner_at other hosts ≡ Some there
-      → lu_of (state_at one (host_of (Some place) hosts)) ≡ Some lu → lu_of (state_at other (host_of (Some there) hosts)) ≡ Some lu
+  pub unshared : (one other place there : ℕ) (lu : List ℕ) → owner_at one hosts ≡ Some place
+      → owner_at other hosts ≡ Some there
+      → lu_of (state_at one (host_of (Some place) hosts)) ≡ Some lu
+      → lu_of (state_at other (host_of (Some there) hosts)) ≡ Some lu
       → one ≡ other
 
 -- ---- reserving

@@ -208,8 +208,8 @@ impl Hosts {
     pub fn answer(&mut self, conn: usize, ticket: Ticket, answer: &Answer) -> Acted
         requires number { conn < most_connections }
         ensures answered { DoesAnswer (application_of (host_at conn self.old).panels) answer.now
-            (answered_by (application_of (host_at conn self.old).panels) (session_at conn (host_at conn self.old)) ticket
-            answer.now (service_at conn self.old)) (connection_at conn (host_at conn self.old)) result
+            (answered_by (application_of (host_at conn self.old).panels) (session_at conn (host_at conn self.old))
+            ticket answer.now (service_at conn self.old)) (connection_at conn (host_at conn self.old)) result
             (connection_at conn (host_at conn self.new)) }
         ensures host { host_at conn self.new
             ≡ with_connection conn (connection_at conn (host_at conn self.new)) (host_at conn self.old) }

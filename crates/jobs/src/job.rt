@@ -86,7 +86,7 @@ pub enum HelpTopic {
 pub struct CommandWords<'a> {
     /// The command's name.
     pub name: Operand<'a>,
-    /// The words behind it.
+    /// The words after it.
     pub first: Option<Operand<'a>>,
     pub second: Option<Operand<'a>>,
 }

@@ -210,11 +210,12 @@ module _ {S W : Type 0} (noticed : W → Notice → Result Unit Fault → W → 
 
   abbrev pub EndsTalkingAt : ℕ → ServerCore S → W → Result Bool Fault → ServerCore S → W → Type 0
   EndsTalkingAt conn old watcher answer new after =
-      EndsTalkingIf (is_talking (phase_of (service_at conn old.hosts))) (open_at conn old) conn old watcher answer new after
+      EndsTalkingIf (is_talking (phase_of (service_at conn old.hosts))) (open_at conn old) conn old watcher answer
+      new after
 
   -- Holds if new sessions are served by another host, and each other session stays in its host. First each connection
-  -- that negotiates is ended: its host could still grant it an LU that the new host grants, too. If sessions of too many
-  -- earlier hosts go on, nothing changes.
+  -- that negotiates is ended: its host could still grant it an LU that the new host grants, too. If sessions of too
+  -- many earlier hosts go on, nothing changes.
   pub data Reloads (host : Host) (old : ServerCore S) (watcher : W) (answer : Result (Result Unit ReloadFault) Fault)
       (new : ServerCore S) (after : W) : Type 0 where
     full : AreOwned most_earlier old.hosts.owners → answer ≡ Ok (Err reload_fault.TooMany) → new ≡ old
@@ -223,7 +224,8 @@ module _ {S W : Type 0} (noticed : W → Notice → Result Unit Fault → W → 
         → Reloads host old watcher answer new after
     refused : (ended : Bool) (why : ReloadFault) → VisitsEach EndsTalkingAt old watcher (Ok ended) new after
         → answer ≡ Ok (Err why) → Reloads host old watcher answer new after
-    reloads : (ended : Bool) (place : ℕ) (mid : ServerCore S) → VisitsEach EndsTalkingAt old watcher (Ok ended) mid after
+    reloads : (ended : Bool) (place : ℕ) (mid : ServerCore S)
+        → VisitsEach EndsTalkingAt old watcher (Ok ended) mid after
         → IsFreePlace place mid.hosts.owners → new ≡ record mid { hosts = reloaded place host mid.hosts }
         → answer ≡ Ok (Ok tt) → Reloads host old watcher answer new after
 

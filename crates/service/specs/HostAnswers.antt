@@ -49,7 +49,10 @@ module _ {S : Type 0} where
   -- the server once its host took an answer, and all of the host's reports were handed on
   abbrev pub core_answered : ℕ → ConnectionInfo → (old : ServerCore S) → Host → ServerCore S
   core_answered conn info old host =
-      record old { hosts = with_host conn (reported conn host) old.hosts; infos = slice_set old.infos conn (Some (info_after conn host info)) }
+      record old {
+        hosts = with_host conn (reported conn host) old.hosts;
+        infos = slice_set old.infos conn (Some (info_after conn host info));
+      }
 
   -- the client of a number's last connection, if it ever had one
   abbrev pub client_at : ℕ → ServerCore S → Option Client
@@ -98,8 +101,8 @@ module _ {S : Type 0} where
       (question_of (application_of (host_at conn core.hosts).panels) (session_at conn (host_at conn core.hosts))
       (service_at conn core.hosts))
   AsksHost conn core (Err why) = (why ≡ fault.NoMemory)
-      × HasTexts (question_of (application_of (host_at conn core.hosts).panels) (session_at conn (host_at conn core.hosts))
-      (service_at conn core.hosts))
+      × HasTexts (question_of (application_of (host_at conn core.hosts).panels)
+      (session_at conn (host_at conn core.hosts)) (service_at conn core.hosts))
 
 -- the name, the LU, and the event of the log
 abbrev pub words_of : SessionEnd → SessionName × List ℕ × List ℕ
@@ -122,7 +125,8 @@ module _ {S W : Type 0} (noticed : W → Notice → Result Unit Fault → W → 
   -- and then nothing is recorded.
   abbrev pub ReportsOf : Option ConnectionInfo → (conn : ℕ) → ServerCore S → Host → W → Result Unit Fault → ServerCore S
       → W → Type 0
-  ReportsOf None conn old host watcher (Ok done) new after = (new ≡ record old { hosts = with_host conn host old.hosts }) × (after ≡ watcher)
+  ReportsOf None conn old host watcher (Ok done) new after =
+      (new ≡ record old { hosts = with_host conn host old.hosts }) × (after ≡ watcher)
   ReportsOf None conn old host watcher (Err why) new after = ⊥
   ReportsOf (Some info) conn old host watcher (Ok done) new after =
       HearsEach noticed showed (reports_of info.client conn host) watcher after

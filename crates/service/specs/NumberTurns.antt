@@ -54,7 +54,9 @@ module _ {S : Type 0} where
   -- the sockets, with the number of unsent bytes of a connection
   abbrev pub with_unsent : ℕ → ServerCore S → Sockets S
   with_unsent conn core =
-      with_slot conn (with_waiting (length (connection_at conn (host_at conn core.hosts)).out) (slot_at conn core.sockets)) core.sockets
+      with_slot conn
+      (with_waiting (length (connection_at conn (host_at conn core.hosts)).out) (slot_at conn core.sockets))
+      core.sockets
 
   -- The server after a connection's end: its number and its LU are free, its socket is closed, and its record says why.
   -- All else is unchanged.
@@ -117,7 +119,8 @@ module _ {S W : Type 0} (gave : S → ℕ → List ℕ → Result ℕ Error → 
     pub sockets : Sockets S
     pub serves : IsServed conn old answer host sockets
     pub fed : answer ≢ served.Memory
-    pub acts : acted ≡ not (length (connection_at conn host).out == length (connection_at conn (host_at conn old.hosts)).out)
+    pub acts : acted ≡ not
+        (length (connection_at conn host).out == length (connection_at conn (host_at conn old.hosts)).out)
     pub hears : HearsEach noticed showed
         (reports_of info.client conn host ++ end_in_turn conn info old answer host sockets) watcher after
     pub becomes : new ≡ given_back_if (ending_after conn answer host) conn (info_after conn host info)

@@ -49,7 +49,8 @@ module _ {S : Type 0} where
 
   -- what the time limits require on this connection now
   abbrev pub due_at : TimeLimits → ℕ → ConnectionInfo → ServerCore S → Due
-  due_at limits conn info core = due limits (awaited_at conn (host_at conn core.hosts)) (activity_at conn info core) core.now
+  due_at limits conn info core = due limits (awaited_at conn (host_at conn core.hosts)) (activity_at conn info core)
+      core.now
 
   -- Whether bytes were received since the limits were last applied, and none sent: the peer's TCP waits for an ACK.
   abbrev pub is_unanswered_at : ℕ → ConnectionInfo → ServerCore S → Bool
@@ -63,7 +64,8 @@ module _ {S : Type 0} where
   -- the server with IAC NOP queued on a bound connection without waiting output
   abbrev pub nop_sent : ℕ → ServerCore S → ServerCore S
   nop_sent conn core = record core {
-    hosts = with_host conn (with_connection conn (with_nop (connection_at conn (host_at conn core.hosts))) (host_at conn core.hosts))
+    hosts = with_host conn
+        (with_connection conn (with_nop (connection_at conn (host_at conn core.hosts))) (host_at conn core.hosts))
         core.hosts;
   }
 

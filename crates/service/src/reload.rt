@@ -82,7 +82,8 @@ fn open<R: Files>(rt: &R, name: &str) -> io::Result<R::File> {
     Ok(file)
 }
 
-/// The lines of a page, joined by `; `. Lines beyond `MOST_FINDINGS` bytes are counted, but the last one has the totals.
+/// The lines of a page, joined by `; `. Lines beyond `MOST_FINDINGS` bytes are counted, but the last one has the
+/// totals.
 fn in_one_line(alloc: Global, page: &str) -> Result<String, AllocError> {
     let mut joined = String::new(alloc);
     let mut left_out: usize = 0;

@@ -41,7 +41,8 @@ pub(crate) fn report<W: Watcher>(
     watcher: &mut W,
 ) -> Result<(), Fault>
     requires number { conn < most_connections }
-    ensures told { Told W.noticed W.showed (reports_of info.old.client conn (host_at conn hosts.old)) watcher.old result watcher.new }
+    ensures told { Told W.noticed W.showed (reports_of info.old.client conn (host_at conn hosts.old)) watcher.old
+        result watcher.new }
     ensures host { host_at conn hosts.new ≡ with_reports conn (reports_at conn (host_at conn hosts.new))
         (host_at conn hosts.old) }
     ensures others { hosts.new ≡ with_host conn (host_at conn hosts.new) hosts.old }

@@ -169,7 +169,8 @@ impl<S: RawRead + RawWrite + Drop> ServerCore<S> {
             (ended conn info.now self.old ending ∷ []) watcher.old result watcher.new }
         ensures given_back { self.new ≡ given_back conn info.now ending self.old }
         ensures free { phase_of (service_at conn self.new.hosts) ≡ phase.Free }
-        ensures others { (other : ℕ) → other ≢ conn → service_at other self.new.hosts ≡ service_at other self.old.hosts }
+        ensures others { (other : ℕ) → other ≢ conn
+            → service_at other self.new.hosts ≡ service_at other self.old.hosts }
     {
         let (sent, received) = (self.sockets.sent(conn), self.sockets.received(conn));
         let usage = info.usage(self.now, sent, received);
@@ -447,7 +448,8 @@ impl<S: RawRead + RawWrite + Drop> ServerCore<S> {
         requires number { conn < most_connections }
         ensures ends { EndsTalkingAt W.noticed W.showed conn self.old watcher.old result self.new watcher.new }
         ensures settled { phase_of (service_at conn self.new.hosts) ≢ phase.Talking }
-        ensures others { (other : ℕ) → other ≢ conn → service_at other self.new.hosts ≡ service_at other self.old.hosts }
+        ensures others { (other : ℕ) → other ≢ conn
+            → service_at other self.new.hosts ≡ service_at other self.old.hosts }
     {
         if !self.is_talking(conn) {
             return Ok(false);

@@ -504,8 +504,8 @@ fn begin<I: Source>(
 ///
 /// If an application is chosen, it is asked about the keys that panels ask about. The log says if it fails to answer.
 ///
-/// If the input has faults as a panel text, prints all of them to `faults`, as `check` does. `file` is the input's name;
-/// None if it is the standard input.
+/// If the input has faults as a panel text, prints all of them to `faults`, as `check` does. `file` is the input's
+/// name; None if it is the standard input.
 ///
 /// If a control socket is chosen, operators command the service there (see crate `control`). `reload` reads the file
 /// again. The socket is removed when the service ends. The log has each command.

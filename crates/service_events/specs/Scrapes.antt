@@ -61,7 +61,7 @@ method_of name =
     if bytes_eq name (codes "GET") then Some method.Get else
     if bytes_eq name (codes "HEAD") then Some method.Head else None
 
--- The status for a resource. Sessions are told at this machine's own names alone, against DNS rebinding.
+-- The status for a resource. Sessions are listed at this machine's own names alone, against DNS rebinding.
 abbrev pub status_for_resource : Method → Option Resource → (host : Option (List ℕ)) → HttpStatus
 status_for_resource asked None host = status.NotFound
 status_for_resource asked (Some resource.Metrics) host = status.Found asked resource.Metrics

@@ -40,7 +40,7 @@ left_after write.NotNow bytes = bytes
 left_after write.Failed bytes = bytes
 
 module _ {B : Type 0} where
-  -- holds if a socket is read once, with room for so many bytes, and what it gives is taken
+  -- holds if a socket is read once, with room for `room` bytes, and what it gives is taken
   pub record ReadsPage (gave : B → ℕ → List ℕ → Result ℕ Error → B → Type 0) (room : ℕ) (old : B)
       (old_frames : SocketState) (result : LinkRead) (new : B) (new_frames : SocketState) : Type 0 where
     pub bytes : List ℕ

@@ -47,8 +47,8 @@ Terminal H = Session H Unit Unit
 
 module _ {B H : Type 0} (gave : H → ℕ → List ℕ → Result ℕ Error → H → Type 0)
     (took : H → List ℕ → Result ℕ Error → H → Type 0) where
-  -- Holds if the terminal takes a turn in which these bytes were typed, and the page is sent the drawing, byte for byte,
-  -- as one message.
+  -- Holds if the terminal takes a turn in which these bytes were typed, and the page is sent the drawing, byte for
+  -- byte, as one message.
   pub record DrawsTurn (typed : List ℕ) (old_page : Link B) (old_terminal : Terminal H) (new_page : Link B)
       (new_terminal : Terminal H) : Type 0 where
     pub drawing : List ℕ

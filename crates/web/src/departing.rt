@@ -13,7 +13,7 @@ pub(crate) enum Progress {
     Moved,
     /// Nothing.
     Still,
-    /// The client has to be dropped.
+    /// The client must be dropped.
     Over,
 }
 

@@ -55,7 +55,7 @@ impl fmt::Display for WebEvent {
     }
 }
 
-/// What is told the events of a server.
+/// What gets the events of a server.
 pub(crate) trait EventLog {
     /// Takes down an event.
     fn note(&mut self, event: &WebEvent);

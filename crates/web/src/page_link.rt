@@ -113,8 +113,8 @@ impl<B: RawRead + RawWrite + Drop> PageLink<B> {
         is_over(self.frames.stage())
     }
 
-    /// Reads the socket once, if there is room for received bytes. Answers how many bytes it gave; Failed, too, if memory
-    /// is refused for them.
+    /// Reads the socket once, if there is room for received bytes. Answers how many bytes it gave; Failed, too, if
+    /// memory is refused for them.
     pub(crate) fn receive(&mut self) -> LinkRead
         ensures { Receives B.read_gave self.old result self.new }
     {

@@ -218,7 +218,8 @@ impl Seat {
         Ok(turn)
     }
 
-    /// Begins the session once the connection to the host is established. CannotConnect if that failed, or took too long.
+    /// Begins the session once the connection to the host is established. CannotConnect if that failed, or took too
+    /// long.
     fn wait_for_host(&mut self, host: SocketAddr, now: u64) -> Result<SeatTurn, Fault> {
         if let Some(page) = &mut self.page {
             page.send();

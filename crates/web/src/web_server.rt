@@ -84,8 +84,8 @@ fn note_status<L: EventLog>(peer: SocketAddr, status: HttpStatus, log: &mut L) {
     }
 }
 
-/// The server: its listener and poll, the clients without a session, the sessions, and the clients that depart. Contracts
-/// see how many these are; there are never more than 16, `most_sessions`, and 80.
+/// The server: its listener and poll, the clients without a session, the sessions, and the clients that depart.
+/// Contracts see how many these are; there are never more than 16, `most_sessions`, and 80.
 #[derive(Drop)]
 struct WebServer {
     alloc: Global,
@@ -491,8 +491,8 @@ impl WebServer {
         }
     }
 
-    /// One turn at this time: accepts clients, and takes one turn for each of them and for each session. Answers whether
-    /// something moved.
+    /// One turn at this time: accepts clients, and takes one turn for each of them and for each session. Answers
+    /// whether something moved.
     fn turn<R: Net + RandomSource, L: EventLog>(
         &mut self,
         rt: &R,
@@ -597,17 +597,17 @@ fn serve<R: Net + Clock + RandomSource, T: Iterator<Item = ()>, E: Sink>(
     take_turns(rt, turns, &mut server, &mut log)
 }
 
-/// Serves the page to browsers, a turn for each item of `turns`: each page is a terminal at the host of the options. The
-/// page is served to browsers of this machine, and at the origin of the options. `faults` first gets a line that says
-/// where it is, and then the log: which client is refused and why; and of each session when it begins, is connected, is
-/// bound to an LU, loses its page, is resumed, and ends. Nothing that is typed or shown is logged.
+/// Serves the page to browsers, a turn for each item of `turns`: each page is a terminal at the host of the options.
+/// The page is served to browsers of this machine, and at the origin of the options. `faults` first gets a line that
+/// says where it is, and then the log: which client is refused and why; and of each session when it begins, is
+/// connected, is bound to an LU, loses its page, is resumed, and ends. Nothing that is typed or shown is logged.
 ///
-/// At most 16 clients have no session, for at most 5 seconds each. A page that takes too little isn't drawn until it has
-/// taken what waits. One that is silent for a minute is dropped; it gets a ping every 25 seconds. A session that has lost
-/// its page is kept for the time of the options.
+/// At most 16 clients have no session, for at most 5 seconds each. A page that takes too little isn't drawn until it
+/// has taken what waits. One that is silent for a minute is dropped; it gets a ping every 25 seconds. A session that
+/// has lost its page is kept for the time of the options.
 ///
-/// Returns the exit status: 2 if the origin isn't one; 3 if memory is refused; 4 if the system can't listen, or wait for
-/// sockets; 5 if `turns` has no more items.
+/// Returns the exit status: 2 if the origin isn't one; 3 if memory is refused; 4 if the system can't listen, or wait
+/// for sockets; 5 if `turns` has no more items.
 pub fn run_web<R: Net + Clock + RandomSource, T: Iterator<Item = ()>, E: Sink>(
     rt: &R,
     alloc: Global,

@@ -33,7 +33,7 @@ pub record SocketState : Type 0 where
 abbrev pub most_input : ℕ
 most_input = 8192
 
--- frames are read only while at most so many bytes wait to be sent
+-- the most bytes that wait to be sent while frames are read
 abbrev pub most_waiting : ℕ
 most_waiting = 4096
 

@@ -32,7 +32,8 @@ abbrev pub IsUnread : Received → (count : ℕ) → (old new : ReadParts) → T
 IsUnread received count old new = (received ≡ Waiting) × (count ≡ 0) × (new ≡ old)
 
 -- holds if a frame of `count` bytes was read; it is unmasked in place
-pub record IsFrameRead (stage : Stage) (received : Received) (count : ℕ) (effect : Effect) (old new : ReadParts) : Type 0 where
+pub record IsFrameRead (stage : Stage) (received : Received) (count : ℕ) (effect : Effect) (old new : ReadParts)
+    : Type 0 where
   pub meaning : IsReceivedAs stage effect.message received old.keys new.keys
   pub within : count ≤ length new.input
   pub rest : drop count new.input ≡ drop count old.input
@@ -47,11 +48,14 @@ pub record IsReadFailed (closing : Closing) (received : Received) (old new : Rea
   pub same_keys : new.keys ≡ old.keys
 
 -- holds for a step of the protocol
-abbrev pub IsStepRead : Result (FrameStatus (ℕ × Effect)) Error → Stage → Received → (count : ℕ) → (old new : ReadParts) → Type 0
+abbrev pub IsStepRead : Result (FrameStatus (ℕ × Effect)) Error → Stage → Received → (count : ℕ)
+    → (old new : ReadParts) → Type 0
 IsStepRead (Ok (Partial _)) stage received count old new = IsUnread received count old new
 IsStepRead (Ok (Complete p)) stage received count old new = (count ≡ p.0) × IsFrameRead stage received count p.1 old new
 IsStepRead (Err e) stage received count old new = IsReadFailed (closing_of e) received old new
 
 -- the same, or memory was refused
-abbrev pub IsOneRead : Result (FrameStatus (ℕ × Effect)) Error → Stage → Received → (count : ℕ) → (old new : ReadParts) → Type 0
-IsOneRead step stage received count old new = IsStepRead step stage received count old new ⊎ IsReadFailed Memory received old new
+abbrev pub IsOneRead : Result (FrameStatus (ℕ × Effect)) Error → Stage → Received → (count : ℕ)
+    → (old new : ReadParts) → Type 0
+IsOneRead step stage received count old new = IsStepRead step stage received count old new
+    ⊎ IsReadFailed Memory received old new

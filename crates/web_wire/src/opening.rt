@@ -16,8 +16,8 @@ pub enum Opening {
 }
 
 impl Opening {
-    /// Reads `open` with the digit of a model, 2 to 5, and then the name of an LU or nothing, or `resume` with a token of
-    /// 32 hexadecimal digits. There is one blank between the words. `None` if the text isn't that.
+    /// Reads `open` with the digit of a model, 2 to 5, and then the name of an LU or nothing, or `resume` with a token
+    /// of 32 hexadecimal digits. There is one blank between the words. `None` if the text isn't that.
     pub fn read(text: &[u8]) -> Option<Opening>
         ensures { result ≡ opening_of text.now }
     {

@@ -1,6 +1,6 @@
-//! The page: a tty in a browser (our profile). It draws what `tty_screen` writes, by its definitions Tty and Reading, and
-//! sends the bytes of keys that `tty_keys` reads. The text has no quotation mark and no backslash, so that the literal is
-//! the page.
+//! The page: a tty in a browser (our profile). It draws what `tty_screen` writes, by its definitions Tty and Reading,
+//! and sends the bytes of keys that `tty_keys` reads. The text has no quotation mark and no backslash, so that the
+//! literal is the page.
 
 /// The SHA-256 of what is in the page's element `script`, in base64.
 pub const SCRIPT_HASH: &str = "6aboThDEQfYGrV5JRr+I4nssDmZ7L4erOxAfXdCtCGE=";

@@ -70,18 +70,21 @@ fn policy(alloc: Global, page: PageParts<'_>) -> Result<String, AllocError>
     let script = page.script_hash;
     let style = page.style_hash;
     format!(in alloc;
-        "default-src 'none'; script-src 'sha256-{script}'; style-src 'sha256-{style}'; connect-src 'self'; base-uri 'none'; form-action 'none'; frame-ancestors 'none'"
+        "default-src 'none'; script-src 'sha256-{script}'; style-src 'sha256-{style}'; connect-src 'self'; \
+            base-uri 'none'; form-action 'none'; frame-ancestors 'none'"
     )
 }
 
 /// The fields of the page, beside those of every response.
 #[tactic(auto, unfolding(crate::specs::Responses::page_fields))]
 fn page_fields(alloc: Global, page: PageParts<'_>) -> Result<String, AllocError>
-    ensures { IfOk result (λ text. string_bytes text ≡ page_fields page.entry.script_hash.now page.entry.style_hash.now) }
+    ensures { IfOk result (λ text. string_bytes text
+        ≡ page_fields page.entry.script_hash.now page.entry.style_hash.now) }
 {
     let policy = policy(alloc, page)?;
     format!(in alloc;
-        "Content-Type: text/html; charset=utf-8\r\nContent-Security-Policy: {policy}\r\nReferrer-Policy: no-referrer\r\nCross-Origin-Opener-Policy: same-origin\r\n"
+        "Content-Type: text/html; charset=utf-8\r\nContent-Security-Policy: {policy}\r\n\
+            Referrer-Policy: no-referrer\r\nCross-Origin-Opener-Policy: same-origin\r\n"
     )
 }
 
@@ -126,7 +129,8 @@ fn response_text(
 {
     let length = body.len();
     format!(in alloc;
-        "HTTP/1.1 {phrase}\r\n{types}Content-Length: {length}\r\nCache-Control: no-store\r\nX-Content-Type-Options: nosniff\r\n{fields}\r\n{body}"
+        "HTTP/1.1 {phrase}\r\n{types}Content-Length: {length}\r\nCache-Control: no-store\r\n\
+            X-Content-Type-Options: nosniff\r\n{fields}\r\n{body}"
     )
 }
 

@@ -27,7 +27,7 @@ const MOST_MESSAGE: usize = 4096;
 /// The most bytes that were received and not yet read.
 const MOST_INPUT: usize = 8192;
 
-/// Frames are read only while at most so many bytes wait to be sent.
+/// The most bytes that wait to be sent while frames are read.
 const MOST_WAITING: usize = 4096;
 
 /// The most bytes that wait to be sent, without those of the close.
@@ -191,7 +191,12 @@ fn read_step(
     requires still_open { context.old ≡ connection_with context.old.fragments }
     ensures read { IsOneRead (read_step context.old input.old.items) stage result.received result.count
         (record { connection = context.old; input = input.old.items; output = output.old.items; keys = keys.old.items })
-        (record { connection = context.new; input = input.new.items; output = output.new.items; keys = keys.new.items }) }
+        (record {
+          connection = context.new;
+          input = input.new.items;
+          output = output.new.items;
+          keys = keys.new.items;
+        }) }
     ensures length { length input.new.items ≡ length input.old.items }
 {
     match context.read(input.as_mut_slice(), output, &mut NoMask) {
@@ -303,8 +308,8 @@ fn drop_front(bytes: &mut Vec<u8>, count: usize)
     bytes.truncate(left);
 }
 
-/// The end of a WebSocket at the server, for one page: takes received bytes, reads messages from them, and has the bytes
-/// to send. At most 8,192 received bytes and 131,072 bytes to send wait in it. Contracts see a `SocketState`.
+/// The end of a WebSocket at the server, for one page: takes received bytes, reads messages from them, and has the
+/// bytes to send. At most 8,192 received bytes and 131,072 bytes to send wait in it. Contracts see a `SocketState`.
 #[derive(Drop)]
 pub struct PageSocket {
     context: WebSocketContext,
