@@ -35,8 +35,8 @@ from harness.hosts import (
 check = Checks()
 cases = check.cases
 
-# The time that a client of the socket has, in seconds, and the most bytes of a line.
-CLIENT_TIME, MOST_BYTES = 5, 512
+# The time that a client of the socket has, in seconds, and the most bytes of a command and of an answer.
+CLIENT_TIME, MOST_BYTES, MOST_ANSWER = 5, 512, 8192
 UNKNOWN = "the command is none of: reload, drain [TEXT], note LU|* TEXT, sessions, stop"
 
 
@@ -445,10 +445,11 @@ def a_wrong_text_changes_nothing():
         expect("tell", told, (1, "error " + said.rstrip("\n").replace("\n", "; ")))
         many = b", ".join(b"{name = 'P%d', keys = {enter = 'NONE'}}" % it for it in range(300))
         status, answer = reloads(host, b"start = 'P0'\nlus = ['A']\npanel = [" + many + b"]\n")
-        faults = int(run(["check", str(host.file)], b"")[1].split()[-2])
-        shown = answer.count("; ") - 1
-        expect("tell", (status, len(answer) < 8192), (1, True))
-        expect("its end", answer.split("; ")[-2:], [f"and {faults - shown} more", f"{faults} faults"])
+        lines = run(["check", str(host.file)], b"")[1].splitlines()
+        parts = answer.removeprefix("error ").split("; ")
+        expect("tell", (status, len(answer) < MOST_ANSWER), (1, True))
+        expect("its findings", parts[:-2], lines[: len(parts) - 2])
+        expect("its end", parts[-2:], [f"and {len(lines) - len(parts) + 1} more", lines[-1]])
         host.file.unlink()
         expect("tell", tells(host, "reload"), (1, "error the file isn't there"))
         host.file.mkdir()

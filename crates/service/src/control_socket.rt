@@ -44,10 +44,10 @@ struct ControlClient {
 
 /// A service that operators command.
 #[derive(Drop)]
-struct Commanding<'a, R, W> {
-    rt: &'a R,
+struct Commanding<'a, 'x, R, W> {
+    rt: &'x R,
     alloc: Global,
-    source: PanelSource<'a>,
+    source: PanelSource<'x>,
     orders: &'a mut Orders,
     server: &'a mut Server,
     watcher: &'a mut W,
@@ -121,7 +121,7 @@ fn sessions_of(alloc: Global, server: &Server) -> Result<String, AllocError> {
     format!(in alloc; "sessions={count}{rows}")
 }
 
-impl<R: Files, W: Watcher> Commanding<'_, R, W> {
+impl<R: Files, W: Watcher> Commanding<'_, '_, R, W> {
     /// Serves new sessions by a host, and reports that. Returns how much its panels define.
     fn serve_by(&mut self, host: Host) -> Result<Result<PanelCounts, Refusal>, Fault> {
         let counts = PanelCounts {
@@ -137,7 +137,7 @@ impl<R: Files, W: Watcher> Commanding<'_, R, W> {
 
     /// Reads the panels again. Returns the line of the answer.
     fn reload(&mut self) -> Result<String, Fault> {
-        let outcome = match host_again(self.rt, self.alloc, &self.source) {
+        let outcome = match host_again(self.rt, self.alloc, self.source) {
             Ok(host) => self.serve_by(host)?,
             Err(refusal) => Err(refusal),
         };
@@ -228,7 +228,7 @@ impl ControlClient {
     fn serve<R: Files, W: Watcher>(
         &mut self,
         now: u64,
-        commanding: &mut Commanding<'_, R, W>,
+        commanding: &mut Commanding<'_, '_, R, W>,
     ) -> Result<IoProgress, Fault> {
         if is_late(self.began, now) {
             return Ok(IoProgress::Over);
@@ -243,7 +243,7 @@ impl ControlClient {
     /// Reads once. What follows the line is ignored: the client then has only to close.
     fn read<R: Files, W: Watcher>(
         &mut self,
-        commanding: &mut Commanding<'_, R, W>,
+        commanding: &mut Commanding<'_, '_, R, W>,
     ) -> Result<IoProgress, Fault> {
         let mut buffer = [0; COMMAND_LIMIT];
         match read_once(&mut self.socket, &mut buffer) {
@@ -257,7 +257,7 @@ impl ControlClient {
     fn take<R: Files, W: Watcher>(
         &mut self,
         bytes: &[u8],
-        commanding: &mut Commanding<'_, R, W>,
+        commanding: &mut Commanding<'_, '_, R, W>,
     ) -> Result<IoProgress, Fault> {
         if self.answer.is_some() {
             return Ok(IoProgress::Still);
@@ -367,11 +367,11 @@ impl ControlSocket {
 
     /// Accepts the waiting clients, serves each client once, and does what they command. Drops those that are over.
     /// Answers whether a byte was read or written. NoMemory if memory is refused; any fault of the watcher is returned.
-    pub(crate) fn serve_all<R: Files, W: Watcher>(
+    pub(crate) fn serve_all<'x, R: Files, W: Watcher>(
         &mut self,
-        rt: &R,
+        rt: &'x R,
         now: u64,
-        source: PanelSource<'_>,
+        source: PanelSource<'x>,
         orders: &mut Orders,
         server: &mut Server,
         watcher: &mut W,
@@ -397,7 +397,7 @@ impl ControlSocket {
         &mut self,
         index: usize,
         now: u64,
-        commanding: &mut Commanding<'_, R, W>,
+        commanding: &mut Commanding<'_, '_, R, W>,
     ) -> Result<bool, Fault> {
         if index >= self.clients.len() {
             return Ok(false);

@@ -85,21 +85,16 @@ fn open<R: Files>(rt: &R, name: &str) -> io::Result<R::File> {
 /// The lines of a page, joined by `; `. Lines beyond `MOST_FINDINGS` bytes are counted, but the last one has the
 /// totals.
 fn in_one_line(alloc: Global, page: &str) -> Result<String, AllocError> {
+    let page = page.trim_end();
+    let (findings, totals) = page.rsplit_once('\n').unwrap_or(("", page));
     let mut joined = String::new(alloc);
     let mut left_out: usize = 0;
-    let mut totals = "";
-    for line in page.lines() {
-        let finding = totals;
-        totals = line;
-        if finding.is_empty() {
-            continue;
-        }
-        if left_out > 0 || joined.len() + finding.len() > MOST_FINDINGS {
+    for finding in findings.lines() {
+        if left_out > 0 || joined.len().saturating_add(finding.len()) > MOST_FINDINGS {
             left_out = left_out.saturating_add(1);
-            continue;
+        } else {
+            write!(joined, "{finding}; ")?;
         }
-        joined.push_str(finding)?;
-        joined.push_str("; ")?;
     }
     if left_out > 0 {
         write!(joined, "and {left_out} more; ")?;
@@ -122,7 +117,7 @@ fn refusal_of(alloc: Global, name: &str, text: &str, fault: Fault) -> Result<Str
 pub(crate) fn host_again<R: Files>(
     rt: &R,
     alloc: Global,
-    source: &PanelSource<'_>,
+    source: PanelSource<'_>,
 ) -> Result<Host, Refusal> {
     let Some(name) = source.file else {
         return Err(Refusal::StandardInput);

@@ -223,11 +223,11 @@ impl Serving {
     }
 
     /// Does what operators command, and sends the notes that can be sent. Answers whether it did something.
-    fn obey<R: Files, W: Watcher>(
+    fn obey<'x, R: Files, W: Watcher>(
         &mut self,
-        rt: &R,
+        rt: &'x R,
         now: u64,
-        source: PanelSource<'_>,
+        source: PanelSource<'x>,
         watcher: &mut W,
     ) -> Result<bool, Fault> {
         let Some(control) = &mut self.control else {
@@ -269,12 +269,12 @@ impl Serving {
 
     /// Reports to the watcher that the server listens, and takes a turn for each item of `turns`. Returns the fault
     /// that ended that; Ok if operators did.
-    fn serve_watched<R: Net + Clock + Files, W: Watcher, T: Iterator<Item = ()>>(
+    fn serve_watched<'x, R: Net + Clock + Files, W: Watcher, T: Iterator<Item = ()>>(
         &mut self,
-        rt: &R,
+        rt: &'x R,
         turns: T,
         service: &Service,
-        source: PanelSource<'_>,
+        source: PanelSource<'x>,
         address: SocketAddr,
         watcher: &mut W,
     ) -> Result<(), Fault>
@@ -295,13 +295,13 @@ impl Serving {
 
     /// Reports to the watcher that the server listens, takes a turn for each item of `turns`, and serves metrics at
     /// this port. Returns the fault that ended that; Ok if operators did.
-    fn serve_metered<R: Net + Clock + Files, W: Watcher, T: Iterator<Item = ()>>(
+    fn serve_metered<'x, R: Net + Clock + Files, W: Watcher, T: Iterator<Item = ()>>(
         &mut self,
-        rt: &R,
+        rt: &'x R,
         alloc: Global,
         turns: T,
         service: &Service,
-        source: PanelSource<'_>,
+        source: PanelSource<'x>,
         address: SocketAddr,
         port: ServicePort,
         page: MetricsPage,
@@ -414,12 +414,12 @@ impl<R: Net + Clock + Files, W: Watcher> TurnParts for Shift<'_, R, W> {
 
 /// Serves a host, a turn for each item of `turns`, with a log on `faults`. Returns the fault that ended that; Ok if
 /// operators did.
-fn serve<R: Net + Clock + RandomSource + Files, T: Iterator<Item = ()>, E: Sink>(
-    rt: &R,
+fn serve<'x, R: Net + Clock + RandomSource + Files, T: Iterator<Item = ()>, E: Sink>(
+    rt: &'x R,
     alloc: Global,
     turns: T,
     service: &Service,
-    source: PanelSource<'_>,
+    source: PanelSource<'x>,
     application: Option<Application>,
     control: Option<Control>,
     host: Host,
@@ -514,14 +514,20 @@ fn begin<I: Source>(
 /// it defines no panels, or if their LUs are no pool; 2 if the application's URL is invalid, or if no application is
 /// chosen and a panel asks about a key; 3 if memory is refused; 4 if the system can't give random bytes, make the
 /// control socket, listen, or wait for sockets; 5 if `turns` has no more items.
-pub fn run_serve<R: Net + Clock + RandomSource + Files, T: Iterator<Item = ()>, I: Source, E: Sink>(
-    rt: &R,
+pub fn run_serve<
+    'x,
+    R: Net + Clock + RandomSource + Files,
+    T: Iterator<Item = ()>,
+    I: Source,
+    E: Sink,
+>(
+    rt: &'x R,
     alloc: Global,
     turns: T,
     service: &Service,
     choice: &ApplicationChoice<'_>,
     control: &ControlChoice<'_>,
-    file: Option<&str>,
+    file: Option<&'x str>,
     version: &'static str,
     input: &mut I,
     faults: &mut E,

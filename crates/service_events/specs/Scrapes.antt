@@ -1,6 +1,7 @@
 -- The answers to a client of the metrics port (our profile, after RFC 9110 and RFC 9112).
-use Rattle.std.specs.Prelude.{◌≡◌, ◌≤◌, ◌<◌, ◌-◌, ◌==◌, ◌⊎◌, ◌||◌, ℕ, Bool, false, List, ◌++◌, before_first, length, map, take, codes, bytes_eq, nat_le, Option, Some, None, if◌then◌else◌}
+use Rattle.std.specs.Prelude.{◌≡◌, ◌≤◌, ◌<◌, ◌-◌, ◌==◌, ◌⊎◌, ◌||◌, ℕ, Bool, false, List, ◌++◌, length, map, take, codes, bytes_eq, nat_le, position, Option, Some, None, if◌then◌else◌}
 use Rattle.std.specs.Fmt.{decimal}
+use Rattle.std.specs.Option.{option_map_or}
 use Rattle.httparse.specs.Grammar.{RequestHead, ReadsRequest, HasNoRequest, NeverHasRequest}
 use Rattle.httparse.specs.Spans.{RequestExceeds, name_and_value}
 use Rattle.web_wire.specs.Heads.{only_value}
@@ -32,9 +33,13 @@ client_time = 5000
 abbrev pub is_late : (began now : ℕ) → Bool
 is_late began now = nat_le client_time (now - began)
 
+-- the bytes before the first one that is `end`; all if there is none
+abbrev pub before : (end : ℕ) → List ℕ → List ℕ
+before end bytes = option_map_or (λ place. take place bytes) (position (λ byte. byte == end) bytes) bytes
+
 -- a target without its query, which follows the first `?`
 abbrev pub path_of : List ℕ → List ℕ
-path_of target = before_first (λ byte. byte == 63) target
+path_of target = before 63 target
 
 -- the resource with this path
 abbrev pub resource_of : List ℕ → Option Resource
@@ -45,7 +50,7 @@ resource_of path =
 
 -- the name of a host without its port, which follows the first `:`
 abbrev pub host_name : List ℕ → List ℕ
-host_name host = before_first (λ byte. byte == 58) host
+host_name host = before 58 host
 
 abbrev pub is_local_name : List ℕ → Bool
 is_local_name name = bytes_eq name (codes "127.0.0.1") || bytes_eq name (codes "localhost")

@@ -1,8 +1,8 @@
 //! The answers to a client of the metrics port: the part of HTTP/1.1 (RFC 9110, RFC 9112) that its resources need.
-ghost use Rattle.std.specs.Prelude.{◌≡◌, ◌≤◌, ◌++◌, ◌==◌, [], ℕ, List, Some, All, IfOk, OnErr, OnOk, before_first, length, option_map, string_bytes, take};
+ghost use Rattle.std.specs.Prelude.{◌≡◌, ◌≤◌, ◌++◌, ◌==◌, [], ℕ, List, Some, All, IfOk, OnErr, OnOk, length, option_map, position, string_bytes, take};
 ghost use Rattle.httparse.specs.Grammar.{RequestHead as Head, ReadsRequest};
 ghost use Rattle.httparse.specs.Spans.{IsHeaderWithin};
-ghost use Rattle.service_events.specs.Scrapes.{IsAnswerTo, body_for, connection_field, extra_fields, content_type, most_fields, is_late, is_local, method_of, path_of, resource_of, response, sent_body, status_for_resource, status_lines, status_of, status_of_parts, status_text, with_more};
+ghost use Rattle.service_events.specs.Scrapes.{IsAnswerTo, before, body_for, connection_field, extra_fields, content_type, most_fields, is_late, is_local, method_of, resource_of, response, sent_body, status_for_resource, status_lines, status_of, status_of_parts, status_text, with_more};
 ghost use Rattle.websocket.specs.Headers.{fields_of};
 ghost use Rattle.web_wire.specs.Heads.{only_value};
 
@@ -55,11 +55,18 @@ pub enum HttpStatus {
     HeadTooLarge,
 }
 
+/// The place of the first byte that is `end`.
+fn place_of(bytes: &[u8], end: u8) -> Option<usize>
+    ensures { result ≡ position (λ byte. byte == end) bytes.now }
+{
+    bytes.iter().position(|byte| *byte == end)
+}
+
 /// The bytes before the first one that is `end`; all if there is none.
 fn before(bytes: &[u8], end: u8) -> &[u8]
-    ensures { result.now ≡ before_first (λ byte. byte == end) bytes.now }
+    ensures { result.now ≡ before end bytes.now }
 {
-    match bytes.iter().position(|byte| *byte == end) {
+    match place_of(bytes, end) {
         Some(place) => &bytes[..place],
         None => bytes,
     }
@@ -69,11 +76,14 @@ fn before(bytes: &[u8], end: u8) -> &[u8]
 fn resource_of(path: &[u8]) -> Option<Resource>
     ensures { result ≡ resource_of path.now }
 {
-    match path {
-        b"/metrics" => Some(Resource::Metrics),
-        b"/sessions" => Some(Resource::Sessions),
-        b"/sessions.json" => Some(Resource::SessionData),
-        _ => None,
+    if path == b"/metrics".as_slice() {
+        Some(Resource::Metrics)
+    } else if path == b"/sessions".as_slice() {
+        Some(Resource::Sessions)
+    } else if path == b"/sessions.json".as_slice() {
+        Some(Resource::SessionData)
+    } else {
+        None
     }
 }
 
@@ -82,7 +92,10 @@ fn is_local(host: Option<&[u8]>) -> bool
     ensures { result ≡ is_local (option_map (λ value. value.now) host.entry) }
 {
     match host {
-        Some(host) => matches!(before(host, b':'), b"127.0.0.1" | b"localhost"),
+        Some(host) => {
+            let name = before(host, b':');
+            name == b"127.0.0.1".as_slice() || name == b"localhost".as_slice()
+        }
         None => false,
     }
 }
@@ -214,7 +227,7 @@ impl fmt::Display for Fields {
     ghost use Rattle.std.specs.Prelude.{Some};
     ghost use Rattle.service_events.specs.Scrapes.{field_lines};
 
-    ghost output = { λ fields. Some (field_lines fields.kind fields.length) };
+    ghost output = { λ fields. Some (field_lines fields.kind.now fields.length) };
 
     #[tactic(auto, unfolding(crate::specs::Scrapes::field_lines))]
     fn fmt<W: fmt::Write>(&self, f: &mut fmt::Formatter<W>) -> fmt::Result {

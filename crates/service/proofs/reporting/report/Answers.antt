@@ -1,9 +1,9 @@
-use Rattle.std.proofs.Common.{◌∙◌, ◌<◌, Result, Ok, Err, ap, length, sym, subst}
+use Rattle.std.proofs.Common.{◌∙◌, ◌<◌, Ok, Err, ap, length, sym, subst}
 use Rattle.std.proofs.lemmas.Result.{err_from_is_err_and}
 use Rattle.host_core.specs.Reports.{events_of}
 use Rattle.host_core.specs.State.{Host, reports_at}
-use Rattle.hosts.specs.Hosts.{Hosts, host_at, with_host}
-use Rattle.hosts.proofs.Lookups.{put_again, put_same}
+use Rattle.hosts.specs.Hosts.{host_at}
+use Rattle.hosts.proofs.Lookups.{put_same}
 use Rattle.service.specs.NumberTurns.{told_of}
 use Rattle.service.specs.Watching.{Hears}
 use Rattle.service.proofs.Reports.{IsReporting, all_known, all_taken, all_told, begins, fewer, just_taken, later_hosts, none_found, one_failed, one_told}
