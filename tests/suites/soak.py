@@ -23,9 +23,14 @@ from harness.s3270 import S3270, is_wanted
 
 MINUTES = float(os.environ.get("TESTS_MINUTES", "1"))
 SECONDS = 60 * MINUTES + 300
-OPERATORS, HOSTILE = 48, 8
+OPERATORS, HOSTILE = 56, 8
 RELOADED = f"ok reloaded: panels=3 lus={OPERATORS + HOSTILE}"
 TOO_MANY = "error sessions of 8 earlier panel texts go on; wait until those of one end"
+NOTED = "ok shown, or as soon as the operator may type"
+ANSWERS = {
+    "reload": (RELOADED, TOO_MANY),
+    "note": (NOTED, "error there is no session", "error no session has this LU"),
+}
 # What the host's memory may grow by between the first and the last third, in KiB.
 MOST_GROWTH = 256
 
@@ -225,8 +230,9 @@ def is_hostile(port: int, over: threading.Event, seed: int) -> None:
 # ---- the host
 
 
-class Reloads:
-    """Has a host read its panels again, each second another text."""
+class Commands:
+    """Commands a host each second: it reads its panels again, another text; and it notes something
+    to all, or to one operator."""
 
     def __init__(self, folder: str, over: threading.Event) -> None:
         self.file, self.control = f"{folder}/panels.toml", f"{folder}/control"
@@ -237,14 +243,19 @@ class Reloads:
         with open(self.file, "wb") as it:
             it.write(panel_text(is_turned))
 
+    def tells(self, *words: str) -> None:
+        answer = hosts.run(["tell", self.control, *words], b"")[1].rstrip("\n")
+        self.done[answer] += 1
+        if answer not in ANSWERS[words[0]]:
+            self.wrong = f"tell {' '.join(words)}: {answer}"
+
     def goes_on(self) -> None:
+        turn = 0
         while not self.over.wait(1):
-            self.writes(self.done.total() % 2 == 0)
-            _, answer, _ = hosts.run(["tell", self.control, "reload"], b"")
-            answer = answer.rstrip("\n")
-            self.done[answer] += 1
-            if answer not in (RELOADED, TOO_MANY):
-                self.wrong = f"tell reload: {answer}"
+            self.writes(turn % 2 == 0)
+            self.tells("reload")
+            self.tells("note", "*" if turn % 2 else lu_of(turn % OPERATORS), f"NOTE {turn}")
+            turn += 1
 
 
 def memory_of(process) -> int:
@@ -266,9 +277,9 @@ def soak() -> str:
     over, sizes = threading.Event(), []
     desk = Desk(over)
     with tempfile.TemporaryDirectory() as folder, tempfile.TemporaryFile() as log:
-        reloads = Reloads(folder, over)
+        commands = Commands(folder, over)
         words = ["--application", desk.application.url, "--application-timeout", "1"]
-        words += ["--panels", reloads.file, "--control", reloads.control]
+        words += ["--panels", commands.file, "--control", commands.control]
         with hosts.Server("serve", *words, log=log) as host:
             people = [Person(it, host.port, desk, over) for it in range(OPERATORS)]
             threads = [threading.Thread(target=it.works, daemon=True) for it in people]
@@ -277,7 +288,7 @@ def soak() -> str:
                 for it in range(HOSTILE)
             ]
             threads.append(threading.Thread(target=desk.serves, daemon=True))
-            threads.append(threading.Thread(target=reloads.goes_on, daemon=True))
+            threads.append(threading.Thread(target=commands.goes_on, daemon=True))
             for it in threads:
                 it.start()
             try:
@@ -292,7 +303,7 @@ def soak() -> str:
                 it.join()
             log.seek(0)
             text = log.read().decode(errors="replace")
-    wrong = [it.wrong for it in [*people, reloads] if it.wrong] + closed_by_host(text)
+    wrong = [it.wrong for it in [*people, commands] if it.wrong] + closed_by_host(text)
     expect("what is wrong, and operators' connections that the host closed", wrong, [])
     expect("ends that are told twice", [it for it, times in desk.ended.items() if times > 1], [])
     third = len(sizes) // 3 or 1
@@ -301,7 +312,8 @@ def soak() -> str:
     return (
         f"{sum(it.turns for it in people)} turns of {OPERATORS} operators, "
         f"{desk.done['replies']} replies, {desk.done['failures']} failures, {len(desk.ended)} ends, "
-        f"{text.count('event=connected')} connections, {reloads.done[RELOADED]} reloads; "
+        f"{text.count('event=connected')} connections, {commands.done[RELOADED]} reloads, "
+        f"{commands.done[NOTED]} notes; "
         f"{max(sizes)} KiB, grown by {growth} KiB"
     )
 
