@@ -438,7 +438,6 @@ STEPS = {
     "echo 'Connect(NOSUCH": S3270,
     "bin/operate ": operates,
     "panel3270 web --port 8080": serves_pages,
-    "                             TRANSFER ": PRINTED,
     "listening on 127.0.0.1:3270\ntime=": "is the log of s3270: the suite s3270_sessions",
     "warning: other machines": PRINTED,
     "[tn3270]\n": "is a text for stunnel: the suite s3270_sessions",
