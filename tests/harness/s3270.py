@@ -22,7 +22,13 @@ class S3270:
         words += ["-clear", "aidWait", "-clear", "unlockDelay"]
         pipe = subprocess.PIPE
         self.process = subprocess.Popen(
-            words, stdin=pipe, stdout=pipe, stderr=subprocess.DEVNULL, text=True
+            words,
+            stdin=pipe,
+            stdout=pipe,
+            stderr=subprocess.DEVNULL,
+            text=True,
+            # Of a port that refuses its connection it prints bytes that are no text.
+            errors="replace",
         )
 
     def __enter__(self):

@@ -2,6 +2,7 @@
 
 The LUs of a text are dealt out in its order, so that each fourth one is of the same process."""
 import contextlib
+import json
 import os
 import pathlib
 import re
@@ -10,6 +11,7 @@ import subprocess
 import sys
 import tempfile
 import threading
+import tomllib
 
 from harness import hosts, programs
 from harness.case import TOP, Checks, Difference, expect
@@ -32,12 +34,18 @@ keys = {{enter = "WORD"}}
 check = Checks()
 
 
+def panels_with(*lus, word="WORD"):
+    """The panels with these LUs, and this text in the first row."""
+    text = re.sub(r"(?s)lus = \[.*?\]", f"lus = {json.dumps(lus)}", PANELS)
+    return text.replace('text = "WORD"', f'text = "{word}"')
+
+
 class Service:
     """bin/serve with the panels, at a port, in a folder of its own, until the check is over."""
 
-    def __init__(self, folder, *words):
+    def __init__(self, folder, *words, panels=PANELS):
         self.folder, self.port = pathlib.Path(folder), hosts.free_port()
-        (self.folder / "panels.toml").write_text(PANELS)
+        (self.folder / "panels.toml").write_text(panels)
         words = ["--port", str(self.port), "--folder", folder, "--panels", f"{folder}/panels.toml", *words]
         words = [sys.executable, TOP / "bin/serve", *words]
         how = {"env": {**os.environ, "PANEL3270": str(programs.panel3270())}, "start_new_session": True}
@@ -60,7 +68,21 @@ class Service:
                 return int(child)
         raise Difference(f"process {number}", "it doesn't run")
 
-    def connects(self, terminal, name="", port=None):
+    def reloads(self, panels, says, times=1):
+        """Gets HUP after the panels were written again, and says this so many times."""
+        said = (self.folder / "said").read_text()
+        (self.folder / "panels.toml").write_text(panels)
+        self.process.send_signal(signal.SIGHUP)
+        hosts.until(
+            f"it says {says!r}",
+            lambda: (self.folder / "said").read_text()[len(said) :].count(says) == times,
+        )
+
+    def lus_of(self, number):
+        """The LUs of the process with this number."""
+        return tomllib.loads((self.folder / f"{number}.toml").read_text())["lus"]
+
+    def connects(self, terminal, name="", port=None, word="WORD"):
         """A terminal is bound to an LU, and shown the panel; the name of the LU."""
 
         def is_bound():
@@ -68,7 +90,7 @@ class Service:
                 terminal.is_connected() or terminal.does(
                     f"Connect({name}{hosts.LOCALHOST}:{port or self.port})", "Wait(5,InputField)"
                 )
-            return terminal.is_connected() and terminal.shows()[0] == " WORD"
+            return terminal.is_connected() and terminal.shows()[0] == f" {word}"
 
         hosts.until("a terminal is shown the panel", is_bound)
         return terminal.does("Query(LuName)")[0]
@@ -127,6 +149,45 @@ def a_killed_process_disturbs_no_other():
         first = next(it for it in terminals if lus[it] == "LU002")
         first.does("Disconnect")
         expect("its LU by name", service.connects(first, "LU002@", service.port + 3), "LU002")
+
+
+@check
+def signals_reach_all_processes():
+    """HUP: each process shows new sessions the new panels; old sessions keep theirs. An LU that a
+    text has lost and a later one has again goes to the process in which it may have a session. A
+    wrong text changes nothing. TERM: all end with the last session."""
+    first = panels_with("LUA", "LUB", "LUC", "LUD")
+    with tempfile.TemporaryDirectory() as folder, Service(
+        folder, "--processes", "2", panels=first
+    ) as service, contextlib.ExitStack() as stack:
+        terminals = [stack.enter_context(S3270(2)) for _ in range(4)]
+        ports = (service.port + 1, service.port + 2)
+        olds = [
+            service.connects(it, f"{lu}@", port)
+            for it, lu, port in zip(terminals, ("LUA", "LUB"), ports)
+        ]
+        expect("the LUs granted", olds, ["LUA", "LUB"])
+        service.reloads(panels_with("LUC", "LUD", word="NEW"), "ok reloaded: panels=1 lus=1", 2)
+        news = [
+            service.connects(it, f"{lu}@", port, "NEW")
+            for it, lu, port in zip(terminals[2:], ("LUC", "LUD"), ports)
+        ]
+        expect("the LUs granted", news, ["LUC", "LUD"])
+        service.reloads(panels_with("LUC", "LUD", "LUB"), "ok reloaded", 2)
+        dealt = [["LUC"], ["LUD", "LUB"]]
+        expect("the LUs of the processes", [service.lus_of(1), service.lus_of(2)], dealt)
+        service.reloads("lus = [", "panels.toml: ")
+        service.reloads(first.replace("length = 8", "length = 0"), "panels.toml:6: ")
+        expect("the LUs of the processes", [service.lus_of(1), service.lus_of(2)], dealt)
+        for it in terminals:
+            works_on(it, "OLD")
+        service.process.send_signal(signal.SIGTERM)
+        hosts.until("it drains", lambda: (service.folder / "said").read_text().count("ok draining") == 2)
+        for it in terminals:
+            works_on(it, "LAST")
+            expect("it runs", service.process.poll(), None)
+            it.does("Disconnect")
+        expect("its status", service.process.wait(hosts.PATIENCE), 0)
 
 
 @check
