@@ -475,13 +475,17 @@ def a_reload_ends_negotiations():
         asks.is_asked()
         expect("tell", reloads(host, new_panels("PNL01"))[0], 0)
         asks.hears_the_end()
-        NewClient(host.port).signs_on("PNL01").enters()
+        bound = NewClient(host.port).signs_on("PNL01")
+        bound.enters()
+        bound.ends()
         host.has_logged(
             event(0, asks, "connected"),
             event(0, asks, "reloaded"),
             "event=reloaded panels=1 lus=1",
             command("reload"),
-            *host.events()[5:],
+            event(0, bound, "connected"),
+            event(0, bound, "bound lu=PNL01"),
+            event(0, bound, "lost turns=1"),
         )
 
 
