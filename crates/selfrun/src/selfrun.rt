@@ -9,7 +9,8 @@ use mio::net::TcpStream;
 use scripts::{
     MODELS, ScriptCommand, command_in_range, parted, put_answer, put_display, put_phase, typed_text,
 };
-use service::{Server, Unwatched, server_of};
+use server::{Server, Unwatched};
+use service::server_of;
 use socket_links::poll_timeout;
 use std::alloc::{AllocError, Global};
 use std::net::Net;

@@ -1,8 +1,1 @@
-pub mod Reports
-pub mod Turns
-pub mod Visits
-pub mod Admitting
-pub mod Doors
 pub mod ServiceTurns
-pub mod Control
-pub mod Handing

@@ -1,13 +1,3 @@
 pub mod Uptimes
-pub mod ConnectionInfos
-pub mod Watching
-pub mod Visits
-pub mod Accepting
-pub mod ProxyListener
-pub mod NumberTurns
-pub mod HostAnswers
-pub mod TimeTurns
-pub mod Control
-pub mod ServerTurns
 pub mod ServiceTurns
 pub mod Serving

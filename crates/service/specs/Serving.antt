@@ -4,10 +4,10 @@ use Rattle.std.specs.declared.io.Error.{Error}
 use Rattle.host_core.specs.State.{Host}
 use Rattle.job_streams.specs.declared.fault.Fault.{Fault}
 use Rattle.service_events.specs.declared.notice.Notice.{Notice}
-use Rattle.service.specs.Control.{is_ended}
-use Rattle.service.specs.ServerTurns.{PollsAndServes}
-use Rattle.service.specs.declared.accepting.Arrival.{Arrival}
-use Rattle.service.specs.declared.server_core.ServerCore.{ServerCore}
+use Rattle.server.specs.Control.{is_ended}
+use Rattle.server.specs.ServerTurns.{PollsAndServes}
+use Rattle.server.specs.declared.accepting.Arrival.{Arrival}
+use Rattle.server.specs.declared.server_core.ServerCore.{ServerCore}
 use Rattle.service.specs.declared.serving.Control.{Control}
 
 -- whether no new session is taken

@@ -2,8 +2,6 @@
 ghost use Rattle.std.specs.Prelude.{◌<◌};
 ghost use Rattle.host_core.specs.State.{most_connections};
 
-use crate::server::Server;
-use crate::watcher::Watcher;
 use application_http::{Endpoint, Reply};
 use applications::{
     ApplicationFault, Asking, AskingServer, EndedSession, Exchanges, Notifications, Query,
@@ -13,6 +11,7 @@ use host_core::{Acted, Answer, MOST_CONNECTIONS, PanelSet, Ticket};
 use job_streams::Fault;
 use jobs::ReplyTime;
 use mio::net::TcpStream;
+use server::{Server, Watcher};
 use service_events::Notice;
 use std::alloc::{AllocError, Global};
 use std::io;
@@ -59,7 +58,7 @@ struct Watched<'a, N, W> {
 impl<N: Net, W: Watcher> AskingServer for Watched<'_, N, W> {
     ghost use Rattle.std.specs.Prelude.{◌≡◌, ⊤};
     ghost use Rattle.hosts.specs.Hosts.{host_at};
-    ghost use Rattle.service.specs.HostAnswers.{AsksHost, HandsAnswer, HearsFault, HearsReply, TakesEnd, client_at, ended_if};
+    ghost use Rattle.server.specs.HostAnswers.{AsksHost, HandsAnswer, HearsFault, HearsReply, TakesEnd, client_at, ended_if};
 
     type Stream = TcpStream;
 

@@ -1,13 +1,11 @@
 //! The control socket of a service: a Unix socket at which operators command it, and the clients there.
-use crate::orders::Orders;
 use crate::reload::{PanelSource, Refusal, host_again};
 use crate::reply::{IoProgress, Reply};
-use crate::server::Server;
-use crate::watcher::Watcher;
 use control::{Answer, COMMAND_LIMIT, Command, LineBuffer, LineFault, Recipient, Status};
 use host_core::{Host, LinkRead, MOST_CONNECTIONS};
 use job_streams::Fault;
 use mio::net::{UnixListener, UnixStream};
+use server::{Orders, Server, Watcher};
 use service_events::{Commanded, Notice, PanelCounts, is_late};
 use socket_links::read_once;
 use std::alloc::{AllocError, Global};

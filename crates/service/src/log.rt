@@ -1,10 +1,9 @@
 //! The log of a server.
-use crate::server::Server;
-use crate::watcher::Watcher;
 use applications::{ApplicationFault, Replaced};
 use host_core::Host;
 use jiff::Timestamp;
 use job_streams::{Fault, Sink};
+use server::{Server, Watcher};
 use service_events::{Client, Notice};
 use std::alloc::{AllocError, Global};
 use std::time::Clock;

@@ -3,12 +3,11 @@ ghost use Rattle.std.specs.Prelude.{◌<◌};
 ghost use Rattle.host_core.specs.State.{most_connections};
 
 use crate::metrics_port::{MetricsPort, Served};
-use crate::server::Server;
-use crate::watcher::Watcher;
 use applications::{ApplicationFault, Replaced};
 use host_core::{Host, MOST_CONNECTIONS};
 use job_streams::Fault;
 use jobs::ServicePort;
+use server::{Server, Watcher};
 use service_events::{Client, MetricsPage, Notice};
 use std::alloc::Global;
 use std::net::Net;

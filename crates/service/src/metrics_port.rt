@@ -1,11 +1,11 @@
 //! The port of 127.0.0.1 at which a server serves its metrics and a list of its sessions, and the clients there.
 use crate::reply::{IoProgress, Reply};
-use crate::server::Server;
 use crate::session_page::{session_data, session_page};
 use host_core::{LinkRead, MOST_CONNECTIONS};
 use job_streams::Fault;
 use jobs::ServicePort;
 use mio::net::{TcpListener, TcpStream};
+use server::Server;
 use service_events::{HttpStatus, MetricsPage, RequestHead, Resource, is_late, response_of};
 use socket_links::read_once;
 use std::alloc::{AllocError, Global};

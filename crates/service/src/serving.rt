@@ -3,18 +3,13 @@ ghost use Rattle.std.specs.Iterator.{IsFinite};
 ghost use Rattle.std.specs.Prelude.{◌≡◌};
 ghost use Rattle.service.specs.Serving.{is_closed, is_over};
 
-use crate::accepting::{Listener, NoListener};
 use crate::application::Application;
 use crate::control_socket::ControlSocket;
 use crate::log::Log;
 use crate::metered::MetricsObserver;
-use crate::orders::Orders;
-use crate::proxy_listener::ProxyListener;
 use crate::reload::PanelSource;
-use crate::server::{PolledListener, Server};
 use crate::service_turn::{TurnParts, take_turns};
 use crate::uptime::Uptime;
-use crate::watcher::{Unwatched, Watcher};
 use application_http::{Endpoint, EndpointFault};
 use applications::{JobWithoutApplication, draw_boot, first_asked, host_of, refuse_asking};
 use host_core::{Host, Terminals};
@@ -24,6 +19,9 @@ use jobs::{
     ApplicationChoice, ControlChoice, Port, Seconds, Service, ServicePort, TimeLimits, Turns,
 };
 use mio::net::TcpStream;
+use server::{
+    Listener, NoListener, Orders, PolledListener, ProxyListener, Server, Unwatched, Watcher,
+};
 use service_events::{Metrics, MetricsPage, Notice};
 use socket_links::poll_timeout;
 use std::alloc::Global;
@@ -333,11 +331,11 @@ struct Shift<'a, R, W> {
 impl<R: Net + Clock + Files, W: Watcher> TurnParts for Shift<'_, R, W> {
     ghost use Rattle.std.specs.Prelude.{Bool, Result};
     ghost use Rattle.job_streams.specs.declared.fault.Fault.{Fault};
-    ghost use Rattle.service.specs.Control.{StopsAt};
+    ghost use Rattle.server.specs.Control.{StopsAt};
     ghost use Rattle.service.specs.Serving.{PollsAndServesBy, is_closed, is_over};
-    ghost use Rattle.service.specs.TimeTurns.{KeepsTime, done};
+    ghost use Rattle.server.specs.TimeTurns.{KeepsTime, done};
     ghost use Rattle.service.specs.Uptimes.{IsRead};
-    ghost use Rattle.service.specs.Visits.{VisitsEach};
+    ghost use Rattle.server.specs.Visits.{VisitsEach};
 
     ghost served = { λ old _ answer new. PollsAndServesBy ⟦<TcpStream as RawRead>⟧.read_gave
         ⟦<TcpStream as RawWrite>⟧.write_took W.noticed W.showed

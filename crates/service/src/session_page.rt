@@ -1,7 +1,7 @@
 //! The sessions of a service, for its operators: as a page, and as data.
-use crate::server::{Server, SessionRow};
 use host_core::{MOST_CONNECTIONS, Turn};
 use jiff::Timestamp;
+use server::{Server, SessionRow};
 use std::alloc::{AllocError, Global};
 
 /// What is going on in a session.

@@ -1,0 +1,72 @@
+-- What a turn of a connection computes, by the calls that it makes.
+use Rattle.std.proofs.Common.{◌≡◌, ◌∙◌, ℕ, List, [], ◌∷◌, Option, Some, None, Result, length, ap, refl, subst, sym}
+use Rattle.host_core.specs.State.{Host, connection_at, phase_of, state_at}
+use Rattle.host_core.specs.declared.phase.Phase.{Phase}
+use Rattle.host_core.specs.declared.serving.Served.{Served}
+use Rattle.hosts.specs.Hosts.{Hosts, host_at, with_host}
+use Rattle.hosts.proofs.Lookups.{put_again}
+use Rattle.job_streams.specs.declared.fault.Fault.{Fault}
+use Rattle.service_events.specs.Notices.{ending_of}
+use Rattle.service_events.specs.declared.notice.Ending.{Ending}
+use Rattle.service_events.specs.declared.notice.Notice.{Notice}
+use Rattle.socket_links.specs.Sockets.{Sockets, slot_at, with_slot, with_waiting}
+use Rattle.server.specs.NumberTurns.{core_reported, end_in_turn, ended, ending_after, given_back, given_back_if, info_after, with_unsent}
+use Rattle.server.specs.Watching.{Event, HearsEach, if_any}
+use Rattle.server.specs.declared.connection_info.ConnectionInfo.{ConnectionInfo}
+use Rattle.server.specs.declared.server_core.ServerCore.{ServerCore}
+
+pub ending_is : (conn : ℕ) (new : Host) (answer : Served) (phase : Phase) (ending : Option Ending) → ending ≡ ending_of phase answer
+    → phase ≡ phase_of (state_at conn new) → ending ≡ ending_after conn answer new
+ending_is conn new answer phase ending e is = e ∙ ap (λ it. ending_of it answer) is
+
+pub any_is : {A : Type 0} (event : A → Event) (found : Option A) (one : A) → found ≡ Some one → if_any event found ≡ event one ∷ []
+any_is event found one e = ap (if_any event) e
+
+pub none_is : {A : Type 0} (event : A → Event) (found : Option A) → found ≡ None → if_any event found ≡ []
+none_is event found e = ap (if_any event) e
+
+-- the hosts once a number was served, and then reported
+pub reported_hosts : (conn : ℕ) (old served left : Hosts) (host : Host) → served ≡ with_host conn (host_at conn served) old → left ≡ with_host conn (host_at conn left) served
+    → host_at conn left ≡ host → left ≡ with_host conn host old
+reported_hosts conn old served left host serves reports is =
+    reports ∙ ap (λ it. with_host conn it served) is ∙ ap (with_host conn host) serves ∙ put_again conn (host_at conn served) host old
+
+module _ {S : Type 0} where
+  pub core_is : (old : ServerCore S) (hosts hosts_are : Hosts) (sockets : Sockets S) (infos infos_are : List (Option ConnectionInfo)) → hosts ≡ hosts_are
+      → infos ≡ infos_are → record old { hosts = hosts; sockets = sockets; infos = infos } ≡ record old { hosts = hosts_are; sockets = sockets; infos = infos_are }
+  core_is old hosts hosts_are sockets infos infos_are h i =
+      ap (λ it. record old { hosts = it; sockets = sockets; infos = infos }) h ∙ ap (λ it. record old { hosts = hosts_are; sockets = sockets; infos = it }) i
+
+  pub unsent_is : (conn : ℕ) (old : ServerCore S) (out : List ℕ) (sockets : Sockets S)
+      → sockets ≡ with_slot conn (with_waiting (length out) (slot_at conn old.sockets)) old.sockets → out ≡ (connection_at conn (host_at conn old.hosts)).out
+      → sockets ≡ with_unsent conn old
+  unsent_is conn old out sockets e is = e ∙ ap (λ it. with_slot conn (with_waiting (length it) (slot_at conn old.sockets)) old.sockets) is
+
+  -- that the connection is over is told, if it is
+  pub end_events : (conn : ℕ) (info : ConnectionInfo) (old : ServerCore S) (answer : Served) (host : Host) (sockets : Sockets S)
+      (after : ConnectionInfo) (core : ServerCore S) (ending : Ending) → after ≡ info_after conn host info
+      → core ≡ core_reported conn info old host sockets → ending_after conn answer host ≡ Some ending
+      → ended conn after core ending ∷ [] ≡ end_in_turn conn info old answer host sockets
+  end_events conn info old answer host sockets after core ending is leaves ends =
+      ap (λ it. ended conn it core ending ∷ []) is
+      ∙ ap (λ it. ended conn (info_after conn host info) it ending ∷ []) leaves
+      ∙ sym (any_is (ended conn (info_after conn host info) (core_reported conn info old host sockets)) (ending_after conn answer host) ending ends)
+
+  -- the server after the end
+  pub given_back_is : (conn : ℕ) (info : ConnectionInfo) (old : ServerCore S) (answer : Served) (host : Host) (sockets : Sockets S)
+      (after : ConnectionInfo) (core new : ServerCore S) (ending : Ending) → after ≡ info_after conn host info
+      → core ≡ core_reported conn info old host sockets → ending_after conn answer host ≡ Some ending → new ≡ given_back conn after ending core
+      → new ≡ given_back_if (ending_after conn answer host) conn (info_after conn host info) (core_reported conn info old host sockets)
+  given_back_is conn info old answer host sockets after core new ending is leaves ends gives =
+      gives
+      ∙ ap (λ it. given_back conn it ending core) is
+      ∙ ap (λ it. given_back conn (info_after conn host info) ending it) leaves
+      ∙ ap (λ it. given_back_if it conn (info_after conn host info) (core_reported conn info old host sockets)) (sym ends)
+
+module _ {S W : Type 0} (noticed : W → Notice → Result Unit Fault → W → Type 0) (showed : W → Host → ℕ → Result Unit Fault → W → Type 0) where
+  pub no_end : (conn : ℕ) (info : ConnectionInfo) (old : ServerCore S) (answer : Served) (host : Host) (sockets : Sockets S) (watcher : W)
+      → ending_after conn answer host ≡ None → HearsEach noticed showed (end_in_turn conn info old answer host sockets) watcher watcher
+  no_end conn info old answer host sockets watcher goes_on =
+      subst (λ events. HearsEach noticed showed events watcher watcher)
+      (sym (none_is (ended conn (info_after conn host info) (core_reported conn info old host sockets)) (ending_after conn answer host) goes_on))
+      refl

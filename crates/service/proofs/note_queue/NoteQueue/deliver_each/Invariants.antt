@@ -1,5 +1,0 @@
-use Rattle.service.specs.Control.{DeliversBelow}
-use Rattle.service.proofs.note_queue.NoteQueue.deliver_each.Given as goal
-
-abbrev pub invariant-loop-conn : goal.invariant-loop-conn
-invariant-loop-conn g l = DeliversBelow l.conn l.initial.core l.initial.self l.sent l.core l.self

@@ -1,7 +1,0 @@
-use Rattle.std.proofs.Common.{◌∙◌, ap}
-use Rattle.service.specs.ProxyListener.{outcome_of}
-use Rattle.service.proofs.proxy_listener.ConnectionAwaitingHeader.serve.Goals as goal
-
-pub returns : goal.returns
-returns g c =
-    (c.read_on.result, c.read_on.ensures, c.outcome_of.ensures ∙ ap (λ late. outcome_of c.read_on.result c.args.self.now.accepted.peer late) c.is_late-late.ensures)

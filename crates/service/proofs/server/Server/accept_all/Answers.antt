@@ -1,4 +1,0 @@
-use Rattle.service.proofs.server.Server.accept_all.Goals as goal
-
-pub returns : goal.returns
-returns g c = rw (← c.self.view_is) (_, _, c.accept_all.ensures)
