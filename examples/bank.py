@@ -4,7 +4,7 @@
 Tellers sign on, look up balances, transfer money, and list their bookings. All data is in an SQLite file. It is created with the tellers
 and accounts below if it doesn't exist. Amounts are integers of cents.
 """
-import argparse, collections, contextlib, dataclasses, hashlib, hmac, http.server, itertools, json, os, re, sqlite3, sys, uuid
+import argparse, collections, contextlib, dataclasses, hashlib, hmac, http.server, json, os, re, sqlite3, sys, uuid
 
 TELLERS = [("4711", "ANN MILLER", "SECRET"), ("4712", "JOHN SMITH", "HIDDEN")]
 ACCOUNTS = [("1000200030", "J. BAKER", 125000), ("1000200044", "M. CARTER", 9900), ("1000200058", "TOWN LIBRARY", 0)]
@@ -14,8 +14,8 @@ TABLES = [
     """CREATE TABLE booking (number INTEGER PRIMARY KEY, form TEXT NOT NULL UNIQUE, day TEXT NOT NULL, teller TEXT NOT NULL,
     debit TEXT NOT NULL, credit TEXT NOT NULL, cents INTEGER NOT NULL CHECK (cents > 0), reference TEXT NOT NULL)""",
 ]
-LAST_BOOKINGS = "SELECT number, day, debit, credit, cents, reference FROM booking WHERE teller = ? ORDER BY number DESC LIMIT ?"
-LINES = [f"line{number}" for number in range(1, 11)]
+LAST_BOOKINGS = """SELECT number, day, debit, credit, cents, reference FROM booking WHERE teller = ?
+    ORDER BY number DESC LIMIT 10"""
 
 
 class Refused(Exception):
@@ -94,6 +94,7 @@ MOST_SESSIONS = 1000
 class Session:
     """The teller who is signed on at a session, and the name of the transfer form that was shown there last."""
     teller: str
+    name: str
     form: str = ""
 
 
@@ -104,7 +105,7 @@ class Bank:
     would be wrong as the key: when the host starts again, the next operator has the LU of the one before. A session that ended is forgotten.
     No end is told if the host is stopped, so of many sessions those are forgotten that were used least recently.
 
-    What panels show and nobody types stays until a reply changes it, so a reply that leads to a panel has a text for all that it shows.
+    Each reply that leads to MENU has the teller's name: values that no reply has are empty on a panel that is shown again.
     """
 
     def __init__(self, path):
@@ -112,10 +113,14 @@ class Bank:
         self.keys = {
             ("SIGNON", "enter"): self.sign_on,
             ("MENU", "enter"): self.choose,
+            ("MENU", "clear"): self.menu,
             ("MENU", "pf3"): self.sign_off,
             ("BALANCE", "enter"): self.balance,
+            ("BALANCE", "pf3"): self.menu,
             ("TRANSFER", "enter"): self.transfer,
+            ("TRANSFER", "pf3"): self.menu,
             ("BOOKINGS", "enter"): self.bookings,
+            ("BOOKINGS", "pf3"): self.menu,
         }
 
     def reply(self, question):
@@ -153,17 +158,21 @@ class Bank:
         name, salt, wanted = teller or ("", bytes(16), b"")
         if not hmac.compare_digest(hash_of(password, salt), wanted):
             raise Refused("TELLER NUMBER OR PASSWORD IS WRONG", "password", password="")
-        self.remember(question, Session(number))
-        return {"panel": "MENU", "fields": {"name": name}, "message": f"WELCOME, {name}"}
+        session = Session(number, name)
+        self.remember(question, session)
+        return self.menu(question, session, f"WELCOME, {name}")
 
     def sign_off(self, question, _):
         self.sessions.pop(question["session"], None)
         return {"panel": "SIGNON", "message": "SIGNED OFF"}
 
+    def menu(self, _, session, message=""):
+        return {"panel": "MENU", "fields": {"name": session.name}, "message": message}
+
     def choose(self, question, session):
         choice = question["fields"]["choice"]
         if choice == "1":
-            return {"panel": "BALANCE", "fields": {"holder": "", "balance": ""}}
+            return {"panel": "BALANCE"}
         if choice == "2":
             session.form = uuid.uuid4().hex
             return {"panel": "TRANSFER"}
@@ -184,7 +193,7 @@ class Bank:
         with transaction(self.path) as database:
             # If a reply was lost the operator presses Enter again. What a form asks for is done once.
             if booked := database.execute("SELECT number FROM booking WHERE form = ?", (session.form,)).fetchone():
-                return {"panel": "MENU", "message": f"BOOKING {booked[0]} WAS DONE BEFORE"}
+                return self.menu(question, session, f"BOOKING {booked[0]} WAS DONE BEFORE")
             _, available = account_of(database, debit, "from_account")
             account_of(database, credit, "to_account")
             if debit == credit:
@@ -195,14 +204,13 @@ class Bank:
             database.execute("UPDATE account SET cents = cents + ? WHERE number = ?", (cents, credit))
             row = (session.form, session.teller, debit, credit, cents, reference)
             booking = database.execute("INSERT INTO booking VALUES (NULL, ?, date('now', 'localtime'), ?, ?, ?, ?, ?)", row).lastrowid
-        return {"panel": "MENU", "message": f"BOOKING {booking} DONE"}
+        return self.menu(question, session, f"BOOKING {booking} DONE")
 
     def bookings(self, _, session):
         with transaction(self.path) as database:
-            rows = database.execute(LAST_BOOKINGS, (session.teller, len(LINES))).fetchall()
+            rows = database.execute(LAST_BOOKINGS, (session.teller,)).fetchall()
         lines = [f"{no:5}  {day}  {debit}  {credit}  {amount_text(cents):>12}  {text}" for no, day, debit, credit, cents, text in rows]
-        shown = itertools.zip_longest(LINES, lines, fillvalue="")
-        return {"panel": "BOOKINGS", "fields": dict(shown), "message": "" if rows else "NO BOOKINGS"}
+        return {"panel": "BOOKINGS", "fields": {"line": lines}, "message": "" if rows else "NO BOOKINGS"}
 
 
 # ---- the server

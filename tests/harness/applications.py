@@ -50,6 +50,17 @@ row = 9
 col = 8
 show = "seat"
 length = 8
+[[panel.value]]
+name = "total"
+row = 11
+col = 8
+length = 4
+[[panel.value]]
+name = "line"
+row = 13
+col = 8
+length = 6
+repeat = 2
 [panel.keys]
 pf3 = "WORD"
 

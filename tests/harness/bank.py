@@ -1,4 +1,4 @@
-"""The bank of examples/bank.py behind a host, and the screens of its panels.
+"""The bank of examples/bank.py, or the desk of desk.py, behind a host, and the screens of the bank.
 
 The application has a database of its own, and the operator is `panel3270 term`. The expected
 screens are what examples/bank-asks.toml has at its rows and columns."""
@@ -20,7 +20,9 @@ BANK = TOP / "examples/bank.py"
 PANELS = (TOP / "examples/bank-asks.toml").read_bytes()
 # What an operator does beside typing: a command of `term`, and after a key that sends a wait for
 # the host.
-DOES = {it: f"key {it.lower()}\nwait" for it in ("ENTER", "PF3", "PF9", "CLEAR")}
+DOES = {
+    it: f"key {it.lower()}\nwait" for it in ("ENTER", "PF3", "PF5", "PF7", "PF8", "PF9", "CLEAR")
+}
 DOES |= {it: f"key {it.lower()}" for it in ("TAB", "HOME", "ERASEEOF")}
 DOES["SHOW"] = "show"
 # What a host drew when it started.
@@ -32,10 +34,10 @@ ANN, JOHN = ("4711", "TAB", "SECRET", "ENTER"), ("4712", "TAB", "HIDDEN", "ENTER
 
 
 class Application:
-    """The bank's application with a database, until the check is over."""
+    """The bank's application, or this program, with a database, until the check is over."""
 
-    def __init__(self, database):
-        words = [sys.executable, BANK, "--database", database, "--port", "0"]
+    def __init__(self, database, program=BANK, port=0):
+        words = [sys.executable, program, "--database", database, "--port", str(port)]
         self.process = subprocess.Popen(
             words, stdout=subprocess.PIPE, stderr=subprocess.PIPE, text=True
         )
@@ -142,28 +144,14 @@ def menu(message="", name="ANN MILLER", choice=""):
     return screen((9, 30), *rows, (23, 2, "ENTER CHOOSE   PF3 SIGN OFF"), (24, 2, message))
 
 
-def balance(account="", holder="", amount="", message="", name="ANN MILLER"):
-    rows = [
-        (1, 30, "BALANCE OF AN ACCOUNT"),
-        (2, 50, "TELLER"),
-        (2, 58, name),
-        (5, 10, "ACCOUNT"),
-        (5, 30, account),
-    ]
+def balance(account="", holder="", amount="", message=""):
+    rows = [(1, 30, "BALANCE OF AN ACCOUNT"), (5, 10, "ACCOUNT"), (5, 30, account)]
     rows += [(7, 10, "HOLDER"), (7, 30, holder), (9, 10, "BALANCE"), (9, 30, amount)]
     return screen((5, 30), *rows, (23, 2, "ENTER LOOK UP   PF3 MENU"), (24, 2, message))
 
 
-def transfer(
-    debit="", credit="", amount="", reference="", message="", cursor=(5, 30), name="ANN MILLER"
-):
-    rows = [
-        (1, 30, "TRANSFER OF FUNDS"),
-        (2, 50, "TELLER"),
-        (2, 58, name),
-        (5, 10, "FROM ACCOUNT"),
-        (5, 30, debit),
-    ]
+def transfer(debit="", credit="", amount="", reference="", message="", cursor=(5, 30)):
+    rows = [(1, 30, "TRANSFER OF FUNDS"), (5, 10, "FROM ACCOUNT"), (5, 30, debit)]
     rows += [
         (7, 10, "TO ACCOUNT"),
         (7, 30, credit),
@@ -175,8 +163,8 @@ def transfer(
     return screen(cursor, *rows, (23, 2, "ENTER TRANSFER   PF3 MENU"), (24, 2, message))
 
 
-def bookings(*lines, message="", name="ANN MILLER"):
-    rows = [(1, 30, "YOUR LAST BOOKINGS"), (2, 50, "TELLER"), (2, 58, name)]
+def bookings(*lines, message=""):
+    rows = [(1, 30, "YOUR LAST BOOKINGS")]
     rows += [(4, 2, "   NO  DATE        FROM        TO                AMOUNT  REFERENCE")]
     rows += [(row, 2, line) for row, line in enumerate(lines, 5)]
     return screen((1, 1), *rows, (23, 2, "ENTER LOOK AGAIN   PF3 MENU"), (24, 2, message))

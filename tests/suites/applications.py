@@ -17,6 +17,10 @@ check = Checks()
 cases = check.cases
 
 NOT_AVAILABLE, ERROR = "APPLICATION NOT AVAILABLE", "APPLICATION ERROR"
+# With three copies of a field below each other in place of two fields.
+REPEATED = PANELS.replace(
+    b'name = "secret"\nrow = 5\ncol = 8\nlength = 8\nhidden = true\n', b""
+).replace(b"length = 8\n[[panel.field]]\n", b"length = 8\nrepeat = 3\n", 1)
 
 
 @check
@@ -184,6 +188,15 @@ def each_wrong_reply_is_an_error():
         ({"panel": "WIDE", "cursor": "choice"}, "200 OK", 'unknown-field key="cursor"'),
         ({"fields": {"no\u2019ne": "SESAME"}}, "200 OK", 'unknown-field key="no\u2019ne"'),
         ({"fields": {"word": 1}}, "200 OK", 'field-not-text key="word"'),
+        ({"fields": {"word": ["A"]}}, "200 OK", 'unknown-field key="word"'),
+        ({"fields": {"word": []}}, "200 OK", 'unknown-field key="word"'),
+        ({"fields": {"line": ["A", "B", "SESAME"]}}, "200 OK", 'unknown-field key="line.3"'),
+        ({"fields": {"line": ["A", 1]}}, "200 OK", 'field-not-text key="line"'),
+        ({"fields": {"line": [["SESAME"]]}}, "200 OK", 'field-not-text key="line"'),
+        ({"fields": {"line": "SESAME"}}, "200 OK", 'unknown-field key="line"'),
+        ({"fields": {"lines": ["SESAME"]}}, "200 OK", 'unknown-field key="lines"'),
+        ({"fields": {"total": ["SESAME"]}}, "200 OK", 'unknown-field key="total"'),
+        ({"panel": "MENU", "cursor": "total"}, "200 OK", 'unknown-field key="cursor"'),
         ({"fields": 1}, "200 OK", 'not-object key="fields"'),
         ({"panel": 1}, "200 OK", 'not-text key="panel"'),
         ({"end": 1}, "200 OK", 'not-boolean key="end"'),
@@ -203,6 +216,59 @@ def each_wrong_reply_is_an_error():
         a_failure_is_told_and_the_key_asks_again(
             content, "", ERROR, f"application-error reason={event}", raw=True
         )
+
+
+@check
+def a_value_shows_what_a_reply_has_for_it():
+    """It shows as much of a text as it has room for, and of an array a text in each row; it is no
+    field of a question; and it is empty again once another panel was shown."""
+    panels = PANELS.replace(b'name = "MENU"\n', b'name = "MENU"\nasks = ["enter"]\n')
+    application = Application()
+    with Host(application.url, OWN, text=panels) as host:
+        first, _ = host.operators()
+        first.presses("enter")
+        texts = {"total": "12345", "line": ["ONE", "TWO"]}
+        application.takes().sends({"panel": "MENU", "fields": texts})
+        shown = first.sees("SECOND PANEL", "1234", "ONE", "TWO")
+        expect("a value beyond its length", "12345" in shown, False)
+        first.presses("enter")
+        exchange = application.takes()
+        expect("the fields of a question", exchange.asked["fields"], {"choice": ""})
+        exchange.sends({"fields": {"line": ["XYZ"]}})
+        first.sees("XYZ")
+        for panel in ("FIRST PANEL", "SECOND PANEL"):
+            first.presses("pf3")
+            shown = first.sees(panel)
+        expect("values of before", [it for it in ("1234", "XYZ", "TWO") if it in shown], [])
+
+
+@check
+def a_repeated_field_is_an_array():
+    """A question has the texts of all copies, in order. A reply's array sets all of them: those
+    that it has no text for are empty. It may also name one copy; more texts than copies are a
+    fault."""
+    application = Application()
+    with Host(application.url, OWN, text=REPEATED) as host:
+        first = Operator(host.port).binds("PNL01")
+        host.first, host.second = first, None
+        first.sees("FIRST PANEL")
+        first.presses("enter", "ONE", "THREE")
+        exchange = application.takes()
+        expect("its fields", exchange.asked["fields"], {"word": ["ONE", "", "THREE"]})
+        exchange.sends({"fields": {"word": ["UNO", "DOS"]}})
+        expect("the third copy", "THREE" in first.sees("UNO", "DOS"), False)
+        keyed = bytes.fromhex("11 C2 E7") + "UNO".encode("cp037")
+        keyed += bytes.fromhex("11 C3 F7") + "DOS".encode("cp037")
+        first.says(b"\x00\x00\x00\x00\x00\x7d\xc2\xe8", keyed, b"\xff\xef")
+        exchange = application.takes()
+        expect("its fields then", exchange.asked["fields"], {"word": ["UNO", "DOS", ""]})
+        exchange.sends({"fields": {"word.2": "TWO"}})
+        first.sees("UNO", "TWO")
+        keyed = keyed[:6] + bytes.fromhex("11 C3 F7") + "TWO".encode("cp037")
+        first.says(b"\x00\x00\x00\x00\x00\x7d\xc2\xe8", keyed, b"\xff\xef")
+        application.takes().sends({"fields": {"word": ["A", "B", "C", "D"]}})
+        first.sees(ERROR)
+        host.has_said('application-error reason=unknown-field key="word.4"')
 
 
 @check
@@ -456,6 +522,13 @@ def characters_that_code_page_037_lacks_are_shown_plainly():
             host.has_said(f'application-replaced key="message" characters={count}')
         shows({"fields": {"word": "\u2019\u2014\u2026\u0153", "secret": "SESAME"}}, "'-...oe")
         host.has_said('application-replaced key="word" characters=4')
+        first.presses("enter")
+        texts = {"total": "\u20ac5", "line": ["\u2019A", "B"]}
+        application.takes().sends({"panel": "MENU", "fields": texts})
+        first.sees("?5", "'A")
+        host.has_said('application-replaced key="line.1" characters=2')
+        first.presses("pf3")
+        first.sees("FIRST PANEL")
         for message, key, count in (("", "secret", 2), ("\u201c", "message", 3)):
             shows(
                 {"message": message, "fields": {"word": "\u2014", "secret": "OPEN\u20ac"}}, "OPEN?"
@@ -466,7 +539,7 @@ def characters_that_code_page_037_lacks_are_shown_plainly():
             "\u00e9\u00a0\u00ab",
             "\u00df",
         )
-        expect("its lines of replaced characters", host.logged().count("application-replaced"), 10)
+        expect("its lines of replaced characters", host.logged().count("application-replaced"), 11)
         expect(
             "a hidden text in its log", "SESAME" in host.logged() or "OPEN" in host.logged(), False
         )

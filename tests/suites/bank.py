@@ -169,9 +169,9 @@ def the_next_teller_sees_nothing_of_the_last_one():
         )
         wanted = [
             menu("WELCOME, JOHN SMITH", "JOHN SMITH"),
-            balance(name="JOHN SMITH"),
-            transfer(name="JOHN SMITH"),
-            bookings(message="NO BOOKINGS", name="JOHN SMITH"),
+            balance(),
+            transfer(),
+            bookings(message="NO BOOKINGS"),
         ]
         sees(
             works(host, *ANN, *ann, "3", "ENTER", "PF3", "PF3", "SHOW", *JOHN, *john),
@@ -186,7 +186,8 @@ def each_fault_is_a_message():
     """What can't be done is a message on the same panel, with the cursor where it can be corrected,
     and no money moves."""
     # An inactive key that the host asks about all the same.
-    panels = PANELS.replace(b'asks = ["enter", "pf3"]', b'asks = ["enter", "pf3", "pf9"]')
+    asks = b'asks = ["enter", "clear", "pf3"]'
+    panels = PANELS.replace(asks, asks.replace(b'"pf3"', b'"pf3", "pf9"'))
     here, there = "1000200030", "1000200044"
     faults = [
         (
@@ -341,13 +342,11 @@ def a_host_that_starts_again_has_other_sessions():
                 )
                 expect("its LU", "event=bound lu=BANK01" in again.logged(), True)
         with hosts.Server("serve", "--application", application.url, text=PANELS) as again:
-            does = ("SHOW", *JOHN, "SHOW", "3", "ENTER", "SHOW")
-            name = "JOHN SMITH"
             sees(
-                works(again, *does),
+                works(again, "SHOW", *JOHN, "SHOW", "3", "ENTER", "SHOW"),
                 sign_on(),
-                menu("WELCOME, JOHN SMITH", name),
-                bookings(message="NO BOOKINGS", name=name),
+                menu("WELCOME, JOHN SMITH", "JOHN SMITH"),
+                bookings(message="NO BOOKINGS"),
             )
 
 
@@ -465,7 +464,9 @@ def a_database_that_fails_is_a_message():
         printed = works(host, *ANN, "2", "ENTER", *form, "ENTER", "SHOW")
         sees(printed, transfer(*form, message="DATABASE NOT AVAILABLE"))
         expect("the balances", balances(database), FIRST_BALANCES)
-    expect("what the application says", application.said, "bank.py: no room\n")
+    # The host that ends doesn't wait for the reply to the session's end, of which the application may
+    # complain, too.
+    expect("what the application says", application.said.split("-" * 40)[0], "bank.py: no room\n")
 
 
 @check

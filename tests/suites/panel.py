@@ -19,7 +19,7 @@ The steps of a case:
                              characters
     cursor MESSAGE at ADDR   it asks for a screen with the cursor there
     leads NEXT by KEYS       the keys of these AIDs lead there
-    fields N:ATTR+LENGTH:required ..; size ROWS COLUMNS
+    fields N:ATTR+LENGTH:required ..; size ROWS COLUMNS      `free` and `value` beside `required`
     shown INDEX MODEL INDEX  in a session of this model the panel is shown as the other one
     set FIELD BYTES; value FIELD BYTES; copy; swap      values of fields, and a copy of them
 """
@@ -149,7 +149,10 @@ class Panels:
         for word in words:
             number, extent, required = word.split(":")
             place = extent.replace("+", ", ")
-            found.append(f"({number}, ({place}), {str(required == 'required').lower()})")
+            if required == "value":
+                found.append(f'("value", {number}, ({place}))')
+            else:
+                found.append(f"({number}, ({place}), {str(required == 'required').lower()})")
         same(found, self.about[1:], line.at)
 
     def do_is(self, line: Line, words: list[str]) -> None:

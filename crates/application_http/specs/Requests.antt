@@ -1,7 +1,10 @@
 -- The requests to an application, for a question and for the end of a session: HTTP/1.1 (RFC 9112) with a JSON object
 -- (RFC 8259; keys: our profile).
-use Rattle.std.specs.Prelude.{ℕ, List, [], ◌∷◌, ◌++◌, Option, Some, None, codes, decimal, length, option_map, string_bytes}
-use Rattle.serde_json.specs.Data.{Data, number, unsigned, string, object, Members, no_members, member, put}
+use Rattle.std.specs.Prelude.{ℕ, ◌==◌, nat_lt, Bool, false, List, [], ◌∷◌, ◌++◌, map, bytes_eq, Option, Some, None, codes, decimal, length, option_map, string_bytes, if◌then◌else◌}
+use Rattle.std.specs.List.{after_first, before_first, position_or_len}
+use Rattle.std.specs.Option.{option_map_or}
+use Rattle.serde_json.specs.Data.{Data, number, unsigned, string, array, object, Members, no_members, member, put}
+use Rattle.serde_json.specs.View.{items_of}
 use Rattle.serde_json.specs.Written.{compact_text}
 use Rattle.url.specs.Parts.{Parts}
 use Rattle.application_http.specs.Endpoints.{query_mark, query_text, host_of}
@@ -12,11 +15,47 @@ use Rattle.application_http.specs.declared.request.Terminal.{Terminal}
 
 -- ---- the body
 
--- the members after these fields were put in; if two fields have one name, the later one counts
-abbrev pub with_texts : Members → List FieldText → Members
-with_texts members [] = members
-with_texts members (field ∷ fields) =
-    with_texts (put (string_bytes field.name) (string (string_bytes field.text)) members) fields
+abbrev pub is_dot : ℕ → Bool
+is_dot char = char == 0x2E
+
+-- the name of a copy of a field, as `amount.2`, in two parts: that of the field, and the copy's number; None for a
+-- field that isn't repeated
+abbrev pub copy_name : List ℕ → Option (List ℕ × List ℕ)
+copy_name name = if nat_lt (position_or_len is_dot name) (length name)
+    then Some (before_first is_dot name, after_first is_dot name) else None
+
+abbrev pub is_copy_of : List ℕ → List ℕ → Bool
+is_copy_of stem name = option_map_or (λ parts. bytes_eq parts.0 stem) (copy_name name) false
+
+-- the texts of the copies of a field, in the order of the list
+abbrev pub copies_of : List ℕ → List FieldText → List (List ℕ)
+copies_of stem [] = []
+copies_of stem (field ∷ fields) = if is_copy_of stem (string_bytes field.name)
+    then string_bytes field.text ∷ copies_of stem fields else copies_of stem fields
+
+-- an array of strings
+abbrev pub strings : List (List ℕ) → Data
+strings texts = array (items_of (map string texts))
+
+-- The members after one of these fields was put in: its text, or at the first copy of a field an array of the texts of
+-- all copies.
+abbrev pub with_named : List FieldText → FieldText → Option (List ℕ × List ℕ) → Members → Members
+with_named all field None members = put (string_bytes field.name) (string (string_bytes field.text)) members
+with_named all field (Some (stem, place)) members =
+    if bytes_eq place (codes "1") then put stem (strings (copies_of stem all)) members else members
+
+abbrev pub with_field : List FieldText → FieldText → Members → Members
+with_field all field members = with_named all field (copy_name (string_bytes field.name)) members
+
+-- the members after the fields of a list were put in, each of which is one of `all`; if two have one name, the later
+-- one counts
+abbrev pub with_texts : List FieldText → Members → List FieldText → Members
+with_texts all members [] = members
+with_texts all members (field ∷ fields) = with_texts all (with_field all field members) fields
+
+-- the object of the fields
+abbrev pub fields_data : List FieldText → Data
+fields_data fields = object (with_texts fields no_members fields)
 
 -- the object of the cursor; its row and column are 1-based
 abbrev pub cursor_data : (row col : ℕ) → Data
@@ -40,7 +79,7 @@ abbrev pub question_data : Request → Data
 question_data request =
     object (with_client (option_map (λ it. it.now) request.client)
     (member (codes "cursor") (cursor_data request.row request.col)
-    (member (codes "fields") (object (with_texts no_members request.fields.now))
+    (member (codes "fields") (fields_data request.fields.now)
     (member (codes "key") (string request.key.now)
     (member (codes "lu") (string request.lu.now)
     (member (codes "panel") (string request.panel.now)

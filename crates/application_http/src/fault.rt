@@ -14,7 +14,7 @@ pub enum KeyFault {
     NotBoolean,
     /// The key's value must be an object.
     NotObject,
-    /// The key is a field's name, and its value must be a text.
+    /// The key is a field's name, and its value must be a text, or an array of texts.
     FieldNotText,
 }
 

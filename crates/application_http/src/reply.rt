@@ -1,8 +1,9 @@
 //! Reads a reply from its JSON content.
-ghost use Rattle.std.specs.Prelude.{◌≡◌, ◌<◌, None, codes, is_some, length, map, option_map, option_copied, string_bytes, IfErr, IfOk, OnErr};
+ghost use Rattle.std.specs.Prelude.{◌≡◌, ◌++◌, ◌<◌, None, codes, is_some, length, map, option_map, option_copied, string_bytes, IfErr, IfOk, OnErr, OnOk};
+ghost use Rattle.serde_json.specs.Data.{member, no_members};
 ghost use Rattle.serde_json.specs.Find.{get};
-ghost use Rattle.serde_json.specs.View.{members_view, view};
-ghost use Rattle.application_http.specs.Replies.{IsBadContent, IsBadValue, IsStored, IsText, Says, SaysIn, answer_in, answer_of, end_flaw, field_text, fields_flaw, first_flaw, flag_at, first_non_text, key_flaw, names_text, object_at, text_at, texts_in};
+ghost use Rattle.serde_json.specs.View.{items_view, members_view, view};
+ghost use Rattle.application_http.specs.Replies.{IsBadContent, IsBadValue, IsStored, IsText, Says, SaysIn, answer_in, answer_of, are_texts, arrays_in, copies_in, end_flaw, field_text, fields_flaw, first_flaw, flag_at, first_non_text, is_field_value, key_flaw, name_of_copy, names_text, object_at, text_at, texts_in};
 
 use crate::fault::{KeyFault, ReplyFault};
 use crate::request::FieldText;
@@ -14,7 +15,10 @@ use std::alloc::{AllocError, Global};
 pub struct Reply {
     /// The name of the panel to show. If it is absent, the current panel is shown again.
     pub panel: Option<String>,
-    /// Texts for the panel's fields, in the order of the bytes of their names.
+    /// The names of the repeated fields for which it has an array, in the order of their bytes.
+    pub arrays: Vec<String>,
+    /// Texts for fields, in the order of the bytes of the members' names. Those of an array `amount` are for
+    /// `amount.1`, `amount.2` and so on.
     pub fields: Vec<FieldText>,
     /// A text for the message row.
     pub message: Option<String>,
@@ -24,12 +28,35 @@ pub struct Reply {
     pub end: bool,
 }
 
-/// The first member of an object whose value isn't a text.
+/// Whether each of these values is a text.
+fn are_texts(values: &[Value]) -> bool
+    ensures { result ≡ are_texts (items_view values.now) }
+{
+    for value in values {
+        if !value.is_string() {
+            return false;
+        }
+    }
+    true
+}
+
+/// Whether a value is a text, or an array of texts.
+fn is_field_value(value: &Value) -> bool
+    ensures { result ≡ is_field_value (view value.now) }
+{
+    match value {
+        Value::String(_) => true,
+        Value::Array(values) => are_texts(values.as_slice()),
+        _ => false,
+    }
+}
+
+/// The first member of an object whose value isn't a text, nor an array of texts.
 fn first_non_text(members: &Map<String, Value>) -> Option<(KeyFault, &str)>
     ensures { option_map (λ flaw. (flaw.0, flaw.1.now)) result ≡ first_non_text (members_view members.now.entries) }
 {
     for (name, value) in members {
-        if !value.is_string() {
+        if !is_field_value(value) {
             return Some((KeyFault::FieldNotText, name.as_str()));
         }
     }
@@ -136,6 +163,87 @@ fn field_of(alloc: Global, name: &str, text: &str) -> Result<FieldText, AllocErr
     })
 }
 
+/// The name of a copy of a repeated field; the copies count from 1.
+fn name_of_copy(alloc: Global, stem: &str, number: usize) -> Result<String, AllocError>
+    ensures { IfOk result (λ name. string_bytes name ≡ name_of_copy stem.now number) }
+{
+    format!(in alloc; "{stem}.{number}")
+}
+
+/// The text of a copy of a repeated field.
+fn copy_text(alloc: Global, stem: &str, number: usize, text: &str) -> Result<FieldText, AllocError>
+    ensures { IfOk result (λ field. field_text field ≡ (name_of_copy stem.now number, text.now)) }
+{
+    Ok(FieldText {
+        name: name_of_copy(alloc, stem, number)?,
+        text: copy_of(alloc, text)?,
+    })
+}
+
+/// Adds the texts of an array: one for each copy of a repeated field.
+fn add_copies(
+    alloc: Global,
+    stem: &str,
+    values: &[Value],
+    texts: &mut Vec<FieldText>,
+) -> Result<(), AllocError>
+    ensures copies { OnOk result (map field_text texts.new.items
+        ≡ map field_text texts.old.items ++ copies_in stem.now 1 (items_view values.now)) }
+    ensures refused { OnErr result (0 < length (copies_in stem.now 1 (items_view values.now))) }
+{
+    for (index, value) in values.iter().enumerate() {
+        if let Some(text) = value.as_str() {
+            texts.push(copy_text(alloc, stem, index + 1, text)?)?;
+        }
+    }
+    Ok(())
+}
+
+/// Adds the text of a field, or those of the copies of a repeated one.
+fn add_texts(
+    alloc: Global,
+    name: &str,
+    value: &Value,
+    texts: &mut Vec<FieldText>,
+) -> Result<(), AllocError>
+    ensures copies { OnOk result (map field_text texts.new.items
+        ≡ map field_text texts.old.items ++ texts_in (member name.now (view value.now) no_members)) }
+    ensures refused { OnErr result (0 < length (texts_in (member name.now (view value.now) no_members))) }
+{
+    match value {
+        Value::String(text) => texts.push(field_of(alloc, name, text.as_str())?)?,
+        Value::Array(values) => add_copies(alloc, name, values.as_slice(), texts)?,
+        _ => {}
+    }
+    Ok(())
+}
+
+/// The names of an object's arrays.
+fn arrays_in(alloc: Global, members: &Map<String, Value>) -> Result<Vec<String>, AllocError>
+    ensures copy { IfOk result (λ names. map string_bytes names.items ≡ arrays_in (members_view members.now.entries)) }
+    ensures refused { OnErr result (0 < length (arrays_in (members_view members.now.entries))) }
+{
+    let mut names = Vec::new(alloc);
+    for (name, value) in members {
+        if value.is_array() {
+            names.push(copy_of(alloc, name.as_str())?)?;
+        }
+    }
+    Ok(names)
+}
+
+/// The names of the arrays in the object at a key; none if there is no such object.
+fn arrays_at(alloc: Global, value: &Value, key: &str) -> Result<Vec<String>, AllocError>
+    ensures copy { IfOk result
+        (λ names. map string_bytes names.items ≡ arrays_in (object_at key.now (view value.now))) }
+    ensures refused { OnErr result (0 < length (arrays_in (object_at key.now (view value.now)))) }
+{
+    match value.get(key).and_then(Value::as_object) {
+        Some(members) => arrays_in(alloc, members),
+        None => Ok(Vec::new(alloc)),
+    }
+}
+
 /// Copies of the names and texts of an object's members.
 fn texts_in(alloc: Global, members: &Map<String, Value>) -> Result<Vec<FieldText>, AllocError>
     ensures copy { IfOk result (λ texts. map field_text texts.items ≡ texts_in (members_view members.now.entries)) }
@@ -143,9 +251,7 @@ fn texts_in(alloc: Global, members: &Map<String, Value>) -> Result<Vec<FieldText
 {
     let mut texts = Vec::new(alloc);
     for (name, value) in members {
-        if let Some(text) = value.as_str() {
-            texts.push(field_of(alloc, name.as_str(), text)?)?;
-        }
+        add_texts(alloc, name.as_str(), value, &mut texts)?;
     }
     Ok(texts)
 }
@@ -168,6 +274,7 @@ fn reply_of(alloc: Global, value: &Value) -> Result<Reply, AllocError>
 {
     Ok(Reply {
         panel: text_at(alloc, value, "panel")?,
+        arrays: arrays_at(alloc, value, "fields")?,
         fields: texts_at(alloc, value, "fields")?,
         message: text_at(alloc, value, "message")?,
         cursor: text_at(alloc, value, "cursor")?,

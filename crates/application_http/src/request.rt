@@ -1,8 +1,8 @@
 //! The HTTP request to an application for a question.
 ghost use Rattle.std.specs.Prelude.{◌≡◌, IfOk, OnOk, codes, option_map, string_bytes};
-ghost use Rattle.serde_json.specs.Data.{no_members, number, object, put, string, unsigned};
+ghost use Rattle.serde_json.specs.Data.{number, put, string, unsigned};
 ghost use Rattle.serde_json.specs.View.{members_view, view};
-ghost use Rattle.application_http.specs.Requests.{body_text, cursor_data, post_bytes, question_data, request_bytes, terminal_data, with_client, with_texts};
+ghost use Rattle.application_http.specs.Requests.{body_text, copies_of, copy_name, cursor_data, fields_data, is_copy_of, post_bytes, question_data, request_bytes, strings, terminal_data, with_client, with_field};
 
 use crate::endpoint::Endpoint;
 use serde_json::{Map, Value, json};
@@ -11,7 +11,7 @@ use std::alloc::{AllocError, Global};
 /// A field's name and its text, in Unicode.
 #[derive(Debug, Drop)]
 pub struct FieldText {
-    /// The name that the panel gives the field.
+    /// The name that the panel gives the field; that of the second copy of a repeated field `amount` is `amount.2`.
     pub name: String,
     /// The text of the field.
     pub text: String,
@@ -45,7 +45,8 @@ pub struct Request<'a> {
     pub row: u16,
     /// The cursor's column, 1-based.
     pub col: u16,
-    /// The panel's fields. If two have one name, the later one is sent.
+    /// The panel's fields. If two have one name, the later one is sent. Where `amount.1` stands, an array `amount` is
+    /// sent, of the texts of all whose names begin with `amount.`, in their order; of those nothing else is sent.
     pub fields: &'a [FieldText],
     /// The operator's terminal.
     pub terminal: Terminal,
@@ -53,14 +54,63 @@ pub struct Request<'a> {
     pub client: Option<&'a str>,
 }
 
+/// The name of a copy of a field, as `amount.2`, in two parts: that of the field, and the copy's number; `None` for a
+/// field that isn't repeated.
+fn copy_name(name: &str) -> Option<(&str, &str)>
+    ensures { option_map (λ parts. (parts.0.now, parts.1.now)) result ≡ copy_name name.now }
+{
+    name.split_once('.')
+}
+
+/// Whether a name is that of a copy of the field `stem`.
+fn is_copy_of(stem: &str, name: &str) -> bool
+    ensures { result ≡ is_copy_of stem.now name.now }
+{
+    copy_name(name).is_some_and(|parts| parts.0 == stem)
+}
+
+/// The JSON array of the texts of a field's copies.
+fn copies_value(alloc: Global, stem: &str, fields: &[FieldText]) -> Result<Value, AllocError>
+    ensures { IfOk result (λ value. view value ≡ strings (copies_of stem.now fields.now)) }
+{
+    let mut texts = Vec::new(alloc);
+    for field in fields {
+        if is_copy_of(stem, field.name.as_str()) {
+            texts.push(Value::try_from_str(alloc, field.text.as_str())?)?;
+        }
+    }
+    Ok(Value::Array(texts))
+}
+
+/// Puts one of these fields into an object: its text, or at the first copy of a field an array of the texts of all
+/// copies.
+fn put_field(
+    texts: &mut Map<String, Value>,
+    alloc: Global,
+    fields: &[FieldText],
+    field: &FieldText,
+) -> Result<(), AllocError>
+    ensures { OnOk result
+        (members_view texts.new.entries ≡ with_field fields.now field.now (members_view texts.old.entries)) }
+{
+    let name = field.name.as_str();
+    let Some((stem, number)) = copy_name(name) else {
+        return put_text(texts, alloc, name, field.text.as_str());
+    };
+    if number == "1" {
+        let copies = copies_value(alloc, stem, fields)?;
+        serde_json::put(texts, alloc, stem, copies)?;
+    }
+    Ok(())
+}
+
 /// The JSON object of the fields.
 fn fields_value(alloc: Global, fields: &[FieldText]) -> Result<Value, AllocError>
-    ensures { IfOk result (λ value. view value ≡ object (with_texts no_members fields.now)) }
+    ensures { IfOk result (λ value. view value ≡ fields_data fields.now) }
 {
     let mut texts = Map::new(alloc);
     for field in fields {
-        let text = Value::try_from_str(alloc, field.text.as_str())?;
-        serde_json::put(&mut texts, alloc, field.name.as_str(), text)?;
+        put_field(&mut texts, alloc, fields, field)?;
     }
     Ok(Value::Object(texts))
 }
@@ -124,7 +174,7 @@ fn put_screen(
     request: &Request<'_>,
 ) -> Result<(), AllocError>
     ensures { OnOk result
-        (members_view members.new.entries ≡ put (codes "fields") (object (with_texts no_members request.now.fields.now))
+        (members_view members.new.entries ≡ put (codes "fields") (fields_data request.now.fields.now)
         (put (codes "cursor") (cursor_data request.now.row request.now.col) (members_view members.old.entries))) }
 {
     let cursor = cursor_value(alloc, request.row, request.col)?;

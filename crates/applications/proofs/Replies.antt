@@ -1,5 +1,5 @@
 -- The texts and the faults of an application's reply.
-use Rattle.std.specs.Prelude.{ℕ, ◌<◌, List, [], ◌∷◌, IsTrue, Option, None, Some, chars, filter_map, length, take, ◌≡◌}
+use Rattle.std.specs.Prelude.{ℕ, ◌<◌, List, [], ◌∷◌, IsTrue, Option, None, Some, chars, filter_map, length, map, string_bytes, take, ◌≡◌}
 use Rattle.std.proofs.Common.{sym, subst, ap, ◌∙◌, arith, inl, inr, ⊎_elim}
 use Rattle.std.proofs.lemmas.List.Elements.{All-take}
 use Rattle.std.proofs.lemmas.Str.{chars-nil}
@@ -13,7 +13,7 @@ use Rattle.panels.specs.Screen.{Values}
 use Rattle.panels.specs.Values.{HasToGrow}
 use Rattle.plain_text.proofs.PlainForms.{empty_is_plain}
 use Rattle.plain_text.specs.PlainTexts.{plain_text}
-use Rattle.applications.specs.Applications.{AreKnownTexts, HasItsNames, IsAnswerFault, IsFirstTextFault, IsTextFault, TakesMemory, as_byte, message_bytes, message_in, most_characters, value_by, with_text}
+use Rattle.applications.specs.Applications.{AreKnownArrays, AreKnownTexts, HasItsNames, IsAnswerFault, IsArrayFault, IsFirstArrayFault, IsFirstTextFault, IsFirstValueFault, IsTextFault, TakesMemory, as_byte, message_bytes, message_in, most_characters, value_by, with_arrays, with_text}
 use Rattle.applications.specs.declared.application_reply.AnswerFault.{AnswerFault}
 use Rattle.applications.specs.declared.application_reply.AnswerFault.TheVariants as flaw
 
@@ -57,9 +57,14 @@ plain_takes (Some value) text plain is takes = plain_is_of_a_text text plain is 
 
 -- if the fields of the texts that are left are known, all are; and the fault of the first of them, once these values are set, is that of the
 -- first of all
-pub record AreKnownBefore (panels : Panels) (texts : List FieldText) (values : Values) (left : List FieldText) : Type 0 where
+pub record AreKnownBefore (panels : Panels) (texts : List FieldText) (first values : Values) (left : List FieldText) : Type 0 where
   pub known : AreKnownTexts panels left → AreKnownTexts panels texts
-  pub wrong : (fault : AnswerFault) → IsFirstTextFault panels values left fault → IsFirstTextFault panels [] texts fault
+  pub wrong : (fault : AnswerFault) → IsFirstTextFault panels values left fault → IsFirstTextFault panels first texts fault
+
+-- the same of arrays
+pub record AreKnownArraysBefore (panels : Panels) (stems left : List (List ℕ)) : Type 0 where
+  pub known : AreKnownArrays panels left → AreKnownArrays panels stems
+  pub wrong : (fault : AnswerFault) → IsFirstArrayFault panels left fault → IsFirstArrayFault panels stems fault
 
 -- ---- the faults of a reply
 
@@ -69,11 +74,21 @@ no_text_fault panels values [] fault none is = is
 no_text_fault panels values (text ∷ texts) fault none is =
     ⊎_elim (λ here. none values text here) (λ later. no_text_fault panels (with_text panels (field_text text) values) texts fault none later.1) is
 
+no_array_fault : (panels : Panels) (stems : List (List ℕ)) (fault : AnswerFault) → ((stem : List ℕ) → IsArrayFault panels stem fault → ⊥) → IsFirstArrayFault panels stems fault → ⊥
+no_array_fault panels [] fault none is = is
+no_array_fault panels (stem ∷ stems) fault none is = ⊎_elim (λ here. none stem here) (λ later. no_array_fault panels stems fault none later.1) is
+
+no_value_fault : (panels : Panels) (reply : Reply) (fault : AnswerFault) → ((stem : List ℕ) → IsArrayFault panels stem fault → ⊥)
+    → ((values : Values) (text : FieldText) → IsTextFault panels values (field_text text) fault → ⊥) → IsFirstValueFault panels reply fault → ⊥
+no_value_fault panels reply fault no_array no_text is =
+    ⊎_elim (λ array. no_array_fault panels (map string_bytes reply.arrays.items) fault no_array array)
+    (λ text. no_text_fault panels (with_arrays panels (map string_bytes reply.arrays.items) []) reply.fields.items fault no_text text.1) is
+
 module _ (panels : Panels) (shown : ℕ) (reply : Reply) (names : HasItsNames panels shown reply) where
-  pub fields_refused : (fault : AnswerFault) → IsFirstTextFault panels [] reply.fields.items fault → IsAnswerFault panels shown reply fault
+  pub fields_refused : (fault : AnswerFault) → IsFirstValueFault panels reply fault → IsAnswerFault panels shown reply fault
   fields_refused flaw.Memory is = (names, inr is)
-  fields_refused flaw.UnknownPanel is = absurd (no_text_fault panels [] reply.fields.items flaw.UnknownPanel (λ values text here. here) is)
-  fields_refused flaw.UnknownCursor is = absurd (no_text_fault panels [] reply.fields.items flaw.UnknownCursor (λ values text here. here) is)
+  fields_refused flaw.UnknownPanel is = absurd (no_value_fault panels reply flaw.UnknownPanel (λ stem here. here) (λ values text here. here) is)
+  fields_refused flaw.UnknownCursor is = absurd (no_value_fault panels reply flaw.UnknownCursor (λ stem here. here) (λ values text here. here) is)
   fields_refused (flaw.UnknownField name) is = (names, is)
 
   pub message_refused : (fault : AnswerFault) → fault ≡ flaw.Memory → 0 < length (message_in reply) → IsAnswerFault panels shown reply fault

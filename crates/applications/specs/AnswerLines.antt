@@ -8,7 +8,7 @@ use Rattle.std.specs.Option.{option_and_then}
 use Rattle.std.specs.Ordering.{nat_cmp}
 use Rattle.host_core.specs.declared.question.Answer.{Answer}
 use Rattle.panels.specs.MessageText.{message_of}
-use Rattle.panels.specs.Names.{field_named, panel_named}
+use Rattle.panels.specs.Names.{field_named, number_named, panel_named}
 use Rattle.panels.specs.Panel.{Panels}
 use Rattle.panels.specs.Screen.{Values}
 use Rattle.panels.specs.Values.{value_of}
@@ -84,8 +84,8 @@ no_parts = record { values = []; message = None; cursor = None }
 abbrev pub message_text : List ℕ → MessageText
 message_text text = record { characters = message_of (message_bytes text) }
 
--- The message, the cursor's field and the text of a field may be given once each. A name must be that of a field, and
--- each character must have a code in code page 037.
+-- The message, the cursor's field and the text of a field or value may be given once each. A name must be that of a
+-- field or, for a text, of a value, and each character must have a code in code page 037.
 abbrev pub with_message : List ℕ → AnswerParts → Option AnswerParts
 with_message text parts =
     if is_some parts.message || lacks_code text then None
@@ -96,18 +96,18 @@ with_cursor_in None parts = None
 with_cursor_in (Some field) parts = if is_some parts.cursor then None
     else Some (record parts { cursor = Some field.number })
 
-abbrev pub with_text_of : Option Field → List ℕ → AnswerParts → Option AnswerParts
+abbrev pub with_text_of : Option ℕ → List ℕ → AnswerParts → Option AnswerParts
 with_text_of None text parts = None
-with_text_of (Some field) text parts =
-    if is_some (value_of parts.values field.number) || lacks_code text then None
-    else Some (record parts { values = insert_entry nat_cmp parts.values field.number (value_by text) })
+with_text_of (Some number) text parts =
+    if is_some (value_of parts.values number) || lacks_code text then None
+    else Some (record parts { values = insert_entry nat_cmp parts.values number (value_by text) })
 
 -- the parts after a pair was added; None if it is invalid
 abbrev pub with_pair : Panels → List ℕ → List ℕ → AnswerParts → Option AnswerParts
 with_pair panels name text parts =
     if bytes_eq name (codes "message") then with_message text parts else
     if bytes_eq name (codes "cursor") then with_cursor_in (field_named text panels) parts else
-    with_text_of (field_named name panels) text parts
+    with_text_of (number_named name panels) text parts
 
 abbrev pub with_word : Panels → Option (List ℕ × List ℕ) → AnswerParts → Option AnswerParts
 with_word panels None parts = None

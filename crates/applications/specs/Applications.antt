@@ -1,5 +1,5 @@
 -- The words of an application's requests, the effect of its replies, and the messages for its failures (our profile).
-use Rattle.std.specs.Prelude.{ℕ, ◌-◌, ◌<◌, Bool, true, nat_le, nat_lt, List, [], ◌∷◌, ◌++◌, length, slice_get, take, codes, chars, string_bytes, Option, Some, None, is_some, option_map, unwrap_or, if◌then◌else◌, ◌≡◌, ◌⊎◌, ⊤}
+use Rattle.std.specs.Prelude.{ℕ, zero, suc, ◌-◌, ◌<◌, Bool, true, false, nat_le, nat_lt, List, [], ◌∷◌, ◌++◌, length, map, slice_get, take, codes, chars, string_bytes, Option, Some, None, is_some, option_map, unwrap_or, if◌then◌else◌, ◌≡◌, ◌⊎◌, ⊤}
 use Rattle.std.specs.BTreeMap.{insert_entry}
 use Rattle.std.specs.Ordering.{nat_cmp}
 use Rattle.std.specs.Fmt.{decimal}
@@ -15,7 +15,7 @@ use Rattle.applications.specs.declared.application_fault.FailureMessage.{Failure
 use Rattle.applications.specs.declared.application_fault.FailureMessage.TheVariants as failure
 use Rattle.applications.specs.declared.application_reply.AnswerFault.{AnswerFault}
 use Rattle.applications.specs.declared.application_reply.AnswerFault.TheVariants as flaw
-use Rattle.application_http.specs.Replies.{field_text}
+use Rattle.application_http.specs.Replies.{field_text, name_of_copy}
 use Rattle.application_http.specs.declared.reply.Reply.{Reply}
 use Rattle.application_http.specs.declared.request.FieldText.{FieldText}
 use Rattle.host_core.specs.declared.question.Answer.{Answer}
@@ -23,11 +23,10 @@ use Rattle.application_http.specs.declared.fault.ReplyFault.{ReplyFault}
 use Rattle.application_http.specs.declared.fault.ReplyFault.TheVariants as reply
 use Rattle.panels.specs.Characters.{codes_of}
 use Rattle.panels.specs.MessageText.{message_of}
-use Rattle.panels.specs.Names.{field_in, field_named, panel_named}
+use Rattle.panels.specs.Names.{field_in, number_named, panel_named}
 use Rattle.panels.specs.Panel.{Panels}
 use Rattle.panels.specs.Screen.{Values}
 use Rattle.panels.specs.Values.{value_of}
-use Rattle.panels.specs.declared.panel.Field.{Field}
 
 -- ---- requests
 
@@ -63,51 +62,105 @@ value_by text = take most_characters (codes_of (chars text))
 abbrev pub Text : Type 0
 Text = List ℕ × List ℕ
 
--- the values after a field was set to its text, in plain characters
+-- the values after a field, or what is shown as a value, was set to its text, in plain characters
 abbrev pub with_text : Panels → Text → Values → Values
 with_text panels text values =
-    option_map_or (λ field. insert_entry nat_cmp values field.number (value_by (plain_text text.1)))
-    (field_named text.0 panels) values
+    option_map_or (λ number. insert_entry nat_cmp values number (value_by (plain_text text.1)))
+    (number_named text.0 panels) values
 
 -- the values after each field was set to its text, one after the other
 abbrev pub with_texts : Panels → List FieldText → Values → Values
 with_texts panels [] values = values
 with_texts panels (text ∷ texts) values = with_texts panels texts (with_text panels (field_text text) values)
 
--- whether a panel has the field
+-- whether a panel has the field or value
 abbrev pub is_known_text : Panels → Text → Bool
-is_known_text panels text = is_some (field_named text.0 panels)
+is_known_text panels text = is_some (number_named text.0 panels)
 
 -- holds if setting a field to a text takes memory: the field has no value yet, or the text isn't empty
 abbrev pub TakesMemory : Option (List ℕ) → List ℕ → Type 0
 TakesMemory None text = ⊤
 TakesMemory (Some value) text = 0 < length text
 
--- holds if setting the field with a name takes memory; if no panel has the field, storing its name does unless it is
--- empty
-abbrev pub TextTakesMemory : Values → Text → Option Field → Type 0
+-- holds if setting the field or value with a name, which has a number, takes memory; if no panel has it, storing the
+-- name does unless it is empty
+abbrev pub TextTakesMemory : Values → Text → Option ℕ → Type 0
 TextTakesMemory values text None = 0 < length text.0
-TextTakesMemory values text (Some field) = TakesMemory (value_of values field.number) text.1
+TextTakesMemory values text (Some number) = TakesMemory (value_of values number) text.1
 
--- holds if a field isn't set for this reason, given these values: no panel has the field, or memory was refused
+-- holds if a text isn't set for this reason, given these values: no panel has the name, or memory was refused
 abbrev pub IsTextFault : Panels → Values → Text → AnswerFault → Type 0
-IsTextFault panels values text flaw.Memory = TextTakesMemory values text (field_named text.0 panels)
+IsTextFault panels values text flaw.Memory = TextTakesMemory values text (number_named text.0 panels)
 IsTextFault panels values text (flaw.UnknownField name) = (string_bytes name ≡ text.0)
-    × (field_named text.0 panels ≡ None)
+    × (number_named text.0 panels ≡ None)
 IsTextFault panels values text _ = ⊥
 
--- holds if some panel has each field
+-- the most rows of a repeated field or value: that of a panel text
+unfoldable pub most_copies : ℕ
+most_copies = 42
+
+-- the values after a copy, which its place names, was emptied; the same if there is no such copy
+abbrev pub with_copy_emptied : Panels → List ℕ → (place : ℕ) → Values → Values
+with_copy_emptied panels stem place values =
+    option_map_or (λ number. insert_entry nat_cmp values number [])
+    (number_named (name_of_copy stem place) panels) values
+
+-- the values after the first `count` copies were emptied
+abbrev pub with_copies_emptied : Panels → List ℕ → (count : ℕ) → Values → Values
+with_copies_emptied panels stem zero values = values
+with_copies_emptied panels stem (suc count) values =
+    with_copy_emptied panels stem (suc count) (with_copies_emptied panels stem count values)
+
+-- the values after all copies were emptied for which there are arrays, with these names
+abbrev pub with_arrays : Panels → List (List ℕ) → Values → Values
+with_arrays panels [] values = values
+with_arrays panels (stem ∷ stems) values =
+    with_arrays panels stems (with_copies_emptied panels stem most_copies values)
+
+-- the values that a reply sets: an array sets all copies, so those that it has no text for are empty
+abbrev pub values_of_reply : Panels → Reply → Values
+values_of_reply panels reply =
+    with_texts panels reply.fields.items (with_arrays panels (map string_bytes reply.arrays.items) [])
+
+-- whether some panel has a repeated field or value with the name
+abbrev pub is_known_array : Panels → List ℕ → Bool
+is_known_array panels stem = is_some (number_named (name_of_copy stem 1) panels)
+
+abbrev pub AreKnownArrays : Panels → List (List ℕ) → Type 0
+AreKnownArrays panels [] = ⊤
+AreKnownArrays panels (stem ∷ stems) = (is_known_array panels stem ≡ true) × AreKnownArrays panels stems
+
+-- holds if an array isn't set for this reason: no panel has such copies, or memory was refused
+abbrev pub IsArrayFault : Panels → List ℕ → AnswerFault → Type 0
+IsArrayFault panels stem flaw.Memory = ⊤
+IsArrayFault panels stem (flaw.UnknownField name) = (string_bytes name ≡ stem) × (is_known_array panels stem ≡ false)
+IsArrayFault panels stem _ = ⊥
+
+-- holds if this is the fault of the first array that can't be set
+abbrev pub IsFirstArrayFault : Panels → List (List ℕ) → AnswerFault → Type 0
+IsFirstArrayFault panels [] fault = ⊥
+IsFirstArrayFault panels (stem ∷ stems) fault =
+    IsArrayFault panels stem fault ⊎ ((is_known_array panels stem ≡ true) × IsFirstArrayFault panels stems fault)
+
+-- holds if some panel has each field or value
 abbrev pub AreKnownTexts : Panels → List FieldText → Type 0
 AreKnownTexts panels [] = ⊤
 AreKnownTexts panels (text ∷ texts) = (is_known_text panels (field_text text) ≡ true) × AreKnownTexts panels texts
 
--- holds if this is the fault of the first field that can't be set; `values`: those after the fields before it were set
+-- holds if this is the fault of the first text that can't be set; `values`: those after the texts before it were set
 abbrev pub IsFirstTextFault : Panels → Values → List FieldText → AnswerFault → Type 0
 IsFirstTextFault panels values [] fault = ⊥
 IsFirstTextFault panels values (text ∷ texts) fault =
     IsTextFault panels values (field_text text) fault
     ⊎ ((is_known_text panels (field_text text) ≡ true)
     × IsFirstTextFault panels (with_text panels (field_text text) values) texts fault)
+
+-- holds if this is the fault of the first array, or else of the first text, of a reply that can't be set
+abbrev pub IsFirstValueFault : Panels → Reply → AnswerFault → Type 0
+IsFirstValueFault panels reply fault =
+    IsFirstArrayFault panels (map string_bytes reply.arrays.items) fault
+    ⊎ (AreKnownArrays panels (map string_bytes reply.arrays.items)
+    × IsFirstTextFault panels (with_arrays panels (map string_bytes reply.arrays.items) []) reply.fields.items fault)
 
 -- holds if a name is given, and nothing has it
 abbrev pub IsUnknown : (of : List ℕ → Option ℕ) → Option (List ℕ) → Type 0
@@ -157,22 +210,23 @@ pub record IsAnswerFor (panels : Panels) (shown : ℕ) (reply : Reply) (answer :
   pub cursor : answer.cursor
       ≡ option_and_then (number_on panels (panel_of_reply panels shown reply)) (option_map string_bytes reply.cursor)
   pub message : answer.message.characters ≡ message_of (message_bytes (plain_text (message_in reply)))
+  pub arrays : AreKnownArrays panels (map string_bytes reply.arrays.items)
   pub known : AreKnownTexts panels reply.fields.items
-  pub values : answer.values ≡ with_texts panels reply.fields.items []
+  pub values : answer.values ≡ values_of_reply panels reply
 
 -- Holds if the host can't carry out the reply for this reason: the first fault of its panel, its cursor's field, its
--- message and its fields, in this order. A message can only fail because memory is refused, and not if it is empty.
+-- message, its arrays and its fields, in this order. A message can only fail because memory is refused, and not if it
+-- is empty.
 abbrev pub IsAnswerFault : Panels → (shown : ℕ) → Reply → AnswerFault → Type 0
 IsAnswerFault panels shown reply flaw.Memory =
     HasItsNames panels shown reply
-    × ((0 < length (message_in reply)) ⊎ IsFirstTextFault panels [] reply.fields.items flaw.Memory)
+    × ((0 < length (message_in reply)) ⊎ IsFirstValueFault panels reply flaw.Memory)
 IsAnswerFault panels shown reply flaw.UnknownPanel =
     IsUnknown (panel_number panels) (option_map string_bytes reply.panel)
 IsAnswerFault panels shown reply flaw.UnknownCursor =
     IsKnown (panel_number panels) (option_map string_bytes reply.panel)
     × IsUnknown (number_on panels (panel_of_reply panels shown reply)) (option_map string_bytes reply.cursor)
-IsAnswerFault panels shown reply fault = HasItsNames panels shown reply
-    × IsFirstTextFault panels [] reply.fields.items fault
+IsAnswerFault panels shown reply fault = HasItsNames panels shown reply × IsFirstValueFault panels reply fault
 
 -- the name of the first field whose text has a character that is replaced
 abbrev pub first_field_replaced : List FieldText → Option (List ℕ)

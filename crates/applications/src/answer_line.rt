@@ -3,7 +3,7 @@ ghost use Rattle.std.specs.Prelude.{◌≡◌, ◌<◌, IfOk, drop, false, optio
 ghost use Rattle.std.specs.Str.{IsCharBoundary};
 ghost use Rattle.applications.specs.AnswerDrafts.{parts_in};
 ghost use Rattle.applications.specs.AnswerLines.{answer_in, answer_of_parts, cut_at, is_quoted_after, message_text, no_parts, pair_of, panel_of_name, taken_as, value_text, with_cursor_in, with_message, with_pair, with_text_of, with_word, with_words, word_length, words_after};
-ghost use Rattle.panels.specs.Names.{field_named};
+ghost use Rattle.panels.specs.Names.{field_named, number_named};
 
 use crate::application_reply::{message_bytes, set_text};
 use host_core::Answer;
@@ -131,7 +131,7 @@ impl AnswerDraft {
         true
     }
 
-    /// Sets the text of the field with this name. False if there is no such field, if it has a text already, or if a
+    /// Sets the text of the field or value with this name. False if there is none, if it has a text already, or if a
     /// character has no code in code page 037.
     fn set_field(
         &mut self,
@@ -140,16 +140,16 @@ impl AnswerDraft {
         name: &str,
         text: &str,
     ) -> Result<bool, AllocError>
-        ensures { IfOk result (λ taken. with_text_of (field_named name.now panels.now) text.now (parts_in self.old)
+        ensures { IfOk result (λ taken. with_text_of (number_named name.now panels.now) text.now (parts_in self.old)
             ≡ taken_as taken (parts_in self.new)) }
     {
-        let Some(field) = panels.field_named(name) else {
+        let Some(number) = panels.number_named(name) else {
             return Ok(false);
         };
-        if self.values.get(field.number).is_some() || lacks_code(text) {
+        if self.values.get(number).is_some() || lacks_code(text) {
             return Ok(false);
         }
-        set_text(alloc, field.number, text, &mut self.values)?;
+        set_text(alloc, number, text, &mut self.values)?;
         Ok(true)
     }
 

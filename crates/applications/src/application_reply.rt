@@ -1,12 +1,12 @@
 //! Turns an application's reply, with its names and Unicode texts, into an answer for the host, with numbers and bytes.
 ghost use Rattle.std.specs.BTreeMap.{insert_entry};
 ghost use Rattle.std.specs.Ordering.{nat_cmp};
-ghost use Rattle.std.specs.Prelude.{◌≡◌, ◌<◌, [], IfErr, IfOk, OnErr, OnOk, chars, length, option_and_then, option_copied, option_map, string_bytes, take, true, unwrap_or};
-ghost use Rattle.application_http.specs.Replies.{field_text};
+ghost use Rattle.std.specs.Prelude.{◌≡◌, ◌<◌, IfErr, IfOk, OnErr, OnOk, chars, length, map, option_and_then, option_copied, option_map, string_bytes, take, true, unwrap_or};
+ghost use Rattle.application_http.specs.Replies.{field_text, name_of_copy};
 ghost use Rattle.panels.specs.Characters.{codes_of};
 ghost use Rattle.panels.specs.MessageText.{message_of};
 ghost use Rattle.panels.specs.Values.{value_of};
-ghost use Rattle.applications.specs.Applications.{AreKnownTexts, IsAnswerFault, IsAnswerFor, IsFirstTextFault, IsKnown, IsTextFault, IsUnknown, TakesMemory, as_byte, first_field_replaced, first_replaced, is_known_text, message_bytes, message_in, most_characters, number_on, panel_number, panel_of_reply, telling, value_by, with_text, with_texts};
+ghost use Rattle.applications.specs.Applications.{AreKnownArrays, AreKnownTexts, IsAnswerFault, IsAnswerFor, IsArrayFault, IsFirstArrayFault, IsFirstTextFault, IsFirstValueFault, IsKnown, IsTextFault, IsUnknown, TakesMemory, as_byte, first_field_replaced, first_replaced, is_known_array, is_known_text, message_bytes, message_in, most_characters, most_copies, number_on, panel_number, panel_of_reply, telling, value_by, values_of_reply, with_arrays, with_copies_emptied, with_copy_emptied, with_text, with_texts};
 ghost use Rattle.plain_text.specs.PlainTexts.{plain_text};
 ghost use Rattle.applications.specs.declared.application_reply.AnswerFault.TheVariants as flaw;
 
@@ -23,14 +23,14 @@ const MOST_CHARACTERS: usize = 3_564;
 /// Why the host can't carry out a reply.
 #[derive(Debug, Drop)]
 pub enum AnswerFault {
-    /// Memory was refused for a part of the reply that must be stored: a text, a field's first value, or the name of an
-    /// unknown field.
+    /// Memory was refused for a part of the reply that must be stored: a text, a field's first value, or a name, of a
+    /// copy or of an unknown field.
     Memory,
     /// There is no panel with this name.
     UnknownPanel,
     /// The reply puts the cursor in a field that the panel doesn't have.
     UnknownCursor,
-    /// There is no field with this name.
+    /// There is no field or value with this name, or none with copies that are named so if the reply has an array.
     UnknownField(String),
 }
 
@@ -94,7 +94,7 @@ pub(crate) fn set_text(
     values.set(field, cut(codes.as_slice()))
 }
 
-/// Sets the value of the field with this name to its text, in plain characters.
+/// Sets the value of the field or value with this name to its text, in plain characters.
 #[tactic(auto, using(crate::proofs::Replies::takes_memory, crate::proofs::Replies::plain_takes))]
 fn set_value(
     alloc: Global,
@@ -107,24 +107,131 @@ fn set_value(
     ensures wrong { IfErr result (IsTextFault panels.now values.old (field_text field.now)) }
 {
     let name = field.name.as_str();
-    let Some(found) = panels.field_named(name) else {
+    let Some(number) = panels.number_named(name) else {
         return Err(AnswerFault::UnknownField(copy_of(alloc, name)?));
     };
     let text = plain_text(alloc, field.text.as_str())?;
-    set_text(alloc, found.number, text.as_str(), values)?;
+    set_text(alloc, number, text.as_str(), values)?;
     Ok(())
 }
 
-/// The values of fields. The first fault ends the call.
-fn values_of(alloc: Global, panels: &PanelSet, fields: &[FieldText]) -> Result<Values, AnswerFault>
-    ensures set { IfOk result (λ values. values ≡ with_texts panels.now fields.now []) }
+/// Sets the values of these fields. The first fault ends the call.
+fn set_values(
+    alloc: Global,
+    panels: &PanelSet,
+    fields: &[FieldText],
+    values: &mut Values,
+) -> Result<(), AnswerFault>
+    ensures set { OnOk result (values.new ≡ with_texts panels.now fields.now values.old) }
     ensures known { OnOk result (AreKnownTexts panels.now fields.now) }
-    ensures wrong { IfErr result (IsFirstTextFault panels.now [] fields.now) }
+    ensures wrong { IfErr result (IsFirstTextFault panels.now values.old fields.now) }
+{
+    for field in fields {
+        set_value(alloc, panels, field, values)?;
+    }
+    Ok(())
+}
+
+/// The name of a copy of a repeated field or value.
+fn name_of_copy(alloc: Global, stem: &str, place: u8) -> Result<String, AllocError>
+    ensures { IfOk result (λ name. string_bytes name ≡ name_of_copy stem.now place) }
+{
+    format!(in alloc; "{stem}.{place}")
+}
+
+/// Empties a copy of a repeated field or value, if there is one at this place; places count from 1.
+fn empty_copy(
+    alloc: Global,
+    panels: &PanelSet,
+    stem: &str,
+    place: u8,
+    values: &mut Values,
+) -> Result<(), AllocError>
+    ensures { OnOk result (values.new ≡ with_copy_emptied panels.now stem.now place values.old) }
+{
+    let name = name_of_copy(alloc, stem, place)?;
+    if let Some(number) = panels.number_named(name.as_str()) {
+        values.set(number, &[])?;
+    }
+    Ok(())
+}
+
+/// Empties the first `count` copies of a repeated field or value.
+fn empty_copies(
+    alloc: Global,
+    panels: &PanelSet,
+    stem: &str,
+    count: u8,
+    values: &mut Values,
+) -> Result<(), AllocError>
+    ensures { OnOk result (values.new ≡ with_copies_emptied panels.now stem.now count values.old) }
+{
+    for index in 0..count {
+        empty_copy(alloc, panels, stem, index + 1, values)?;
+    }
+    Ok(())
+}
+
+/// The most rows of a repeated field or value.
+fn most_copies() -> u8
+    ensures { result ≡ most_copies }
+{
+    42
+}
+
+/// Whether some panel has a repeated field or value with this name.
+fn is_known_array(alloc: Global, panels: &PanelSet, stem: &str) -> Result<bool, AllocError>
+    ensures { IfOk result (λ is_known. is_known ≡ is_known_array panels.now stem.now) }
+{
+    let first = name_of_copy(alloc, stem, 1)?;
+    Ok(panels.number_named(first.as_str()).is_some())
+}
+
+/// Empties each copy of the repeated field or value with this name, for which a reply has an array.
+fn set_array(
+    alloc: Global,
+    panels: &PanelSet,
+    stem: &str,
+    values: &mut Values,
+) -> Result<(), AnswerFault>
+    ensures set { OnOk result (values.new ≡ with_copies_emptied panels.now stem.now most_copies values.old) }
+    ensures known { OnOk result (is_known_array panels.now stem.now ≡ true) }
+    ensures wrong { IfErr result (IsArrayFault panels.now stem.now) }
+{
+    if !is_known_array(alloc, panels, stem)? {
+        return Err(AnswerFault::UnknownField(copy_of(alloc, stem)?));
+    }
+    empty_copies(alloc, panels, stem, most_copies(), values)?;
+    Ok(())
+}
+
+/// Empties the copies of the repeated fields and values with these names. The first fault ends the call.
+fn set_arrays(
+    alloc: Global,
+    panels: &PanelSet,
+    stems: &[String],
+    values: &mut Values,
+) -> Result<(), AnswerFault>
+    ensures set { OnOk result (values.new ≡ with_arrays panels.now (map string_bytes stems.now) values.old) }
+    ensures known { OnOk result (AreKnownArrays panels.now (map string_bytes stems.now)) }
+    ensures wrong { IfErr result (IsFirstArrayFault panels.now (map string_bytes stems.now)) }
+{
+    for stem in stems {
+        set_array(alloc, panels, stem.as_str(), values)?;
+    }
+    Ok(())
+}
+
+/// The values that a reply sets: of its arrays, and then of its fields. The first fault ends the call.
+fn values_of(alloc: Global, panels: &PanelSet, reply: &Reply) -> Result<Values, AnswerFault>
+    ensures set { IfOk result (λ values. values ≡ values_of_reply panels.now reply.now) }
+    ensures arrays { OnOk result (AreKnownArrays panels.now (map string_bytes reply.now.arrays.items)) }
+    ensures known { OnOk result (AreKnownTexts panels.now reply.now.fields.items) }
+    ensures wrong { IfErr result (IsFirstValueFault panels.now reply.now) }
 {
     let mut values = Values::new(alloc);
-    for field in fields {
-        set_value(alloc, panels, field, &mut values)?;
-    }
+    set_arrays(alloc, panels, reply.arrays.as_slice(), &mut values)?;
+    set_values(alloc, panels, reply.fields.as_slice(), &mut values)?;
     Ok(values)
 }
 
@@ -225,7 +332,7 @@ fn message_in(reply: &Reply) -> &str
 }
 
 /// The host's answer for a reply, if the panel with this number is on the screen. It looks up the reply's panel, then
-/// the cursor's field, then converts the message and the fields. The first fault in this order is returned.
+/// the cursor's field, then converts the message, the arrays and the fields. The first fault in this order is returned.
 #[tactic(auto, using(crate::proofs::Replies::fields_refused, crate::proofs::Replies::message_refused))]
 pub(crate) fn answer_of(
     alloc: Global,
@@ -239,7 +346,7 @@ pub(crate) fn answer_of(
     let panel = panel_of(panels, text_of(&reply.panel))?;
     let cursor = cursor_of(panels, panel.unwrap_or(shown), text_of(&reply.cursor))?;
     let message = message_of(alloc, message_in(reply))?;
-    let values = values_of(alloc, panels, reply.fields.as_slice())?;
+    let values = values_of(alloc, panels, reply)?;
     Ok(Answer {
         panel,
         values,

@@ -55,7 +55,7 @@ shows_without_room app old values shown before after result is full same = (refl
 
 -- the value of some field had to grow
 pub shows_without_values : {T E : Type 0} (app : Application) (old new : Session) (values : Values) (shown : Shown) (before after : Vec ℕ Global) (result : Result T E) → is_err result ≡ true
-    → OnErr result (Grow old.values values) → OnErr result (new ≡ old) → after.items ≡ before.items → DoesOn (Some (done app old (act_of values shown))) old before NoMemory new after
+    → OnErr result (Grow old.values (done app old (act_of values shown)).conn.values) → OnErr result (new ≡ old) → after.items ≡ before.items → DoesOn (Some (done app old (act_of values shown))) old before NoMemory new after
 shows_without_values app old new values shown before after result is grow stays same = (at_err result _ is stays, same, WantsMemory.values (at_err result _ is grow))
 
 -- a panel is shown, once the values of fields are set

@@ -14,7 +14,7 @@ use Rattle.panels.specs.declared.message.Message.{Message}
 use Rattle.panels.specs.Screen.{Values}
 use Rattle.host_core.specs.Application.{Application, IsApplication, IsSizeOf, KeepsNothing}
 use Rattle.host_core.specs.Session.{Session, model_in}
-use Rattle.host_core.specs.Acts.{known_despite, Act, wanted_by, when_shown}
+use Rattle.host_core.specs.Acts.{known_despite, Act, values_shown, wanted_by, when_shown}
 use Rattle.host_core.specs.Laws.{IsPaintable, ActsFit, SizesAreTheModels, MayBeNow, UnheardIsAllowed}
 use Rattle.host_core.specs.declared.unheard.Unheard.{Unheard}
 use Rattle.host_core.specs.declared.unheard.Unheard.TheVariants as unheards
@@ -85,7 +85,9 @@ paints app conn panel message true values is = by_fit (fits conn.shadow kept) re
 
 pub acts_fit : ActsFit
 acts_fit app conn Act.Read is = tt
-acts_fit app conn (Act.Show panel message keep values) is = (paints app (when_shown conn) (app.shown (model_in conn) panel) message keep values is, refl)
+acts_fit app conn (Act.Show panel message keep values) is =
+    let shown = app.shown (model_in conn) panel in
+    (paints app (when_shown conn) shown message keep (values_shown app shown message values) is, refl)
 
 -- what is wanted has one of the sizes of the session's model
 wanted_size : (app : Application) (conn : Session) (model : Model) (panel : ℕ) (message : Message) (keep : Bool) (values : Values) → IsApplication app
@@ -102,7 +104,8 @@ wanted_size app conn model panel message true values is = by_fit (fits conn.shad
 
 pub sizes_are : SizesAreTheModels
 sizes_are app conn Act.Read is sized = sized
-sizes_are app conn (Act.Show panel message keep values) is sized = wanted_size app (when_shown conn) (model_in conn) panel message keep values is
+sizes_are app conn (Act.Show panel message keep values) is sized =
+    wanted_size app (when_shown conn) (model_in conn) panel message keep (values_shown app (app.shown (model_in conn) panel) message values) is
 
 -- ---- what may have happened unheard
 

@@ -20,7 +20,7 @@ use Rattle.host_core.specs.Learning.{is_longer, is_missing_now, needs_room, valu
 set_here : (known : Option (List ℕ)) (n : ℕ) (values : Values) (text : List ℕ) → known ≡ Some text → value_of (set_if n known values) n ≡ Some text
 set_here known n values text is = ap (λ (k : Option (List ℕ)). value_of (set_if n k values) n) is ∙ put_here values n text
 
-set_there : (known : Option (List ℕ)) (k n : ℕ) (values : Values) → n ≢ k → value_of (set_if k known values) n ≡ value_of values n
+pub set_there : (known : Option (List ℕ)) (k n : ℕ) (values : Values) → n ≢ k → value_of (set_if k known values) n ≡ value_of values n
 set_there None k n values differ = refl
 set_there (Some text) k n values differ = put_there values k n text differ
 

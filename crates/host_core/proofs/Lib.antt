@@ -22,4 +22,5 @@ pub mod TalkSteps
 pub mod ByteSteps
 pub mod Outcomes
 pub mod Learned
+pub mod Dropping
 pub mod Sizes

@@ -15,7 +15,7 @@ use Rattle.shadow.specs.Stores.{is_plain}
 use Rattle.telnet_wire.specs.Items.{Record, sent_bytes}
 use Rattle.tn3270e_msg.specs.Header.{spelling, always_response, next_number}
 use Rattle.host_core.proofs.Commands.{IsSentCode, sent_command, read_behind, plain_behind}
-use Rattle.host_core.specs.Acts.{painted, wanted_by}
+use Rattle.host_core.specs.Acts.{painted, values_shown, wanted_by}
 use Rattle.host_core.specs.Application.{Application}
 use Rattle.host_core.specs.Representation.{BelievesTheSize, command_in, pending_in, IsPlainWrite, IsSentOn}
 use Rattle.host_core.specs.Messages.{ToTerminal}
@@ -119,8 +119,14 @@ shown_conn : Session → ScreenSize → ℕ → Message → Values → Pending �
 shown_conn conn size panel message values pending =
     record conn { size = size; turn = whose.Terminal; pending = pending; next_seq = next_number conn.next_seq; panel = panel; message = message; values = values }
 
+-- the values make no difference to what is kept
+pub same_wanted : (app : Application) (conn : Session) (left : Values) (panel : ℕ) (message : Message) (keep : Bool) (values : Values)
+    → wanted_by app (record conn { values = left }) panel message keep values ≡ wanted_by app conn panel message keep values
+same_wanted app conn left panel message true values = refl
+same_wanted app conn left panel message false values = refl
+
 pub shows : (app : Application) (conn new : Session) (asked : ℕ) (message : Message) (keep : Bool) (values : Values) (wanted : WantedScreen) (sent : List ℕ) (before after : Vec ℕ Global)
-    → wanted ≡ wanted_by app conn (app.shown (model_in conn) asked) message keep values
+    → wanted ≡ wanted_by app conn (app.shown (model_in conn) asked) message keep (values_shown app (app.shown (model_in conn) asked) message values)
     → IsPaintSpelt (cells_in wanted.size) conn.shadow wanted → sent ≡ paint_record (cells_in wanted.size) conn.next_seq conn.shadow wanted
     → new ≡ record conn {
       size = wanted.size;
@@ -129,17 +135,18 @@ pub shows : (app : Application) (conn new : Session) (asked : ℕ) (message : Me
       next_seq = next_number conn.next_seq;
       panel = app.shown (model_in conn) asked;
       message = message;
-      values = values;
+      values = values_shown app (app.shown (model_in conn) asked) message values;
     }
     → after.items ≡ before.items ++ sent_bytes (Record sent ∷ [])
     → IsSentOn (painted app conn asked message keep values) before after new
 unfolding shown_conn
 shows app conn new asked message keep values wanted sent before after chosen encoded begun is put =
     let panel : ℕ = app.shown (model_in conn) asked in
+    let left = values_shown app panel message values in
     record {
-      conn = is ∙ ap (λ (command : CommandParts). shown_conn conn wanted.size panel message values (Pending.Writing conn.next_seq command))
+      conn = is ∙ ap (λ (command : CommandParts). shown_conn conn wanted.size panel message left (Pending.Writing conn.next_seq command))
           (paint_again (cells_in wanted.size) conn.next_seq conn.shadow wanted sent encoded begun)
-          ∙ ap (λ (w : WantedScreen). shown_conn conn w.size panel message values (Pending.Writing conn.next_seq (paint (cells_in w.size) conn.shadow w))) chosen;
+          ∙ ap (λ (w : WantedScreen). shown_conn conn w.size panel message left (Pending.Writing conn.next_seq (paint (cells_in w.size) conn.shadow w))) chosen;
       bytes = put ∙ ap (λ (bytes : List ℕ). before.items ++ sent_bytes (Record bytes ∷ [])) begun
           ∙ ap (λ (w : WantedScreen). before.items ++ sent_bytes (item_sent (ToTerminal.Paint conn.next_seq w conn.shadow) ∷ [])) chosen;
     }

@@ -6,7 +6,7 @@ use Rattle.std.specs.Option.{option_or, option_map_or}
 use Rattle.std.specs.BTreeMap.{is_at}
 use Rattle.std.specs.Ordering.{nat_cmp}
 use Rattle.std.proofs.lemmas.Bool.{and_parts}
-use Rattle.std.proofs.lemmas.List.Elements.{All-nil, All-head, All-tail, All-map}
+use Rattle.std.proofs.lemmas.List.Elements.{All-append, All-nil, All-head, All-tail, All-map}
 use Rattle.std.proofs.lemmas.List.FromFn.{length-map-range_with_len}
 use Rattle.std.proofs.lemmas.Map.Views.{IfSome-lookup_from_All}
 use Rattle.codes3270.specs.CodePage.{code_of}
@@ -74,12 +74,29 @@ code_stored character = by_code (code_of character) refl
 coded_stored : (text : List ℕ) → AreStorable (coded text)
 coded_stored text = All-map IsStored (λ character. unwrap_or (code_of character) 0) text (λ k d below. code_stored (slice_index_or text k d))
 
-message_stored : (fields : List Field) (message : Message) → AreStorable (message_text fields message)
-message_stored fields Fresh = All-nil IsStored
-message_stored fields Plain = All-nil IsStored
-message_stored fields (Told text cursor) = coded_stored text.characters
-message_stored fields KeyNotActive = coded_stored (codes "KEY NOT ACTIVE")
-message_stored fields (Required number) = coded_stored (codes "REQUIRED: " ++ option_map_or (λ (field : Field). field.name) (field_numbered number fields) [])
+abbrev HaveTitles : List Field → Type 0
+HaveTitles fields = All (λ (field : Field). AreCharacters field.title) fields
+
+titled : (b : Bool) (field : Field) (rest : Option Field) → AreStorable field.title → AreStorable (option_map_or (λ (field : Field). field.title) rest [])
+    → AreStorable (option_map_or (λ (field : Field). field.title) (if b then Some field else rest) [])
+titled true field rest own others = own
+titled false field rest own others = others
+
+title_stored : (number : ℕ) (fields : List Field) → HaveTitles fields → AreStorable (option_map_or (λ (field : Field). field.title) (field_numbered number fields) [])
+title_stored number [] titles = All-nil IsStored
+title_stored number (field ∷ fields) titles =
+    titled (field.number == number) field (field_numbered number fields)
+    (storable_characters field.title (All-head (λ (field : Field). AreCharacters field.title) field fields titles))
+    (title_stored number fields (All-tail (λ (field : Field). AreCharacters field.title) field fields titles))
+
+message_stored : (fields : List Field) (message : Message) → HaveTitles fields → AreStorable (message_text fields message)
+message_stored fields Fresh titles = All-nil IsStored
+message_stored fields Plain titles = All-nil IsStored
+message_stored fields (Told text cursor) titles = coded_stored text.characters
+message_stored fields KeyNotActive titles = coded_stored (codes "KEY NOT ACTIVE")
+message_stored fields (Required number) titles =
+    All-append IsStored (coded (codes "REQUIRED: ")) (option_map_or (λ (field : Field). field.title) (field_numbered number fields) [])
+    (coded_stored (codes "REQUIRED: ")) (title_stored number fields titles)
 
 shown_characters : (values : Values) (content : Content) → AreTexts values → HasCharacters content → AreCharacters (shown values content)
 shown_characters values (Literal text) texts is = is
@@ -145,12 +162,12 @@ stopper_held cell field = by_test (cell == field.extent.first + field.extent.len
     by_test true = refl
     by_test false = tt
 
-message_held : (start : ℕ) (fields : List Field) (message : Message) (cell : ℕ) → CanBeHeld (message_cell start fields message cell)
-message_held start fields message cell = by_test (nat_lt cell start)
+message_held : (start : ℕ) (fields : List Field) (message : Message) (cell : ℕ) → HaveTitles fields → CanBeHeld (message_cell start fields message cell)
+message_held start fields message cell titles = by_test (nat_lt cell start)
   where
     by_test : (b : Bool) → CanBeHeld (if b then None else Some (item_cell (autoskip_attr true) (message_text fields message) (cell - start)))
     by_test true = tt
-    by_test false = item_held (autoskip_attr true) (message_text fields message) (cell - start) (message_stored fields message)
+    by_test false = item_held (autoskip_attr true) (message_text fields message) (cell - start) (message_stored fields message titles)
 
 cell_held : (panel : PanelParts) (values : Values) (message : Message) (keep : Bool) (cell : ℕ) → IsOfCharacters panel → AreTexts values → IsProper (wanted_cell panel values message keep cell)
 cell_held panel values message keep cell is texts =
@@ -160,7 +177,7 @@ cell_held panel values message keep cell is texts =
     (or_held (first_some (field_cell values message keep cell) panel.fields) _
     (any_held (λ field. AreCharacters field.fill) (field_cell values message keep cell) (λ field fill. field_held values message keep cell field texts fill) panel.fields is.fills)
     (or_held (message_cell (message_start (size_of panel)) panel.fields message cell) (first_some (stopper_cell cell) panel.fields)
-    (message_held (message_start (size_of panel)) panel.fields message cell)
+    (message_held (message_start (size_of panel)) panel.fields message cell is.titles)
     (any_held (λ field. ⊤) (stopper_cell cell) (λ field it. stopper_held cell field) panel.fields (λ k d below. tt)))))
 
 -- ---- screens
@@ -183,7 +200,11 @@ asks panel values message keep texts laid is = record {
 }
 
 no_characters : IsOfCharacters no_panel
-no_characters = record { texts = All-nil (λ text. HasCharacters text.content); fills = All-nil (λ field. AreCharacters field.fill) }
+no_characters = record {
+  texts = All-nil (λ text. HasCharacters text.content);
+  fills = All-nil (λ field. AreCharacters field.fill);
+  titles = All-nil (λ field. AreCharacters field.title);
+}
 
 pub panels_ask : PanelsAskForScreens
 panels_ask set laid is number values message keep texts =

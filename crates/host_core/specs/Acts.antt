@@ -17,8 +17,8 @@ use Rattle.panels.specs.declared.message.Message.{Message}
 use Rattle.panels.specs.declared.message.Message.TheVariants.{Fresh, Plain, KeyNotActive, Required, Told}
 use Rattle.panels.specs.declared.next.Next.{Next}
 use Rattle.panels.specs.declared.next.Next.TheVariants.{Go, Ask, Again}
-use Rattle.panels.specs.Screen.{Values}
-use Rattle.panels.specs.Values.{set_if, value_of}
+use Rattle.panels.specs.Screen.{Values, is_fresh}
+use Rattle.panels.specs.Values.{set_if, value_of, without_values}
 use Rattle.tn3270e_msg.specs.Header.{next_number}
 use Rattle.host_core.specs.Application.{Application}
 use Rattle.host_core.specs.Messages.{ToTerminal}
@@ -180,12 +180,17 @@ pub record Sent : Type 0 where
   pub conn : Session
   pub message : ToTerminal
 
+-- the values with which a panel is shown: a fresh one has none of its own values
+abbrev pub values_shown : Application → ℕ → Message → Values → Values
+values_shown app panel message values = if is_fresh message then without_values (app.values panel) values else values
+
 -- A panel is painted over what is believed, and the belief stays until the paint is answered. The connection's size
 -- changes when the paint is sent: the paint is an erase unless the belief has that size.
 abbrev pub painted : Application → Session → ℕ → Message → Bool → Values → Sent
 painted app conn panel message keep values =
     let shown = app.shown (model_in conn) panel in
-    let wanted = wanted_by app conn shown message keep values in
+    let left = values_shown app shown message values in
+    let wanted = wanted_by app conn shown message keep left in
     record {
       conn = record conn {
         size = wanted.size;
@@ -194,7 +199,7 @@ painted app conn panel message keep values =
         next_seq = next_number conn.next_seq;
         panel = shown;
         message = message;
-        values = values;
+        values = left;
       };
       message = ToTerminal.Paint conn.next_seq wanted conn.shadow;
     }

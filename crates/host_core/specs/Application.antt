@@ -12,6 +12,7 @@ use Rattle.datastream.specs.declared.wanted.Want.TheVariants.{Char, Attr, Keep}
 use Rattle.shadow.specs.Fits.{is_keep}
 use Rattle.shadow.specs.TextUnknown.{keeps_whole_fields}
 use Rattle.panels.specs.declared.panel.Field.{Field}
+use Rattle.panels.specs.declared.panel.Value.{Value}
 use Rattle.panels.specs.declared.message.Message.{Message}
 use Rattle.panels.specs.declared.next.Next.{Next}
 use Rattle.panels.specs.Characters.{AreCharacters}
@@ -23,9 +24,9 @@ use Rattle.panels.specs.Screen.{Values, screen_of}
 -- alternate size of a model after Erase/Write Alternate.
 --
 -- Panels are named by 0-based numbers: `start` is the first one; `has_panel` says which exist; `shown` is the one that
--- a terminal of a model is shown if a panel is asked for; `fields` are a panel's; `next` is where a key leads from it,
--- or, with no AID, what is shown at connect in its place; and `screen` is the screen that it asks for; with `keep`,
--- fields keep what the operator left there.
+-- a terminal of a model is shown if a panel is asked for; `fields` and `values` are a panel's; `next` is where a key
+-- leads from it, or, with no AID, what is shown at connect in its place; and `screen` is the screen that it asks for;
+-- with `keep`, fields keep what the operator left there.
 pub record Application : Type 0 where
   pub begins : ScreenSize
   pub alternate : Model → ScreenSize
@@ -33,6 +34,7 @@ pub record Application : Type 0 where
   pub has_panel : ℕ → Bool
   pub shown : Model → (panel : ℕ) → ℕ
   pub fields : ℕ → List Field
+  pub values : ℕ → List Value
   pub next : ℕ → Aid → Next
   pub screen : (panel : ℕ) → Values → Message → (keep : Bool) → WantedScreen
 
@@ -110,6 +112,7 @@ no_panel = record {
   otherwise = None;
   texts = [];
   fields = [];
+  values = [];
   cursor = 0;
   targets = [];
   asked = [];
@@ -129,6 +132,7 @@ application_of set = record {
   has_panel = λ panel. nat_lt panel (length set.panels);
   shown = λ model panel. shown_in set model panel;
   fields = λ panel. (panel_at set panel).fields;
+  values = λ panel. (panel_at set panel).values;
   next = λ panel aid. next_of (panel_at set panel) aid;
   screen = λ panel values message keep. screen_of (panel_at set panel) values message keep;
 }

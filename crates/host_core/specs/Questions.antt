@@ -7,8 +7,9 @@ use Rattle.codes3270.specs.declared.attention.Aid.{Aid}
 use Rattle.codes3270.specs.declared.attention.Aid.TheVariants.{NoAid, Enter, Clear, Pf, Pa}
 use Rattle.panels.specs.declared.message.Message.TheVariants.{Told}
 use Rattle.panels.specs.declared.panel.Field.{Field}
+use Rattle.panels.specs.declared.panel.Value.{Value}
 use Rattle.panels.specs.Screen.{Values}
-use Rattle.panels.specs.Values.{value_of, with_values, without_fields}
+use Rattle.panels.specs.Values.{value_of, with_values, without_fields, without_values}
 use Rattle.host_core.specs.Acts.{Act, Decision, Sent, decision_in, done, first_panel, learned}
 use Rattle.host_core.specs.Application.{Application}
 use Rattle.host_core.specs.State.{Service}
@@ -114,10 +115,17 @@ abbrev pub named_fields : Application → Session → Option ℕ → List Field
 named_fields app conn None = []
 named_fields app conn (Some panel) = app.fields (app.shown (model_in conn) panel)
 
--- the values after an answer: known texts are kept; the fields of a panel that is shown whole have only its values
+-- its values
+abbrev pub named_values : Application → Session → Option ℕ → List Value
+named_values app conn None = []
+named_values app conn (Some panel) = app.values (app.shown (model_in conn) panel)
+
+-- the values after an answer: known texts are kept; a panel that is shown whole has only the answer's values
 abbrev pub values_for : Application → Session → Answer → Option ℕ → Values
 values_for app conn answer panel =
-    with_values (without_fields (named_fields app conn panel) (learned conn.shadow (app.fields conn.panel) conn.values))
+    with_values
+    (without_values (named_values app conn panel)
+    (without_fields (named_fields app conn panel) (learned conn.shadow (app.fields conn.panel) conn.values)))
     answer.values
 
 -- The act for an answer that shows this panel whole. If it shows none so, the panel that is on the screen keeps what

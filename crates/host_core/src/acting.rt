@@ -20,7 +20,7 @@ ghost use Rattle.host_core.specs.Sound.{IsShownOn};
 ghost use Rattle.host_core.specs.declared.acting.Decision.TheVariants.{Show};
 ghost use Rattle.panels.specs.Values.{value_of, without_fields};
 ghost use Rattle.shadow.specs.Storable.{CanBeStored};
-ghost use Rattle.host_core.specs.Questions.{HasTexts, act_by, answered_in, answered_on, has_its_panel, has_value_of, cursor_asked, is_asking, key_of, named_fields, panel_asked, panel_for, question_in, texts_asked, ticket_of, values_for};
+ghost use Rattle.host_core.specs.Questions.{HasTexts, act_by, answered_in, answered_on, has_its_panel, has_value_of, cursor_asked, is_asking, key_of, named_fields, named_values, panel_asked, panel_for, question_in, texts_asked, ticket_of, values_for};
 
 use crate::acted::Acted;
 use crate::asking::{has_its_panel, has_value_of, key_of, learn_without};
@@ -33,7 +33,7 @@ use crate::session::Session;
 use crate::turn::Turn;
 use crate::turn_reason::TurnReason;
 use codes3270::{Addr, Aid};
-use panels::{Field, Message, Next, PanelSet, Values};
+use panels::{Field, Message, Next, PanelSet, Value, Values};
 use shadow::Shadow;
 use telnet_wire::Memory;
 
@@ -385,6 +385,7 @@ impl Session {
             return Acted::Memory;
         }
         self.fields_are_believed(panels);
+        panels.panels_are_sound();
         if self.learn(panels, learn).is_err() {
             return Acted::Memory;
         }
@@ -530,6 +531,17 @@ impl Session {
         }
     }
 
+    /// The values of a panel that is shown whole, in the form for the terminal's model; none if none is.
+    fn named_values<'a>(&self, panels: &'a PanelSet, whole: Option<usize>) -> &'a [Value]
+        requires { IfSome whole (λ panel. panel < length panels.now.panels) }
+        ensures { result.now ≡ named_values (application_of panels.now) self.now whole }
+    {
+        match whole {
+            None => &[],
+            Some(panel) => panel_in(panels, panels.shown(panel, self.shown_model())).values(),
+        }
+    }
+
     /// A copy of the values of all fields, after the known texts and the answer's values are set.
     fn values_for(
         &self,
@@ -547,7 +559,8 @@ impl Session {
         let mut values = self.values.clone()?;
         let fields = panel_in(panels, self.panel).fields();
         let named = self.named_fields(panels, whole);
-        learn_without(&mut values, &self.shadow, fields, named)?;
+        let shown = self.named_values(panels, whole);
+        learn_without(&mut values, &self.shadow, fields, named, shown)?;
         values.set_all(&answer.values)?;
         Ok(values)
     }
@@ -573,7 +586,8 @@ impl Session {
         panels.panels_are_sound();
         let fields = panel_in(panels, self.panel).fields();
         let named = self.named_fields(panels, whole);
-        learn_without(&mut self.values, &self.shadow, fields, named)
+        let shown = self.named_values(panels, whole);
+        learn_without(&mut self.values, &self.shadow, fields, named, shown)
     }
 
     /// Sets the known texts and the answer's values as values of their fields. Memory is needed only if a value has

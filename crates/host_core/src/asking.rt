@@ -2,7 +2,7 @@
 ghost use Rattle.std.specs.Prelude.{◌≡◌, ◌≢◌, ◌≤◌, ◌<◌, [], Some, IfOk, OnOk, OnErr, is_some, length, not, ◌&&◌, true};
 ghost use Rattle.std.specs.Vec.{vec_capacity};
 ghost use Rattle.panels.specs.Panel.{HaveNumbersApart};
-ghost use Rattle.panels.specs.Values.{value_of, without_fields};
+ghost use Rattle.panels.specs.Values.{value_of, without_fields, without_values};
 ghost use Rattle.shadow.specs.Storable.{CanBeStored};
 ghost use Rattle.host_core.specs.Acts.{learned};
 ghost use Rattle.host_core.specs.Application.{application_of, panel_at};
@@ -22,7 +22,7 @@ use crate::sending::panel_in;
 use crate::session::Session;
 use crate::turn_reason::TurnReason;
 use codes3270::Aid;
-use panels::{Field, Message, PanelSet, Values};
+use panels::{Field, Message, PanelSet, Value, Values};
 use shadow::Shadow;
 use telnet_wire::Memory;
 
@@ -54,23 +54,35 @@ fn remove_fields(values: &mut Values, fields: &[Field])
     }
 }
 
-/// Sets the known texts of fields as their values, and then removes the values of `others`. Memory is needed only if
-/// a text is longer than the field's value; if it is refused, nothing changes.
+/// Removes what these values of a panel have.
+pub(crate) fn remove_values(values: &mut Values, shown: &[Value])
+    ensures { values.new ≡ without_values shown.now values.old }
+{
+    for value in shown {
+        values.remove(value.number);
+    }
+}
+
+/// Sets the known texts of fields as their values, and then removes the values of `others` and `shown`. Memory is
+/// needed only if a text is longer than the field's value; if it is refused, nothing changes.
 pub(crate) fn learn_without(
     values: &mut Values,
     shadow: &Shadow,
     fields: &[Field],
     others: &[Field],
+    shown: &[Value],
 ) -> Result<(), Memory>
     requires stored { CanBeStored shadow.now }
     requires there { HaveFields shadow.now fields.now }
     requires numbers { HaveNumbersApart fields.now }
-    ensures values { OnOk result (values.new ≡ without_fields others.now (learned shadow.now fields.now values.old)) }
+    ensures values { OnOk result (values.new
+        ≡ without_values shown.now (without_fields others.now (learned shadow.now fields.now values.old))) }
     ensures memory { OnErr result (Grow values.old (learned shadow.now fields.now values.old)) }
     ensures err { OnErr result (values.new ≡ values.old) }
 {
     learn_all(values, shadow, fields)?;
     remove_fields(values, others);
+    remove_values(values, shown);
     Ok(())
 }
 

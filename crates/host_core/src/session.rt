@@ -20,11 +20,12 @@ ghost use Rattle.panels.specs.Keys.{IsKey};
 ghost use Rattle.panels.specs.Panel.{IsLaidOut, size_of, target_of};
 ghost use Rattle.telnet_wire.specs.Items.{Record, sent_bytes};
 ghost use Rattle.tn3270e_msg.specs.Header.{always_response, spelling};
-ghost use Rattle.host_core.specs.Acts.{Act as ActValue, done, painted, wanted_by, when_shown};
+ghost use Rattle.host_core.specs.Acts.{Act as ActValue, done, painted, values_shown, wanted_by, when_shown};
 ghost use Rattle.host_core.specs.Choices.{CanBeShown, act_of};
 
 use crate::acted::Acted;
 use crate::acting::Shown;
+use crate::asking::remove_values;
 use crate::laws::panels_are_shown;
 use crate::noting::put_note;
 use crate::pending::Pending;
@@ -303,6 +304,24 @@ impl Session {
         self.paint(panels, asked, out);
     }
 
+    /// Drops a panel's own values if it is shown fresh, so that it shows nothing of an earlier time.
+    fn drop_values(&mut self, panels: &PanelSet, shown: &Shown)
+        requires { shown.now.panel < length panels.now.panels }
+        ensures { self.new ≡ record self.old {
+          values = values_shown (application_of panels.now) shown.now.panel
+              shown.now.message self.old.values;
+        } }
+    {
+        match shown.message {
+            Message::Fresh => {
+                let own = panel_in(panels, shown.panel).values();
+                remove_values(&mut self.values, own);
+            }
+            Message::Plain | Message::KeyNotActive | Message::Required(_) | Message::Told(_, _) =>
+                {}
+        }
+    }
+
     /// Paints a panel over the belief, in the form for the terminal's model, with a message and the values of fields.
     fn paint(&mut self, panels: &PanelSet, asked: Shown, out: &mut Vec<u8>)
         requires asked { CanBeShown (length panels.now.panels) asked }
@@ -314,6 +333,7 @@ impl Session {
     {
         what_is_wanted_is_painted();
         let shown = self.for_model(panels, asked);
+        self.drop_values(panels, &shown);
         let size = panel_in(panels, shown.panel).size();
         let mut wanted = Wanted::filled(Want::Char(0), size);
         self.put_fitting(&mut wanted, panels, &shown, self.values());

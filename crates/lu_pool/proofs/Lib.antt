@@ -3,3 +3,4 @@ pub mod Changes
 pub mod Listing
 pub mod Holding
 pub mod Freeing
+mod FaultLists

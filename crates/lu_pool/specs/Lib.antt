@@ -4,3 +4,4 @@ pub mod Reading
 pub mod Messages
 pub mod Holders
 pub mod HolderLaws
+pub mod Faults

@@ -1,5 +1,5 @@
 -- How a list of names gives a pool, or a fault (our profile).
-use Rattle.std.specs.Prelude.{◌≡◌, ℕ, ◌<◌, List, length, map, Option, None, Some, slice_get, IsTrue, String}
+use Rattle.std.specs.Prelude.{◌≡◌, ◌↔◌, ℕ, ◌<◌, List, length, map, Option, None, Some, slice_get, Contains, IsTrue, String}
 use Rattle.std.specs.String.{string_bytes}
 use Rattle.tn3270e_msg.specs.Lu.{is_lu, lu_of}
 use Rattle.lu_pool.specs.declared.entry.Entry.{Entry}
@@ -28,6 +28,15 @@ HasFault read Memory = ⊥
 -- holds if the texts have no fault
 abbrev pub IsRight : List (Option (List ℕ)) → Type 0
 IsRight read = (fault : PoolFault) → HasFault read fault → ⊥
+
+-- holds if the texts have this fault, and a right number if it is of one of them
+abbrev pub IsFaultOf : List (Option (List ℕ)) → PoolFault → Type 0
+IsFaultOf read BadCount = HasFault read BadCount
+IsFaultOf read fault = IsCount (length read) × HasFault read fault
+
+-- the list has all these faults of the texts, and no others
+abbrev pub AreFaultsOf : List (Option (List ℕ)) → List PoolFault → Type 0
+AreFaultsOf read found = (fault : PoolFault) → Contains found fault ↔ IsFaultOf read fault
 
 -- holds if no text before this index has a fault
 abbrev pub HasNoFaultBefore : List (Option (List ℕ)) → ℕ → Type 0

@@ -128,7 +128,7 @@ impl Pool {
 }
 
 /// Whether a pool can have this number of LUs: 1 to 64.
-fn is_count(count: usize) -> bool
+pub(crate) fn is_count(count: usize) -> bool
     ensures { IsTrue result ↔ IsCount count }
 {
     (1..=MOST_LUS).contains(&count)

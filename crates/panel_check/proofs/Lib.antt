@@ -1,4 +1,1 @@
-pub mod LuFaults
-pub mod LuNames
-pub mod Reporting
-pub mod ToldFaults
+mod Reporting

@@ -1,6 +1,5 @@
 pub mod Causes
-pub mod Listed
-pub mod Pages
-pub mod PanelText
-pub mod Report
 pub mod Verdict
+pub mod Report
+pub mod Pages
+pub mod Listed

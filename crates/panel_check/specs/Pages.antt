@@ -2,7 +2,7 @@
 use Rattle.std.specs.Prelude.{ℕ, ◌-◌, ◌==◌, List, [], ◌∷◌, ◌++◌, Option, Some, None, length, codes, decimal, string_bytes, if◌then◌else◌}
 use Rattle.panel_check.specs.declared.finding.Cause.{Cause}
 use Rattle.panel_check.specs.declared.finding.Finding.{Finding}
-use Rattle.panel_check.specs.declared.judge.Sizes.{Sizes}
+use Rattle.panel_check.specs.declared.report.Sizes.{Sizes}
 use Rattle.panel_check.specs.declared.report.Report.{Report}
 use Rattle.panel_check.specs.Report.{fault_count, is_fault}
 

@@ -1,200 +1,106 @@
-//! Where texts and fields are on the screens of their panels: remarks on their places, and warnings.
-use crate::survey::Index;
-use crate::words::Words;
-use codes3270::{Model, Size};
-use panels::Location;
+//! Where texts and fields are on the screens of their panels.
+use crate::finding::Cause;
+use crate::wording::Place;
+use crate::words::{Done, Words, say};
+use panels::{Extent, ItemDraft, Location};
 use std::alloc::AllocError;
 
-/// The row, the column and the length of a text or a field; and how many rows and columns its panel's screen has for
-/// items, which is all rows but the last.
-#[derive(Clone, Copy)]
-struct Layout {
-    row: i64,
-    column: i64,
-    length: i64,
-    rows: i64,
-    columns: i64,
-}
-
-/// The size of a model's screen; `None` if there is no such model.
-fn size_of(model: i64) -> Option<Size> {
-    match model {
-        2 => Some(Size::base()),
-        3 => Some(Model::M3.alternate()),
-        4 => Some(Model::M4.alternate()),
-        5 => Some(Model::M5.alternate()),
-        _ => None,
-    }
-}
-
-impl Layout {
-    /// The layout of a text or a field; `None` if one of its keys is absent, or there is no such model.
-    fn of(survey: &Index, part: Location) -> Option<Layout> {
-        let (Location::Text(panel, _) | Location::Field(panel, _)) = part else {
-            return None;
-        };
-        let size = match survey.table(Location::Panel(panel))?.get("model") {
-            Some(model) => size_of(model.as_integer()?)?,
-            None => Size::base(),
-        };
-        let length = match survey.text(part, "text") {
-            Some(text) => text.chars().count() as i64,
-            None => survey.integer(part, "length")?,
-        };
-        Some(Layout {
-            row: survey.integer(part, "row")?,
-            column: survey.integer(part, "col")?,
-            length,
-            rows: i64::from(size.rows()).saturating_sub(1),
-            columns: i64::from(size.cols()),
-        })
-    }
-
-    /// The layout of a text or a field that lies above the last row of its panel's screen.
-    fn on_screen(survey: &Index, part: Location) -> Option<Layout> {
-        let layout = Layout::of(survey, part)?;
-        let is_there = (1..=layout.rows).contains(&layout.row)
-            && (1..=layout.columns).contains(&layout.column)
-            && layout.first() >= 1
-            && layout.length >= 1
-            && !layout.ends_below();
-        is_there.then_some(layout)
-    }
-
-    /// The buffer address of its first character.
-    fn first(self) -> i64 {
-        let before = self.row.saturating_sub(1).saturating_mul(self.columns);
-        before.saturating_add(self.column).saturating_sub(1)
-    }
-
-    /// The buffer address after its last character.
-    fn end(self) -> i64 {
-        self.first().saturating_add(self.length)
-    }
-
-    fn ends_below(self) -> bool {
-        self.end() > self.rows.saturating_mul(self.columns)
-    }
-}
-
 impl<'s, 'a> Words<'s, 'a> {
+    /// The cells of a text or a field, if it lies above the last row of its panel's screen.
+    fn extent(&self, part: Location) -> Option<Extent> {
+        if !self.draft.is_placed(part) {
+            return None;
+        }
+        self.draft.extent(self.draft.size(part), part)
+    }
+
     /// Says why a text or a field is out of place.
-    pub(crate) fn misplaced(&mut self) -> Result<(), AllocError> {
-        let Some(layout) = Layout::of(self.survey, self.part) else {
+    pub(crate) fn misplaced(&mut self) -> Done {
+        let Some(item) = self.draft.item(self.part) else {
             return Ok(());
         };
-        let Layout {
-            row,
-            column,
-            length,
-            rows,
-            columns,
-        } = layout;
-        let (key, message) = if !(1..=rows).contains(&row) {
-            ("row", format!(in self.alloc; "is not in rows 1 to {rows}")?)
-        } else if !(1..=columns).contains(&column) {
-            (
-                "col",
-                format!(in self.alloc; "is not in columns 1 to {columns}")?,
-            )
-        } else if layout.first() < 1 {
-            let words = "has no cell for its attribute: in row 1 the first column is 2";
-            ("col", String::from_str(self.alloc, words)?)
+        let (row, column, length) = (item.row, item.column, item.length);
+        let size = self.draft.size(self.part);
+        let (rows, columns) = (size.rows().saturating_sub(1), size.cols());
+        let copy = i64::from(item.copy.unwrap_or(0));
+        if 1 <= copy {
+            let (copy, row) = (copy.saturating_add(1), row.saturating_add(copy));
+            say!(self, "repeat"; "copy {copy} is in row {row}, and must end in rows 1 to {rows}")
+        } else if !(1..=i64::from(rows)).contains(&row) {
+            say!(self, "row"; "is not in rows 1 to {rows}")
+        } else if !(1..=i64::from(columns)).contains(&column) {
+            say!(self, "col"; "is not in columns 1 to {columns}")
+        } else if row == 1 && column == 1 {
+            say!(self, "col"; "has no cell for its attribute: in row 1 the first column is 2")
         } else if length < 1 {
-            let words = "has no characters: its length is less than 1";
-            ("length", String::from_str(self.alloc, words)?)
-        } else if layout.ends_below() {
-            (
-                "",
-                format!(in self.alloc;
-                    "ends below row {rows}: row {row}, col {column}, {length} characters"
-                )?,
-            )
+            say!(self, "length"; "has no characters: its length is less than 1")
+        } else if self.extent(self.part).is_none() {
+            say!(self, ""; "ends below row {rows}: row {row}, col {column}, {length} characters")
         } else {
-            let filled = self.text("fill").unwrap_or("").chars().count();
-            (
-                "fill",
-                format!(in self.alloc; "'fill' has {filled} characters, and the field {length}")?,
-            )
-        };
-        self.say(key, message)
+            let filled = item.fill.chars().count();
+            say!(self, "fill"; "'fill' has {filled} characters, and the field {length}")
+        }
     }
 
-    /// The first text or field of the same panel that shares a cell with this one.
-    fn first_met(&self) -> Option<Location> {
-        let layout = Layout::of(self.survey, self.part)?;
-        self.survey.parts.iter().copied().find(|other| {
-            let is_near = match (*other, self.part) {
-                (
-                    Location::Text(panel, _) | Location::Field(panel, _),
-                    Location::Text(own, _) | Location::Field(own, _),
-                ) => panel == own,
-                _ => false,
-            };
-            is_near
-                && Layout::on_screen(self.survey, *other).is_some_and(|other| {
-                    layout.first() <= other.end() && other.first() <= layout.end()
-                })
-        })
+    /// The texts of a panel, then its fields, and then its values.
+    fn items(&self, panel: usize) -> Result<Vec<Location>, AllocError> {
+        let counts = self
+            .draft
+            .panel(panel)
+            .map(|panel| (panel.texts.len(), panel.fields.len()));
+        let (texts, fields) = counts.unwrap_or((0, 0));
+        let texts = (0..texts).map(|text| Location::Text(panel, text));
+        let fields = (0..fields).map(|field| Location::Field(panel, field));
+        texts.chain(fields).collect(self.alloc)
     }
 
-    /// Says with which earlier item of its panel a text or a field shares a cell, and that item's place.
-    pub(crate) fn overlap(&mut self) -> Result<(), AllocError> {
-        let Some(other) = self.first_met() else {
+    /// Says with which earlier item of its panel a text or a field shares a cell, and that item's line.
+    pub(crate) fn overlap(&mut self) -> Done {
+        let (Some(own), Some(panel)) = (self.extent(self.part), self.part.panel()) else {
             return Ok(());
         };
-        let (place, line) = (self.survey.place(other)?, self.survey.line(other, "")?);
-        let message = format!(in self.alloc; "shares a cell with {place}, in line {line}")?;
-        self.say("", message)
+        let mut items = self.items(panel)?.into_iter();
+        let other = items.find(|other| self.extent(*other).is_some_and(|other| other.meets(own)));
+        let other = other.unwrap_or(self.part);
+        if self.draft.table(other) == self.draft.table(self.part) {
+            return say!(self, ""; "two of its copies share a cell");
+        }
+        let (place, line) = (Place(self.draft, other), self.line(other, "")?);
+        say!(self, ""; "shares a cell with {place}, in line {line}")
     }
 
-    /// Warns of each text that goes on in the next row.
-    pub(crate) fn wraps(&mut self) -> Result<(), AllocError> {
-        for item in &self.survey.parts {
-            self.part = *item;
-            if let Location::Text(_, _) = self.part
-                && let Some(layout) = Layout::on_screen(self.survey, self.part)
-            {
-                let Layout {
-                    columns,
-                    column,
-                    ..
-                } = layout;
-                let left = columns.saturating_sub(column).saturating_add(1);
-                if layout.length > left {
-                    let first_below = left.saturating_add(1);
-                    let message = format!(in self.alloc;
-                        "wraps past column {columns} at character {first_below}"
-                    )?;
-                    self.say("", message)?;
+    /// Warns of each text or field that lies above the last row and has what the cause says, once for all copies.
+    pub(crate) fn warn_of_items(&mut self) -> Done {
+        let draft = self.draft;
+        for panel in 0..draft.panels.len() {
+            for part in self.items(panel)? {
+                self.part = part;
+                if let (Some(_), Some(item)) = (self.extent(part), draft.item(part))
+                    && item.copy.unwrap_or(0) == 0
+                {
+                    self.warn_of(item)?;
                 }
             }
         }
         Ok(())
     }
 
-    /// Whether the part is numeric and its fill has characters that a terminal doesn't accept in a numeric field.
-    fn has_strange_fill(&self) -> bool {
-        let numeric = self
-            .survey
-            .table(self.part)
-            .and_then(|table| table.get("numeric"));
-        let fill = self.text("fill").unwrap_or("");
-        numeric.and_then(|value| value.as_bool()).unwrap_or(false)
-            && !fill
-                .chars()
-                .all(|letter| matches!(letter, '0'..='9' | '.' | '-'))
-    }
-
-    /// Warns of each numeric field whose fill has characters that a terminal doesn't accept there.
-    pub(crate) fn strange_fills(&mut self) -> Result<(), AllocError> {
-        let words = "a terminal takes only 0-9, . and - in a numeric field, and 'fill' has others";
-        for item in &self.survey.parts {
-            self.part = *item;
-            if self.has_strange_fill() && Layout::on_screen(self.survey, self.part).is_some() {
-                self.say("fill", String::from_str(self.alloc, words)?)?;
-            }
+    fn warn_of(&mut self, item: &ItemDraft) -> Done {
+        let columns = i64::from(self.draft.size(self.part).cols());
+        let below = columns.saturating_sub(item.column).saturating_add(2);
+        match (self.cause, self.part) {
+            (Cause::TextWraps, Location::Text(_, _)) if below <= item.length =>
+                say!(self, ""; "wraps past column {columns} at character {below}"),
+            (Cause::FillNotNumeric, _) if item.numeric && !is_numeric(item.fill) =>
+                say!(self, "fill";
+                "a terminal takes only 0-9, . and - in a numeric field, and 'fill' has others"),
+            _ => Ok(()),
         }
-        Ok(())
     }
+}
+
+/// Whether a terminal accepts all these characters in a numeric field.
+fn is_numeric(fill: &str) -> bool {
+    fill.bytes()
+        .all(|letter| matches!(letter, b'0'..=b'9' | b'.' | b'-'))
 }

@@ -12,27 +12,19 @@
 //! let page = report.page(alloc, "panels.toml")?;
 //! ```
 //!
-//! `panels::faults` lists the faults of a text's tables; this crate finds words for them, and their lines in the text.
-//! `panels` reads a text for a host. `specs/Causes` and `Report` say what a report promises: it has
-//! each fault of the text, unless the fault may merely follow from another one, and no other; it has no fault exactly
-//! if `PanelSet::read` and `Pool::read` accept the text, and else it has the fault for which they refuse it. `Pages`
-//! says what a report prints. That lines, words and warnings are right is only tested.
+//! `panels::Draft` lists the faults of a text's tables, `lu_pool::faults` those of its LUs; this crate finds words for
+//! them, and their lines in the text. `specs/Report` says what a report promises: it has each of these faults, and no
+//! other. That lines, words and warnings are right is only tested.
 #![tactic(auto)]
 
-mod causes;
 mod finding;
-mod judge;
 mod layout;
 mod lines;
-mod part;
 mod report;
-mod survey;
 mod targets;
 mod telling;
 mod wording;
 mod words;
 
 pub use finding::{Cause, Finding};
-pub use judge::Sizes;
-pub use report::{Report, check};
-pub use wording::Nearest;
+pub use report::{Report, Sizes, check};

@@ -2,46 +2,36 @@
 //! once more, with the readers of `toml_parser`, of which `toml` is made. Lines count from 1.
 //!
 //! A path names what has a line, as `.panel#1.field#0.row`: `.` is before a key, `#` before the index of a table in an
-//! array, and `'` before the index of a string.
+//! array, and `'` before the index of a string. Like the panel reader, this counts tables and strings apart.
+use panels::Location;
 use std::alloc::{AllocError, Global};
 use std::collections::BTreeMap;
 use toml_parser::text::{skip_blank, skip_ws};
 use toml_parser::{Key, ParseError, dotted_key, quoted, starts_string, unquoted};
 
-/// An array or a table whose end hasn't been reached.
-#[derive(Drop)]
-struct Open {
-    path: String,
-    is_array: bool,
-}
-
 /// The lines of a text, up to where the walk is.
 #[derive(Drop)]
 pub(crate) struct Lines {
-    alloc: Global,
+    pub alloc: Global,
     /// The line of each path.
     noted: BTreeMap<String, usize>,
-    /// For an array's path and `#` or `'`: how many tables or strings the array has up to here.
+    /// For an array's path and a mark: how many values with this mark the array has up to here.
     counts: BTreeMap<String, usize>,
-    /// The table of the last header, and the arrays and tables that are open in it.
-    open: Vec<Open>,
+    /// The path of the last header's table, and those of the arrays (true) and tables in it that haven't ended.
+    open: Vec<(String, bool)>,
     /// The line that the walk has reached.
     line: usize,
 }
 
-/// The path of a key in the table with this path.
-fn under(alloc: Global, table: &str, key: &str) -> Result<String, AllocError> {
-    format!(in alloc; "{table}.{key}")
-}
-
-/// The mark before the index of this value in its array. Like the panel reader, this counts tables and strings apart.
-fn mark_of(value: &str) -> char {
-    if value.starts_with('{') {
-        '#'
-    } else if starts_string(value) {
-        '\''
-    } else {
-        '?'
+/// The path of a part's table.
+fn path_of(alloc: Global, part: Location) -> Result<String, AllocError> {
+    match part {
+        Location::Top => Ok(String::new(alloc)),
+        Location::Panel(panel) => format!(in alloc; ".panel#{panel}"),
+        Location::Text(panel, text) => format!(in alloc; ".panel#{panel}.text#{text}"),
+        Location::Field(panel, field) => format!(in alloc; ".panel#{panel}.field#{field}"),
+        Location::Value(panel, value) => format!(in alloc; ".panel#{panel}.value#{value}"),
+        Location::Keys(panel) => format!(in alloc; ".panel#{panel}.keys"),
     }
 }
 
@@ -61,15 +51,16 @@ impl Lines {
         }
     }
 
-    /// The line of a table's key; the table's own line if it has no such key, and 1 if there is no such table.
-    pub(crate) fn of_key(&self, table: &str, key: &str) -> Result<usize, AllocError> {
-        let path = under(self.alloc, table, key)?;
-        let own = self.noted.get(table).copied().unwrap_or(1);
+    /// The line of a key in a part's table; the table's own if it has no such key, and 1 if there is no such table.
+    pub(crate) fn of_key(&self, part: Location, key: &str) -> Result<usize, AllocError> {
+        let table = path_of(self.alloc, part)?;
+        let path = format!(in self.alloc; "{table}.{key}")?;
+        let own = self.noted.get(table.as_str()).copied().unwrap_or(1);
         Ok(self.noted.get(path.as_str()).copied().unwrap_or(own))
     }
 
     fn walk(&mut self, text: &str) -> Result<(), ParseError> {
-        self.open_in(String::new(self.alloc), false)?;
+        self.open.push((String::new(self.alloc), false))?;
         let mut rest = text.strip_prefix('\u{feff}').unwrap_or(text);
         for _ in 0..=text.len() {
             let start = skip_blank(rest, true);
@@ -77,9 +68,8 @@ impl Lines {
                 break;
             }
             self.pass(rest, start);
-            let after = self.step(start)?;
-            self.pass(start, after);
-            rest = after;
+            rest = self.step(start)?;
+            self.pass(start, rest);
         }
         Ok(())
     }
@@ -101,13 +91,12 @@ impl Lines {
             self.open.pop();
             return Ok(after);
         }
-        let Some(holder) = self.open.last() else {
+        let Some((path, is_array)) = self.open.last() else {
             return Ok("");
         };
-        let is_array = holder.is_array;
-        let path = String::from_str(self.alloc, holder.path.as_str())?;
+        let (path, is_array) = (path.clone()?, *is_array);
         if is_array {
-            let element = self.next_element(path, mark_of(text))?;
+            let element = self.next_element(path, text)?;
             return self.value(element, text);
         }
         if self.open.len() == 1
@@ -116,89 +105,68 @@ impl Lines {
             return self.header(header);
         }
         let (key, after) = dotted_key(self.alloc, text)?;
-        let path = self.along(path, &key, false)?;
+        let path = self.along(path, &key)?;
         self.value(path, skip_ws(after.strip_prefix('=').unwrap_or(after)))
     }
 
-    /// Notes the line of a path, unless it has one.
-    fn note(&mut self, path: &str) -> Result<(), AllocError> {
-        if !self.noted.contains_key(path) {
+    /// Notes the line of a path, unless it has one, and returns the path.
+    fn note(&mut self, path: String) -> Result<String, AllocError> {
+        if !self.noted.contains_key(path.as_str()) {
             let line = self.line;
-            self.noted
-                .insert(String::from_str(self.alloc, path)?, line)?;
+            self.noted.insert(path.clone()?, line)?;
         }
-        Ok(())
-    }
-
-    /// Notes the line of each part of a key, and returns the key's path. In a header, an array means its last table.
-    fn along(&mut self, table: String, key: &Key, in_header: bool) -> Result<String, AllocError> {
-        let mut path = table;
-        for part in &key.path {
-            path = under(self.alloc, path.as_str(), part.as_str())?;
-            self.note(path.as_str())?;
-            if in_header {
-                path = self.last_element(path)?;
-            }
-        }
-        path = under(self.alloc, path.as_str(), key.last.as_str())?;
-        self.note(path.as_str())?;
         Ok(path)
     }
 
-    /// The path of the last table in the array with this path; the path itself if it is of no array.
-    fn last_element(&self, path: String) -> Result<String, AllocError> {
-        let tables = format!(in self.alloc; "{path}#")?;
-        let Some(count) = self.counts.get(tables.as_str()).copied() else {
-            return Ok(path);
-        };
-        let last = count.saturating_sub(1);
-        format!(in self.alloc; "{tables}{last}")
+    /// Notes the line of each part of a key, and returns the key's path. An array on the way means its last table.
+    fn along(&mut self, table: String, key: &Key) -> Result<String, AllocError> {
+        let mut path = table;
+        for part in &key.path {
+            path = self.note(format!(in self.alloc; "{path}.{part}")?)?;
+            let tables = format!(in self.alloc; "{path}#")?;
+            if let Some(count) = self.counts.get(tables.as_str()) {
+                path = format!(in self.alloc; "{tables}{}", count.saturating_sub(1))?;
+            }
+        }
+        let last = &key.last;
+        self.note(format!(in self.alloc; "{path}.{last}")?)
     }
 
     /// Notes the line of the next value of an array, and returns the value's path.
-    fn next_element(&mut self, array: String, mark: char) -> Result<String, AllocError> {
+    fn next_element(&mut self, array: String, value: &str) -> Result<String, AllocError> {
+        let mark = match value.as_bytes().first() {
+            Some(b'{') => '#',
+            Some(b'"' | b'\'') => '\'',
+            _ => '?',
+        };
         let kind = format!(in self.alloc; "{array}{mark}")?;
         let count = self.counts.get(kind.as_str()).copied().unwrap_or(0);
         let path = format!(in self.alloc; "{kind}{count}")?;
         self.counts.insert(kind, count.saturating_add(1))?;
-        self.note(path.as_str())?;
-        Ok(path)
+        self.note(path)
     }
 
     /// Walks over a header, from after its first bracket on.
     fn header<'t>(&mut self, text: &'t str) -> Result<&'t str, ParseError> {
         let element = text.strip_prefix('[');
         let (key, after) = dotted_key(self.alloc, skip_ws(element.unwrap_or(text)))?;
-        let mut path = self.along(String::new(self.alloc), &key, true)?;
-        let mut rest = after.strip_prefix(']').unwrap_or(after);
+        let mut path = self.along(String::new(self.alloc), &key)?;
         if element.is_some() {
-            path = self.next_element(path, '#')?;
-            rest = rest.strip_prefix(']').unwrap_or(rest);
+            path = self.next_element(path, "{")?;
         }
         self.open.clear();
-        self.open_in(path, false)?;
-        Ok(rest)
-    }
-
-    fn open_in(&mut self, path: String, is_array: bool) -> Result<(), AllocError> {
-        self.open.push(Open { path, is_array })?;
-        Ok(())
+        self.open.push((path, false))?;
+        Ok(after.trim_start_matches(']'))
     }
 
     fn value<'t>(&mut self, path: String, text: &'t str) -> Result<&'t str, ParseError> {
-        if let Some(items) = text.strip_prefix('[') {
-            self.open_in(path, true)?;
-            return Ok(items);
-        }
-        if let Some(pairs) = text.strip_prefix('{') {
-            self.open_in(path, false)?;
-            return Ok(pairs);
+        if let Some(inside) = text.strip_prefix('[').or(text.strip_prefix('{')) {
+            self.open.push((path, text.starts_with('[')))?;
+            return Ok(inside);
         }
         if starts_string(text) {
-            let (_, rest) = quoted(self.alloc, text)?;
-            return Ok(rest);
+            return Ok(quoted(self.alloc, text)?.1);
         }
-        let (_, rest) = unquoted(self.alloc, text)?;
-        Ok(rest)
+        Ok(unquoted(self.alloc, text)?.1)
     }
 }

@@ -1,15 +1,31 @@
 //! The report on a panel text.
 ghost use Rattle.std.specs.Prelude.{◌≡◌, ◌++◌, IfOk, OnOk, string_bytes};
 ghost use Rattle.panel_check.specs.Pages.{count_text, findings_text, outcome_text, page_text, plural, sizes_text, summary_text, warnings_text};
-ghost use Rattle.panel_check.specs.PanelText.{panel_text};
-ghost use Rattle.panel_check.specs.Causes.{IsFaultOf, ReportsFaults};
-ghost use Rattle.panel_check.specs.Report.{HasFirstCause, IsFaultlessIfAccepted, fault_count};
+ghost use Rattle.panel_check.specs.Report.{HasFirstCause, IsFaultlessIfAccepted, ReportsFaults, fault_count};
+ghost use Rattle.panels.specs.PanelText.{panel_text};
 
 use crate::finding::Finding;
-use crate::judge::{Sizes, judge};
-use crate::part::panel_part;
-use crate::telling::{Told, report_faults};
+use crate::telling::report_on;
+use panels::{Draft, split_input};
 use std::alloc::{AllocError, Global};
+
+/// The numbers of panels, of fields of all panels, with all copies, and of LUs in a text.
+#[derive(Clone, Copy, Debug, PartialEq, Eq)]
+pub struct Sizes {
+    pub panels: usize,
+    pub fields: usize,
+    pub lus: usize,
+}
+
+pub(crate) fn sizes_of(draft: &Draft) -> Sizes {
+    let items = draft.panels.iter().flat_map(|panel| panel.fields.iter());
+    let fields = items.filter(|item| !item.is_value);
+    Sizes {
+        panels: draft.panels.len(),
+        fields: fields.fold(0, |sum: usize, _field| sum.saturating_add(1)),
+        lus: draft.lus.len(),
+    }
+}
 
 /// The findings in a panel text, in the order of its lines.
 #[derive(Debug, Drop)]
@@ -18,12 +34,10 @@ pub struct Report {
     pub findings: Vec<Finding>,
     /// How many panels, fields and LUs the text has; `None` if it has a fault.
     pub sizes: Option<Sizes>,
-    /// Whether there were words for each fault that doesn't merely follow from another.
-    pub has_words: bool,
 }
 
 /// The number of findings that are faults.
-fn count_faults(findings: &[Finding]) -> usize
+pub(crate) fn count_faults(findings: &[Finding]) -> usize
     ensures { result ≡ fault_count findings.now }
 {
     findings
@@ -32,29 +46,20 @@ fn count_faults(findings: &[Finding]) -> usize
         .count()
 }
 
-/// The report on a panel text, which is everything before the first line `%%`. It has each fault of the text, unless
-/// the fault may merely follow from another one, and no other. If `PanelSet::read` and `Pool::read` accept the text, it
-/// has only warnings; if they refuse it, the fault for which they do is in the report.
+/// The report on the panel text of an input. It has each fault that `panels` and `lu_pool` find in the text, once for
+/// a table, and no other; but a fault of a value that isn't in the text is reported as the key that is missing, or has
+/// another type. If `PanelSet::read` and `Pool::read` accept the text, it has only warnings; else it has the fault for
+/// which they refuse it.
 ///
 /// Err only if memory is refused.
 pub fn check(alloc: Global, text: &str) -> Result<Report, AllocError>
-    ensures faults { IfOk result (λ report. ReportsFaults (IsFaultOf (panel_text text.now)) report.findings.items) }
+    ensures faults { IfOk result (λ report. ReportsFaults (panel_text text.now) report.findings.items) }
     ensures faultless { IfOk result (λ report. IsFaultlessIfAccepted (panel_text text.now) report.findings.items) }
     ensures reason { IfOk result (λ report. HasFirstCause (panel_text text.now) report.findings.items) }
 {
-    // For the contract.
-    panels::laws::a_text_defines_its_panels_once();
-    let text = panel_part(text);
-    let Told {
-        findings,
-        has_words,
-    } = report_faults(alloc, text)?;
-    let sizes = judge(alloc, text)?;
-    Ok(Report {
-        findings,
-        sizes,
-        has_words,
-    })
+    let (text, _) = split_input(text);
+    let report = report_on(alloc, text)?;
+    Ok(report)
 }
 
 fn plural(count: usize) -> &'static str

@@ -1,170 +1,124 @@
 //! Names that must be those of a panel or a field, and panels that no keys lead to.
-use crate::survey::Index;
-use crate::wording::{Nearest, quote};
-use crate::words::Words;
+use crate::wording::{Cut, Guess, text_at};
+use crate::words::{Done, Words, say};
 use panels::Location;
 use std::alloc::AllocError;
 
-/// The panels or fields that a name may be of.
-#[derive(Clone, Copy)]
-enum Named {
-    Panels,
-    /// The panels of model 2, which any session can show.
-    BasePanels,
-    Fields,
-    FieldsOf(usize),
-}
-
-impl Named {
-    /// What messages call one of them.
-    fn kind(self) -> &'static str {
-        match self {
-            Named::Panels | Named::BasePanels => "panel",
-            Named::Fields => "field",
-            Named::FieldsOf(_) => "field of this panel",
-        }
-    }
-
-    /// Whether a part is one of them.
-    fn has(self, survey: &Index, part: Location) -> bool {
-        match (self, part) {
-            (Named::Panels, Location::Panel(_)) | (Named::Fields, Location::Field(_, _)) => true,
-            (Named::BasePanels, Location::Panel(_)) => is_base(survey, part),
-            (Named::FieldsOf(panel), Location::Field(other, _)) => panel == other,
-            _ => false,
-        }
-    }
-
-    /// The first of them that has the name.
-    fn find(self, survey: &Index, name: &str) -> Option<Location> {
-        let mut parts = survey.parts.iter().copied();
-        parts.find(|part| self.has(survey, *part) && survey.name(*part) == name)
-    }
-}
-
-/// Whether a panel is of model 2. Like the panel reader, this takes a `model` that is no integer for 2.
-fn is_base(survey: &Index, panel: Location) -> bool {
-    survey.integer(panel, "model").unwrap_or(2) == 2
-}
-
 impl<'s, 'a> Words<'s, 'a> {
     /// Says which names in the part's table are of no panel or field although they must be.
-    pub(crate) fn no_target(&mut self) -> Result<(), AllocError> {
-        match self.part {
-            Location::Top => self.lost("start", Named::Panels),
-            Location::Panel(panel) => {
-                self.lost("cursor", Named::FieldsOf(panel))?;
-                if is_base(self.survey, self.part) {
+    pub(crate) fn no_target(&mut self) -> Done {
+        let draft = self.draft;
+        match (self.part, self.panel()) {
+            (Location::Panel(_), Some(panel)) => {
+                let fields = panel.fields.iter().filter(|item| !item.is_value);
+                let fields = fields.map(|field| field.name.as_str());
+                let fields: Vec<&str> = fields.collect(self.alloc)?;
+                self.lost("cursor", "field of this panel", &fields)?;
+                if panel.model == 2 {
                     return Ok(());
                 }
-                self.lost("otherwise", Named::BasePanels)
+                let base = draft.panels.iter().filter(|panel| panel.model == 2);
+                let base: Vec<&str> = base.map(|panel| panel.name).collect(self.alloc)?;
+                self.lost("otherwise", "panel", &base)
             }
-            Location::Text(_, _) | Location::Field(_, _) => self.lost("show", Named::Fields),
-            Location::Keys(_) => {
-                if let Some(keys) = self.survey.table(self.part) {
-                    for key in keys.keys() {
-                        self.lost(key.as_str(), Named::Panels)?;
-                    }
+            (Location::Text(_, _), _) => self.lost_shown(),
+            (_, Some(panel)) => {
+                let known = self.panel_names()?;
+                for key in &panel.keys {
+                    self.lost(key.0, "panel", &known)?;
                 }
                 Ok(())
             }
+            (_, None) => self.lost("start", "panel", &self.panel_names()?),
         }
     }
 
-    /// Says that the name at a key is of none of these panels or fields, if that is so.
-    fn lost(&mut self, key: &str, named: Named) -> Result<(), AllocError> {
-        let Some(name) = self.text(key) else {
+    /// Says that a text, or a copy of it, shows no field. Fields with a similar name in their tables may be meant.
+    fn lost_shown(&mut self) -> Done {
+        let draft = self.draft;
+        let Some(item) = draft.item(self.part) else {
             return Ok(());
         };
-        if named.find(self.survey, name).is_some() {
-            return Ok(());
-        }
-        let quoted = quote(self.alloc, name)?;
-        if key == "otherwise" && Named::Panels.find(self.survey, name).is_some() {
-            let message = format!(in self.alloc;
-                "'otherwise' must name a panel of model 2, and {quoted} is of another model"
-            )?;
-            return self.say(key, message);
-        }
-        let mut nearest = Nearest::to(self.alloc, name);
-        for part in &self.survey.parts {
-            if named.has(self.survey, *part) {
-                nearest.offer(self.survey.name(*part))?;
-            }
-        }
-        let kind = named.kind();
-        let message = format!(in self.alloc; "'{key}' names no {kind}: {quoted}")?;
-        let message = nearest.behind(message)?;
-        self.say(key, message)
+        let items = draft.panels.iter().flat_map(|panel| panel.fields.iter());
+        let fields = items.filter(|item| !item.is_value);
+        let known: Vec<&str> = match item.copy {
+            Some(_) => fields.map(|field| field.stem).collect(self.alloc)?,
+            None => fields.map(|field| field.name.as_str()).collect(self.alloc)?,
+        };
+        let guess = Guess::of(self.alloc, self.text("show"), &known)?;
+        say!(self, "show"; "'show' names no field: '{}'{guess}", Cut(item.show.as_str()))
     }
 
-    /// Adds the first of these panels with a name to those that are reached, unless it is there.
-    fn reach(
-        &self,
-        found: &mut Vec<Location>,
-        named: Named,
-        name: Option<&str>,
-    ) -> Result<(), AllocError> {
-        let Some(name) = name else {
+    fn panel_names(&self) -> Result<Vec<&'a str>, AllocError> {
+        let draft = self.draft;
+        draft
+            .panels
+            .iter()
+            .map(|panel| panel.name)
+            .collect(self.alloc)
+    }
+
+    /// Says that the name at a key is none of these, which are of panels or fields, if that is so.
+    fn lost(&mut self, key: &str, kind: &str, known: &[&str]) -> Done {
+        let Some(text) = text_at(self.draft, self.part, key) else {
             return Ok(());
         };
-        if let Some(panel) = named.find(self.survey, name)
-            && !found.contains(&panel)
-        {
-            found.push(panel)?;
+        if (&*known).contains(&text) {
+            return Ok(());
         }
-        Ok(())
+        let name = Cut(text);
+        if key == "otherwise" && self.draft.panel_named(text).is_some() {
+            return say!(self, key;
+                "'otherwise' must name a panel of model 2, and '{name}' is of another model");
+        }
+        let guess = Guess::of(self.alloc, text, known)?;
+        say!(self, key; "'{key}' names no {kind}: '{name}'{guess}")
     }
 
     /// The panels that keys lead to from the first one, and those that are shown instead of them in some sessions, each
     /// once; none if there is no first panel.
-    fn reached(&self) -> Result<Vec<Location>, AllocError> {
-        let survey = self.survey;
+    fn reached(&self) -> Result<Vec<usize>, AllocError> {
+        let draft = self.draft;
         let mut found = Vec::new(self.alloc);
-        self.reach(
-            &mut found,
-            Named::Panels,
-            survey.text(Location::Top, "start"),
-        )?;
-        for place in 0..survey.parts.len() {
-            let Some(Location::Panel(panel)) = found.get(place).copied() else {
+        let start = text_at(draft, Location::Top, "start");
+        reach(&mut found, start.and_then(|name| draft.panel_named(name)))?;
+        for place in 0..draft.panels.len() {
+            let Some(panel) = found.get(place).and_then(|panel| draft.panel(*panel)) else {
                 break;
             };
-            let part = Location::Panel(panel);
-            if !is_base(survey, part) {
-                self.reach(
-                    &mut found,
-                    Named::BasePanels,
-                    survey.text(part, "otherwise"),
-                )?;
-            }
-            if let Some(keys) = survey.table(Location::Keys(panel)) {
-                for value in keys.values() {
-                    self.reach(&mut found, Named::Panels, value.as_str())?;
-                }
+            let other = panel.table.get("otherwise").filter(|_| panel.model != 2);
+            let other = other.and_then(|name| draft.base_panel_named(name.as_str()?));
+            reach(&mut found, other)?;
+            for key in &panel.keys {
+                reach(&mut found, draft.panel_named(key.1))?;
             }
         }
         Ok(found)
     }
 
     /// Warns of each panel that no keys lead to, unless an application may show it.
-    pub(crate) fn unreached(&mut self) -> Result<(), AllocError> {
-        let found = self.reached()?;
-        for panel in &found {
-            if !self.survey.texts(*panel, "asks")?.is_empty() {
-                return Ok(());
-            }
+    pub(crate) fn unreached(&mut self) -> Done {
+        let (draft, found) = (self.draft, self.reached()?);
+        let mut panels = found.iter().filter_map(|panel| draft.panel(*panel));
+        if found.is_empty() || panels.any(|panel| !panel.asks.is_empty()) {
+            return Ok(());
         }
-        for panel in &self.survey.parts {
-            self.part = *panel;
-            if let Location::Panel(_) = self.part
-                && !found.is_empty()
-                && !found.contains(panel)
-            {
-                let words = "no keys lead here from the first panel";
-                self.say("", String::from_str(self.alloc, words)?)?;
+        for panel in 0..draft.panels.len() {
+            self.part = Location::Panel(panel);
+            if !found.contains(&panel) {
+                say!(self, ""; "no keys lead here from the first panel")?;
             }
         }
         Ok(())
     }
+}
+
+/// Adds a panel, unless it is there.
+fn reach(found: &mut Vec<usize>, panel: Option<usize>) -> Done {
+    if let Some(panel) = panel
+        && !found.contains(&panel)
+    {
+        found.push(panel)?;
+    }
+    Ok(())
 }

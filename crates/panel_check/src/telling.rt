@@ -1,278 +1,205 @@
-//! The findings of a report: each fault of a text, and warnings, in the order of the text's lines.
-ghost use Rattle.std.specs.Prelude.{◌≡◌, ◌≤◌, false, [], ◌∷◌, None, Some, IfOk, OnOk, IsTrue, Contains, length};
+//! The report on a text: each fault, and warnings, in the order of the text's lines.
+ghost use Rattle.std.specs.Prelude.{◌≡◌, ◌≤◌, ◌⊎◌, ◌↔◌, [], true, None, Some, IfOk, IsTrue, OnOk, length};
 ghost use Rattle.toml.specs.Parse.{parse_document};
 ghost use Rattle.toml.specs.View.{table_view};
-ghost use Rattle.panel_check.specs.Causes.{HasOneOf, IsFaultOf, ReportsFaults, keys_at, panel_part, sources_of};
-ghost use Rattle.panel_check.specs.Listed.{AddsOf, ReportsFault, ReportsAsMuch};
-ghost use Rattle.panel_check.specs.Report.{HasCause, is_fault};
-ghost use Rattle.panels.specs.declared.fault.TreeFault.TheVariants as tree;
-ghost use Rattle.panel_check.specs.declared.finding.Cause.TheVariants as cause;
+ghost use Rattle.panel_check.specs.Causes.{IsStated, in_table};
+ghost use Rattle.panel_check.specs.Listed.{AddsOf, AreCausesOf, AreReported, causes_of};
+ghost use Rattle.panel_check.specs.Report.{HasCause, IsReportOn, is_fault};
 
-use crate::causes::causes_in;
 use crate::finding::{Cause, Finding};
-use crate::survey::Index;
-use crate::words::{Remark, remarks_on};
+use crate::lines::Lines;
+use crate::report::{Report, count_faults, sizes_of};
+use crate::words::{PanelText, findings_on};
 use lu_pool::PoolFault;
-use panels::TreeFault::*;
-use panels::{Location, PanelFault};
+use panels::{Draft, LocatedFault, Location, TreeFault};
 use std::alloc::{AllocError, Global};
 use toml::Table;
 use toml::de::Error;
 
-/// What a report says of a text.
-#[derive(Drop)]
-pub(crate) struct Told {
-    pub findings: Vec<Finding>,
-    /// Whether there were words for each fault that doesn't merely follow from another.
-    pub has_words: bool,
+/// The causes for these faults of tables and of LUs, and those of warnings.
+fn all_causes(
+    alloc: Global,
+    tables: &[LocatedFault],
+    lus: &[PoolFault],
+) -> Result<Vec<Cause>, AllocError>
+    ensures { IfOk result (λ causes. causes.items ≡ causes_of tables.now lus.now) }
+{
+    let mut causes = Vec::new(alloc);
+    for at in tables {
+        causes.push(Cause::Tree(at.fault, at.part))?;
+    }
+    for fault in lus {
+        causes.push(Cause::Lus(*fault))?;
+    }
+    causes.push(Cause::TextWraps)?;
+    causes.push(Cause::FillNotNumeric)?;
+    causes.push(Cause::NoKeyLeads)?;
+    Ok(causes)
 }
 
-/// Whether a fault is among these.
-fn has(causes: &[Cause], cause: Cause) -> bool
-    ensures { IsTrue result → Contains causes.now cause }
+/// All faults of a text: those of its tables, in the order in which `PanelSet::read` looks for them, and those of its
+/// LUs; and behind them the warnings.
+fn causes_in(alloc: Global, draft: &Draft) -> Result<Vec<Cause>, AllocError>
+    ensures { IfOk result (λ causes. AreCausesOf draft.now causes.items) }
 {
-    for other in causes {
-        if is_same(other, cause) {
+    let tables = draft.faults(alloc)?;
+    let lus = lu_pool::faults(alloc, &draft.lus)?;
+    let causes = all_causes(alloc, &tables, &lus)?;
+    Ok(causes)
+}
+
+/// Whether the value that a fault is of is in the text.
+fn is_stated(draft: &Draft, cause: Cause) -> bool
+    ensures { IsTrue result ↔ IsStated draft.now cause }
+{
+    match cause {
+        Cause::Tree(fault, part) => draft.is_stated(fault, part),
+        Cause::Lus(PoolFault::BadCount) => draft.has_lus,
+        _ => true,
+    }
+}
+
+/// A fault of a copy of an item as a fault of the item's table.
+fn in_table(draft: &Draft, cause: Cause) -> Cause
+    ensures { result ≡ in_table draft.now cause }
+{
+    match cause {
+        Cause::Tree(fault, part) => Cause::Tree(fault, draft.table(part)),
+        _ => cause,
+    }
+}
+
+fn is_same_part(one: Location, other: Location) -> bool
+    ensures { IsTrue result → one ≡ other }
+{
+    one == other
+}
+
+fn is_same_fault(one: TreeFault, other: TreeFault) -> bool
+    ensures { IsTrue result → one ≡ other }
+{
+    one == other
+}
+
+/// Whether both are the same fault.
+fn is_same(one: Cause, other: Cause) -> bool
+    ensures { IsTrue result → one ≡ other }
+{
+    match (one, other) {
+        (Cause::Tree(fault, part), Cause::Tree(other, table)) => {
+            is_same_fault(fault, other) && is_same_part(part, table)
+        }
+        _ => false,
+    }
+}
+
+/// Whether one of the findings is for a cause.
+fn is_reported(findings: &[Finding], cause: Cause) -> bool
+    ensures { IsTrue result → HasCause cause findings.now }
+{
+    for finding in findings {
+        if is_same(finding.cause, cause) {
             return true;
         }
     }
     false
 }
 
-fn is_same(one: &Cause, other: Cause) -> bool
-    ensures { IsTrue result → one.now ≡ other }
-{
-    *one == other
-}
-
-/// Whether a table has wrong keys, or values of wrong types.
-fn has_wrong_keys(causes: &[Cause], part: Location) -> bool
-    ensures { IsTrue result → HasOneOf (Contains causes.now) (keys_at part) }
-{
-    has(causes, Cause::Tree(UnknownKey, part))
-        || has(causes, Cause::Tree(Missing, part))
-        || has(causes, Cause::Tree(BadKind, part))
-}
-
-/// The panel of a text or a field; any other part itself.
-fn panel_part(part: Location) -> Location
-    ensures { result ≡ panel_part part }
-{
-    match part {
-        Location::Text(panel, _) | Location::Field(panel, _) => Location::Panel(panel),
-        Location::Top | Location::Panel(_) | Location::Keys(_) => part,
-    }
-}
-
-/// Whether the size of a panel's screen isn't known.
-fn lacks_screen(causes: &[Cause], panel: Location) -> bool
-    ensures { IsTrue result → HasOneOf (Contains causes.now) (cause.Tree tree.BadModel panel ∷ keys_at panel) }
-{
-    has(causes, Cause::Tree(BadModel, panel)) || has_wrong_keys(causes, panel)
-}
-
-/// Whether an item may lack its row, column or length, or the size of its screen isn't known.
-fn lacks_place(causes: &[Cause], part: Location) -> bool
-    ensures { IsTrue result → HasOneOf (Contains causes.now) (sources_of (cause.Tree tree.OutOfPlace part)) }
-{
-    has_wrong_keys(causes, part) || lacks_screen(causes, panel_part(part))
-}
-
-/// Whether a fault may merely follow from another one of these.
-fn may_follow(causes: &[Cause], cause: Cause) -> bool
-    ensures { IsTrue result → HasOneOf (Contains causes.now) (sources_of cause) }
-{
-    match cause {
-        Cause::Tree(BadName | TwiceNamed | NoTarget, part) => has_wrong_keys(causes, part),
-        Cause::Tree(OutOfPlace | Overlap, part) => lacks_place(causes, part),
-        Cause::Lus(PoolFault::BadCount) => has_wrong_keys(causes, Location::Top),
-        _ => false,
-    }
-}
-
-/// A finding with the message that the panel reader or the LU pool prints for the fault, at line 1.
-fn plain(alloc: Global, cause: Cause) -> Result<Finding, AllocError>
-    ensures { IfOk result (λ finding. finding.cause ≡ cause) }
-{
-    let message = match cause {
-        Cause::Tree(fault, part) => {
-            let fault = PanelFault::Tree(fault, part.place());
-            format!(in alloc; "{fault}")?
-        }
-        Cause::Lus(fault) => format!(in alloc; "{fault}")?,
-        _ => String::from_str(alloc, "not TOML")?,
-    };
-    Ok(Finding {
-        cause,
-        line: 1,
-        place: String::new(alloc),
-        message,
-    })
-}
-
-/// The finding for a remark on a cause.
-fn finding(survey: &Index, cause: Cause, remark: &Remark) -> Result<Finding, AllocError>
+/// A finding as it is, with a cause.
+fn finding(cause: Cause, found: &Finding) -> Result<Finding, AllocError>
     ensures { IfOk result (λ finding. finding.cause ≡ cause) }
 {
     Ok(Finding {
         cause,
-        line: remark.line,
-        place: survey.place(remark.part)?,
-        message: String::from_str(survey.alloc, remark.message.as_str())?,
+        line: found.line,
+        place: found.place.clone()?,
+        message: found.message.clone()?,
     })
 }
 
-/// Adds a finding for each remark.
-fn add_all(
-    findings: &mut Vec<Finding>,
-    survey: &Index,
-    cause: Cause,
-    remarks: &[Remark],
-) -> Result<(), AllocError>
+/// Adds these findings, with a cause.
+fn add_all(findings: &mut Vec<Finding>, cause: Cause, found: &[Finding]) -> Result<(), AllocError>
     ensures added { OnOk result (AddsOf cause findings.old.items findings.new.items) }
-    ensures told { OnOk result (1 ≤ length remarks.now → HasCause cause findings.new.items) }
+    ensures told { OnOk result (1 ≤ length found.now → HasCause cause findings.new.items) }
 {
-    for remark in remarks {
-        findings.push(finding(survey, cause, remark)?)?;
+    for one in found {
+        findings.push(finding(cause, one)?)?;
     }
     Ok(())
 }
 
-/// Adds a finding for a fault without a remark, unless it may merely follow from another; returns whether it may.
-fn tell_plainly(
-    findings: &mut Vec<Finding>,
-    alloc: Global,
-    causes: &[Cause],
-    cause: Cause,
-) -> Result<bool, AllocError>
-    ensures { OnOk result (ReportsFault causes.now cause findings.old.items findings.new.items) }
+/// Adds the findings for a cause, unless its table has some for it, by another copy; or the value of the fault isn't in
+/// the text, and it isn't the first.
+#[tactic(auto, using(crate::proofs::Reporting::adds_none))]
+fn tell(findings: &mut Vec<Finding>, text: &PanelText, cause: Cause) -> Result<(), AllocError>
+    ensures added { OnOk result (AddsOf (in_table text.now.draft cause) findings.old.items findings.new.items) }
+    ensures told { OnOk result (is_fault cause ≡ true → (findings.old.items ≡ []) ⊎ IsStated text.now.draft cause
+        → HasCause (in_table text.now.draft cause) findings.new.items) }
 {
-    if may_follow(causes, cause) {
-        return Ok(true);
+    let reported = in_table(&text.draft, cause);
+    if is_reported(findings, reported) {
+        return Ok(());
     }
-    findings.push(plain(alloc, cause)?)?;
-    Ok(false)
+    if !findings.is_empty() && !is_stated(&text.draft, cause) {
+        return Ok(());
+    }
+    let found = findings_on(text, cause)?;
+    add_all(findings, reported, &found)?;
+    Ok(())
 }
 
-/// Adds the findings for a fault. False if there was no remark on it although it can't merely follow from another.
-fn tell(
-    findings: &mut Vec<Finding>,
-    survey: &Index,
-    causes: &[Cause],
-    cause: Cause,
-) -> Result<bool, AllocError>
-    ensures { OnOk result (ReportsFault causes.now cause findings.old.items findings.new.items) }
+/// The findings for these causes.
+fn findings_for(text: &PanelText, causes: &[Cause]) -> Result<Vec<Finding>, AllocError>
+    ensures { IfOk result (λ findings. AreReported (length causes.now) text.now.draft causes.now findings.items) }
 {
-    let remarks = remarks_on(survey, cause)?;
-    if remarks.is_empty() {
-        return tell_plainly(findings, survey.alloc, causes, cause);
-    }
-    add_all(findings, survey, cause, &remarks)?;
-    Ok(true)
-}
-
-/// Adds the findings for each of the faults.
-fn tell_each(survey: &Index, causes: &[Cause]) -> Result<Told, AllocError>
-    ensures { IfOk result (λ told. ReportsFaults (Contains causes.now) told.findings.items) }
-{
-    let mut findings = Vec::new(survey.alloc);
-    let mut has_words = true;
+    let mut findings = Vec::new(text.lines.alloc);
     for cause in causes {
-        let had_words = tell(&mut findings, survey, causes, *cause)?;
-        has_words &= had_words;
+        tell(&mut findings, text, *cause)?;
     }
-    Ok(Told {
-        findings,
-        has_words,
-    })
+    Ok(findings)
 }
 
-/// Adds the warnings with this cause.
-fn warn_of(findings: &mut Vec<Finding>, survey: &Index, cause: Cause) -> Result<(), AllocError>
-    requires { is_fault cause ≡ false }
-    ensures { OnOk result (ReportsAsMuch findings.old.items findings.new.items) }
-{
-    let remarks = remarks_on(survey, cause)?;
-    add_all(findings, survey, cause, &remarks)?;
-    Ok(())
-}
-
-/// Adds all warnings.
-fn warn(findings: &mut Vec<Finding>, survey: &Index) -> Result<(), AllocError>
-    ensures { OnOk result (ReportsAsMuch findings.old.items findings.new.items) }
-{
-    warn_of(findings, survey, Cause::TextWraps)?;
-    warn_of(findings, survey, Cause::FillNotNumeric)?;
-    warn_of(findings, survey, Cause::NoKeyLeads)?;
-    Ok(())
-}
-
-/// The findings in a text whose TOML tree is `top`, in the order of its lines.
-fn tell_tree(alloc: Global, text: &str, top: &Table) -> Result<Told, AllocError>
+/// The report on a text whose TOML tree is `top`.
+fn report_on_tree(alloc: Global, text: &str, top: &Table) -> Result<Report, AllocError>
     ensures { parse_document text.now ≡ Some (table_view top.now)
-        → IfOk result (λ told. ReportsFaults (IsFaultOf text.now) told.findings.items) }
+        → IfOk result (λ report. IsReportOn text.now report.findings.items) }
 {
-    let survey = Index::of(alloc, text, top)?;
-    let causes = causes_in(alloc, top)?;
-    let Told {
-        mut findings,
-        has_words,
-    } = tell_each(&survey, &causes)?;
-    warn(&mut findings, &survey)?;
+    let (draft, lines) = (Draft::of(alloc, top)?, Lines::of_text(alloc, text)?);
+    let text = PanelText { draft, lines };
+    let causes = causes_in(alloc, &text.draft)?;
+    let mut findings = findings_for(&text, &causes)?;
     findings.sort_by_key(|finding| finding.line)?;
-    Ok(Told {
-        findings,
-        has_words,
-    })
+    let sizes = (count_faults(&findings) == 0).then_some(sizes_of(&text.draft));
+    Ok(Report { findings, sizes })
 }
 
-/// The finding for a text that isn't TOML, with the line of the error.
-fn no_toml(alloc: Global, text: &str, error: &Error) -> Result<Finding, AllocError>
-    ensures { IfOk result (λ finding. finding.cause ≡ cause.NotToml) }
+/// The report on a text that isn't TOML, with the line of the error.
+fn report_no_toml(alloc: Global, text: &str, error: &Error) -> Result<Report, AllocError>
+    ensures { parse_document text.now ≡ None → IfOk result (λ report. IsReportOn text.now report.findings.items) }
 {
-    let start = match error.span() {
-        Some(span) => span.start,
-        None => 0,
-    };
+    let start = error.span().map_or(0, |span| span.start);
     let before = text.as_bytes().get(..start).unwrap_or(&[]);
     let ends = before.iter().filter(|byte| **byte == b'\n').count();
-    Ok(Finding {
+    let mut findings = Vec::new(alloc);
+    findings.push(Finding {
         cause: Cause::NotToml,
         line: ends.saturating_add(1),
         place: String::new(alloc),
         message: String::from_str(alloc, error.message())?,
-    })
-}
-
-/// A single finding.
-fn only(alloc: Global, finding: Finding) -> Result<Told, AllocError>
-    ensures { IfOk result (λ told. told.findings.items ≡ finding ∷ []) }
-{
-    let mut findings = Vec::new(alloc);
-    findings.push(finding)?;
-    Ok(Told {
+    })?;
+    Ok(Report {
         findings,
-        has_words: true,
+        sizes: None,
     })
 }
 
-/// The findings in a text that isn't TOML.
-fn tell_no_toml(alloc: Global, text: &str, error: &Error) -> Result<Told, AllocError>
-    ensures { parse_document text.now ≡ None
-        → IfOk result (λ told. ReportsFaults (IsFaultOf text.now) told.findings.items) }
-{
-    let finding = no_toml(alloc, text, error)?;
-    let told = only(alloc, finding)?;
-    Ok(told)
-}
-
-/// The findings in a text, in the order of its lines.
-pub(crate) fn report_faults(alloc: Global, text: &str) -> Result<Told, AllocError>
-    ensures { IfOk result (λ told. ReportsFaults (IsFaultOf text.now) told.findings.items) }
+/// The report on a panel text.
+pub(crate) fn report_on(alloc: Global, text: &str) -> Result<Report, AllocError>
+    ensures { IfOk result (λ report. IsReportOn text.now report.findings.items) }
 {
     match toml::table_from_str(alloc, text) {
-        Ok(top) => tell_tree(alloc, text, &top),
+        Ok(top) => report_on_tree(alloc, text, &top),
         Err(error) if error.is_memory() => Err(AllocError),
-        Err(error) => tell_no_toml(alloc, text, &error),
+        Err(error) => report_no_toml(alloc, text, &error),
     }
 }

@@ -1,94 +1,119 @@
 //! How messages print names, and the known name that was probably meant.
+use panels::{Draft, Location};
 use std::alloc::{AllocError, Global};
+use std::fmt;
 use strsim::osa_distance;
+use toml::Table;
 
-/// The most characters of a text that a message prints.
+/// The most characters of a text that a message prints, and the most bytes of a word that is compared with others.
 const MOST_PRINTED: usize = 40;
 
 /// The most known words with which an unknown one is compared.
 const MOST_COMPARED: usize = 500;
 
-fn is_control(letter: char) -> bool {
-    letter < ' ' || ('\u{7f}'..='\u{9f}').contains(&letter)
-}
+/// Prints a text on one line: each control character as `?`, and only the first 40 characters, with `..` after them.
+#[derive(Clone, Copy)]
+pub(crate) struct Cut<'a>(pub &'a str);
 
-/// Adds a text on one line: each control character as `?`, and only the first 40 characters, with `..` after them.
-pub(crate) fn put_cut(message: &mut String, text: &str) -> Result<(), AllocError> {
-    for (place, letter) in text.chars().enumerate() {
-        if place == MOST_PRINTED {
-            return message.push_str("..");
-        }
-        message.push(if is_control(letter) { '?' } else { letter })?;
-    }
-    Ok(())
-}
-
-/// A text between quotes, printed on one line as `put_cut` does.
-pub(crate) fn quote(alloc: Global, text: &str) -> Result<String, AllocError> {
-    let mut quoted = String::new(alloc);
-    quoted.push('\'')?;
-    put_cut(&mut quoted, text)?;
-    quoted.push('\'')?;
-    Ok(quoted)
-}
-
-/// A search for the known word that is most similar to a given one.
-#[derive(Drop)]
-pub struct Nearest<'a> {
-    alloc: Global,
-    word: &'a str,
-    found: Option<&'a str>,
-    /// The most edits by which a similar word may differ.
-    most: usize,
-    /// How many more known words may be compared.
-    left: usize,
-}
-
-impl<'a> Nearest<'a> {
-    /// A search for the known word that is most similar to `word`; `offer` gives it the known words.
-    pub fn to(alloc: Global, word: &'a str) -> Nearest<'a> {
-        // One edit in three letters. A word of more than 40 bytes is similar to none.
-        let most = if word.len() <= MOST_PRINTED {
-            word.len() / 3 + 1
-        } else {
-            0
-        };
-        Nearest {
-            alloc,
-            word,
-            found: None,
-            most,
-            left: MOST_COMPARED,
-        }
-    }
-
-    /// Compares a known word with the given one. Only the first 500 that have at most 40 bytes are compared. Err only
-    /// if memory is refused.
-    pub fn offer(&mut self, known: &'a str) -> Result<(), AllocError> {
-        if self.most == 0 || self.left == 0 || MOST_PRINTED < known.len() {
-            return Ok(());
-        }
-        self.left -= 1;
-        let distance = osa_distance(self.alloc, self.word, known)?;
-        if distance <= self.most && distance < known.len() {
-            self.found = Some(known);
-            self.most = distance.saturating_sub(1);
+impl fmt::Display for Cut<'_> {
+    fn fmt<W: fmt::Write>(&self, f: &mut fmt::Formatter<W>) -> fmt::Result {
+        for (place, letter) in self.0.chars().enumerate() {
+            if place == MOST_PRINTED {
+                return f.write_str("..");
+            }
+            f.write_char(if letter.is_control() { '?' } else { letter })?;
         }
         Ok(())
     }
+}
 
-    /// The most similar of the words that were offered, if one is similar enough.
-    pub fn found(&self) -> Option<&'a str> {
-        self.found
-    }
+/// The known word that was probably meant. Prints as ` (did you mean 'WORD'?)`, or as nothing if there is none.
+#[derive(Clone, Copy)]
+pub(crate) struct Guess<'a>(Option<&'a str>);
 
-    /// The message, followed by ` (did you mean 'KNOWN'?)` if there is a similar word.
-    pub(crate) fn behind(&self, mut message: String) -> Result<String, AllocError> {
-        if let Some(known) = self.found {
-            message.push_str(" (did you mean '")?;
-            put_cut(&mut message, known)?;
-            message.push_str("'?)")?;
+impl<'a> Guess<'a> {
+    /// The word that is most similar to an unknown one, among the first 500 known ones of at most 40 bytes.
+    pub(crate) fn of(alloc: Global, word: &str, all: &[&'a str]) -> Result<Guess<'a>, AllocError> {
+        // One edit in three letters. A word of more than 40 bytes is similar to none.
+        let (mut guess, mut most) = (None, word.len() / 3 + 1);
+        if MOST_PRINTED < word.len() || (&*all).contains(&word) {
+            return Ok(Guess(guess));
         }
-        Ok(message)
+        let short = all.iter().filter(|known| known.len() <= MOST_PRINTED);
+        for known in short.take(MOST_COMPARED) {
+            let distance = osa_distance(alloc, word, *known)?;
+            if distance <= most && distance < known.len() {
+                guess = Some(*known);
+                most = distance.saturating_sub(1);
+            }
+        }
+        Ok(Guess(guess))
+    }
+}
+
+impl fmt::Display for Guess<'_> {
+    fn fmt<W: fmt::Write>(&self, f: &mut fmt::Formatter<W>) -> fmt::Result {
+        match self.0 {
+            Some(known) => write!(f, " (did you mean '{}'?)", Cut(known)),
+            None => Ok(()),
+        }
+    }
+}
+
+/// The table of a part, if there is one.
+pub(crate) fn table_at<'a>(draft: &Draft<'a>, part: Location) -> Option<&'a Table> {
+    match part {
+        Location::Top => Some(draft.table),
+        Location::Panel(panel) => Some(draft.panel(panel)?.table),
+        Location::Keys(panel) => draft.panel(panel)?.table.get("keys")?.as_table(),
+        Location::Text(_, _) | Location::Field(_, _) | Location::Value(_, _) => {
+            Some(draft.item(part)?.table)
+        }
+    }
+}
+
+/// The string at a key of a part's table.
+pub(crate) fn text_at<'a>(draft: &Draft<'a>, part: Location, key: &str) -> Option<&'a str> {
+    table_at(draft, part)?.get(key)?.as_str()
+}
+
+/// How messages name a table, as `panel MENU, field option`; nothing for the text's own table.
+#[derive(Clone, Copy)]
+pub(crate) struct Place<'s, 'a>(pub &'s Draft<'a>, pub Location);
+
+/// Prints a table's name, or its number from 1 on if it has none.
+fn put_named<W: fmt::Write>(
+    f: &mut fmt::Formatter<W>,
+    kind: &str,
+    name: Option<&str>,
+    index: usize,
+) -> fmt::Result {
+    match name {
+        Some(name) => write!(f, "{kind} {}", Cut(name)),
+        None => write!(f, "{kind} #{}", index.saturating_add(1)),
+    }
+}
+
+impl fmt::Display for Place<'_, '_> {
+    fn fmt<W: fmt::Write>(&self, f: &mut fmt::Formatter<W>) -> fmt::Result {
+        let Place(draft, part) = *self;
+        let (text, show) = (text_at(draft, part, "text"), text_at(draft, part, "show"));
+        let name = text_at(draft, part, "name");
+        if let Some(panel) = part.panel() {
+            put_named(
+                f,
+                "panel",
+                text_at(draft, Location::Panel(panel), "name"),
+                panel,
+            )?;
+        }
+        match (draft.table(part), text) {
+            (Location::Text(_, _), Some(text)) => write!(f, ", text '{}'", Cut(text)),
+            (Location::Text(_, _), _) if show.is_some() => put_named(f, ", show", show, 0),
+            (Location::Text(_, index), _) => put_named(f, ", text", None, index),
+            (Location::Field(_, index), _) => put_named(f, ", field", name, index),
+            (Location::Value(_, index), _) => put_named(f, ", value", name, index),
+            (Location::Top | Location::Panel(_) | Location::Keys(_), _) => Ok(()),
+        }
     }
 }

@@ -1,117 +1,135 @@
-//! The messages of a report for each fault and each warning. There is no message for a fault that merely follows from
-//! another: its key, or the panel's model, is absent.
-use crate::finding::Cause;
-use crate::survey::Index;
-use crate::wording::{Nearest, quote};
+//! The messages of a report for each fault whose value is in the text, and for each warning.
+ghost use Rattle.std.specs.Prelude.{◌≡◌, ◌≤◌, true, length, IfOk, OnOk};
+ghost use Rattle.panel_check.specs.Report.{is_fault};
+
+use crate::finding::{Cause, Finding};
+use crate::lines::Lines;
+use crate::wording::{Cut, Guess, Place, table_at, text_at};
 use codes3270::from_latin1;
 use lu_pool::PoolFault;
 use panels::TreeFault::*;
-use panels::rules::{KeyKind, KeyRule, field_rules, knows_key, panel_rules, text_rules, top_rules};
-use panels::{Location, TreeFault};
+use panels::rules::{KeyKind, KeyRule, knows_key, table_rules};
+use panels::{
+    Draft, Location, MOST_FIELDS, MOST_PANELS, MOST_TEXTS, PanelDraft, TreeFault, key_names,
+};
 use std::alloc::{AllocError, Global};
+use std::fmt;
 use tn3270e_msg::Lu;
-use toml::Table;
+use toml::{Table, Value};
 
-/// A message of a report, with the part and the line that it is on.
+pub(crate) type Done = Result<(), AllocError>;
+
+/// What the tables of a panel text say, and their lines.
 #[derive(Drop)]
-pub(crate) struct Remark {
-    pub part: Location,
-    pub line: usize,
-    pub message: String,
+pub(crate) struct PanelText<'a> {
+    pub draft: Draft<'a>,
+    pub lines: Lines,
 }
 
-/// The remarks so far, and the part that further ones are on.
+/// The findings for a fault so far, and the part of the text that further ones are on.
 #[derive(Drop)]
 pub(crate) struct Words<'s, 'a> {
-    pub survey: &'s Index<'a>,
     pub alloc: Global,
+    pub draft: &'s Draft<'a>,
+    pub lines: &'s Lines,
     pub part: Location,
-    said: Vec<Remark>,
+    pub cause: Cause,
+    findings: Vec<Finding>,
 }
 
-type Done = Result<(), AllocError>;
-
-/// The names of a terminal's keys in a panel text.
-static KEY_NAMES: [&str; 29] = [
-    "enter", "clear", "pa1", "pa2", "pa3", "pf1", "pf2", "pf3", "pf4", "pf5", "pf6", "pf7", "pf8",
-    "pf9", "pf10", "pf11", "pf12", "pf13", "pf14", "pf15", "pf16", "pf17", "pf18", "pf19", "pf20",
-    "pf21", "pf22", "pf23", "pf24",
-];
-
-/// What messages call a value of this type.
-fn kind_name(kind: KeyKind) -> &'static str {
-    match kind {
-        KeyKind::Text => "a string",
-        KeyKind::Integer => "an integer",
-        KeyKind::Truth => "true or false",
-        KeyKind::Texts => "an array of strings",
-        KeyKind::Tables => "an array of tables",
-        KeyKind::Table => "a table",
-    }
-}
-
-/// The remarks on a fault, or those of a warning.
-pub(crate) fn remarks_on(survey: &Index, cause: Cause) -> Result<Vec<Remark>, AllocError> {
-    let mut words = Words {
-        survey,
-        alloc: survey.alloc,
-        part: Location::Top,
-        said: Vec::new(survey.alloc),
+/// Adds a finding on the part, at the line of one of its keys; at the part's own line if it hasn't this key.
+macro_rules! say {
+    ($words:expr, $key:expr; $($message:tt)+) => {
+        $words.say($key, format_args!($($message)+))
     };
-    match cause {
-        Cause::NotToml | Cause::Lus(PoolFault::Memory) => {}
-        Cause::Tree(fault, part) => {
-            words.part = part;
-            words.fault(fault)?;
-        }
-        Cause::Lus(PoolFault::BadCount) => words.lu_count()?,
-        Cause::Lus(PoolFault::BadName(place) | PoolFault::Twice(place)) => words.lu(place)?,
-        Cause::TextWraps => words.wraps()?,
-        Cause::FillNotNumeric => words.strange_fills()?,
-        Cause::NoKeyLeads => words.unreached()?,
+}
+
+pub(crate) use say;
+
+/// The findings for a fault, or those of a warning. A fault without words has its name.
+pub(crate) fn findings_on(text: &PanelText, cause: Cause) -> Result<Vec<Finding>, AllocError>
+    ensures { IfOk result (λ findings. is_fault cause ≡ true → 1 ≤ length findings.items) }
+{
+    let PanelText { draft, lines } = text;
+    let mut words = Words {
+        alloc: lines.alloc,
+        draft,
+        lines,
+        part: Location::Top,
+        cause,
+        findings: Vec::new(lines.alloc),
+    };
+    words.tell()?;
+    if words.findings.is_empty() && cause.is_fault() {
+        say!(words, ""; "{cause:?}")?;
     }
-    let Words { said, .. } = words;
-    Ok(said)
+    let Words { findings, .. } = words;
+    Ok(findings)
 }
 
 impl<'s, 'a> Words<'s, 'a> {
-    /// Adds a remark on the part, at the line of one of its keys; at the part's own line if it has no such key.
-    pub(crate) fn say(&mut self, key: &str, message: String) -> Done {
-        let (part, line) = (self.part, self.survey.line(self.part, key)?);
-        self.said.push(Remark {
-            part,
+    pub(crate) fn say<M: fmt::Display + Drop>(&mut self, key: &str, message: M) -> Done
+        ensures { OnOk result (1 ≤ length self.new.findings.items) }
+    {
+        let line = self.line(self.part, key)?;
+        let place = Place(self.draft, self.part);
+        self.findings.push(Finding {
+            cause: self.cause,
             line,
-            message,
+            place: format!(in self.alloc; "{place}")?,
+            message: format!(in self.alloc; "{message}")?,
         })?;
         Ok(())
     }
 
-    /// The text at one of the part's keys.
-    pub(crate) fn text(&self, key: &str) -> Option<&'a str> {
-        self.survey.text(self.part, key)
+    /// The line of a key in a part's table; the table's own line if it has no such key.
+    pub(crate) fn line(&self, part: Location, key: &str) -> Result<usize, AllocError> {
+        self.lines.of_key(self.draft.table(part), key)
+    }
+
+    /// The string at one of the part's keys; empty if there is none.
+    pub(crate) fn text(&self, key: &str) -> &'a str {
+        text_at(self.draft, self.part, key).unwrap_or("")
+    }
+
+    /// The panel that has the part.
+    pub(crate) fn panel(&self) -> Option<&'s PanelDraft<'a>> {
+        self.draft.panel(self.part.panel()?)
+    }
+
+    fn tell(&mut self) -> Done {
+        match self.cause {
+            Cause::NotToml => Ok(()),
+            Cause::Tree(fault, part) => {
+                self.part = part;
+                self.fault(fault)
+            }
+            Cause::Lus(fault) => self.lu_fault(fault),
+            Cause::TextWraps | Cause::FillNotNumeric => self.warn_of_items(),
+            Cause::NoKeyLeads => self.unreached(),
+        }
     }
 
     fn fault(&mut self, fault: TreeFault) -> Done {
+        let name = Cut(self.text("name"));
+        let model = self.panel().map_or(2, |panel| panel.model);
         match (fault, self.part) {
-            (UnknownKey | Missing | BadKind, part) => match self.survey.table(part) {
-                Some(table) => self.keys(table),
-                None => Ok(()),
-            },
-            (TooMany, Location::Top) => self.excess("panel", 64),
-            (TooMany, _) => {
-                self.excess("text", 256)?;
-                self.excess("field", 128)
-            }
-            (BadName, Location::Panel(_)) => self.bad_name("A-Z and 0-9"),
-            (BadName, _) => self.bad_name("a-z, 0-9 and _"),
+            (UnknownKey | Missing | BadKind, Location::Keys(_)) => self.key_values(),
+            (UnknownKey | Missing | BadKind, _) => self.keys(),
+            (TooMany, _) => self.excess(),
+            (BadName, Location::Panel(_)) => say!(self, "name";
+                "bad name '{name}': a name has 1 to 16 of A-Z and 0-9"),
+            (BadName, _) => say!(self, "name";
+                "bad name '{name}': a name has 1 to 16 of a-z, 0-9 and _"),
             (BadKey, _) => self.bad_keys(),
-            (TwiceNamed, Location::Keys(panel)) => self.asked_twice(panel),
+            (TwiceNamed, Location::Keys(_)) => self.asked_twice(),
             (TwiceNamed, _) => self.named_twice(),
-            (BadModel, _) => self.bad_model(),
+            (BadModel, _) => say!(self, "model"; "'model' must be 2, 3, 4 or 5, not {model}"),
             (OutOfPlace, _) => self.misplaced(),
             (Overlap, _) => self.overlap(),
             (NoCode, _) => {
                 self.no_code("text")?;
+                self.no_code("label")?;
                 self.no_code("fill")
             }
             (NoTarget, _) => self.no_target(),
@@ -119,255 +137,212 @@ impl<'s, 'a> Words<'s, 'a> {
     }
 
     /// Says which keys of a table are wrong or absent, and which of its values have wrong types.
-    fn keys(&mut self, table: &Table) -> Done {
-        match self.part {
-            Location::Top => self.by_rules(table, top_rules()),
-            Location::Panel(_) => self.by_rules(table, panel_rules(table)),
-            Location::Text(_, _) => self.by_rules(table, text_rules(table)),
-            Location::Field(_, _) => self.by_rules(table, field_rules()),
-            Location::Keys(_) => self.key_values(table),
-        }
-    }
-
-    fn by_rules(&mut self, table: &Table, rules: &[KeyRule]) -> Done {
+    fn keys(&mut self) -> Done {
+        let Some(table) = table_at(self.draft, self.part) else {
+            return Ok(());
+        };
+        let rules = table_rules(self.draft.table(self.part), table);
         for key in table.keys() {
             if !knows_key(rules, key.as_str()) {
                 self.unknown(key.as_str(), rules)?;
             }
         }
         for rule in rules {
-            if rule.is_missing_in(table) {
-                self.missing(table, rule.key())?;
+            match table.get(rule.key()) {
+                Some(value) => self.misfit(rule, value, rule.is_missing_in(table))?,
+                None if rule.is_missing_in(table) => self.missing(rule.key(), table)?,
+                None => {}
             }
-            self.misfit(table, rule)?;
         }
         Ok(())
     }
 
     fn unknown(&mut self, key: &str, rules: &[KeyRule]) -> Done {
-        let name = quote(self.alloc, key)?;
-        let message = match (self.part, key) {
-            (Location::Text(_, _), "show" | "length") => {
-                format!(in self.alloc; "key {name} can't be used with 'text'")?
-            }
-            (Location::Panel(_), "otherwise") => {
-                format!(in self.alloc; "key {name} can be used only with 'model' 3, 4 or 5")?
-            }
+        let name = Cut(key);
+        match (self.part, key) {
+            (Location::Text(_, _), "show" | "length") =>
+                say!(self, key; "key '{name}' can't be used with 'text'"),
+            (Location::Panel(_), "otherwise") =>
+                say!(self, key; "key '{name}' can be used only with 'model' 3, 4 or 5"),
             _ => {
-                let mut nearest = Nearest::to(self.alloc, key);
-                for rule in rules {
-                    nearest.offer(rule.key())?;
-                }
-                nearest.behind(format!(in self.alloc; "unknown key {name}")?)?
+                let known: Vec<&str> = rules.iter().map(|rule| rule.key()).collect(self.alloc)?;
+                let guess = Guess::of(self.alloc, key, &known)?;
+                say!(self, key; "unknown key '{name}'{guess}")
             }
-        };
-        self.say(key, message)
+        }
     }
 
-    /// Says that a key is absent that must be there, or that its array of tables is empty.
-    fn missing(&mut self, table: &Table, key: &str) -> Done {
-        let message = match (self.part, key) {
-            _ if table.contains_key(key) => format!(in self.alloc; "array '{key}' is empty")?,
-            (Location::Text(_, _), "show") => {
-                format!(in self.alloc; "missing key 'text', or 'show' with 'length'")?
-            }
-            // The remark on `show` says this, too.
-            (Location::Text(_, _), "length") if !table.contains_key("show") => return Ok(()),
-            (Location::Panel(_), "otherwise") => format!(in self.alloc;
-                "missing key 'otherwise': the panel of model 2 for terminals of other models"
-            )?,
-            _ => format!(in self.alloc; "missing key '{key}'")?,
-        };
-        self.say(key, message)
+    fn missing(&mut self, key: &str, table: &Table) -> Done {
+        match (self.part, key) {
+            (Location::Text(_, _), "show") =>
+                say!(self, key; "missing key 'text', or 'show' with 'length'"),
+            // The finding for `show` says this, too.
+            (Location::Text(_, _), "length") if !table.contains_key("show") => Ok(()),
+            (Location::Panel(_), "otherwise") => say!(self, key;
+                "missing key 'otherwise': the panel of model 2 for terminals of other models"),
+            _ => say!(self, key; "missing key '{key}'"),
+        }
     }
 
-    /// Says that the value of a key has another type than the rule says, if it has.
-    fn misfit(&mut self, table: &Table, rule: &KeyRule) -> Done {
-        let (key, wanted) = (rule.key(), kind_name(rule.kind()));
-        let Some(value) = table.get(key) else {
-            return Ok(());
-        };
-        if rule.kind().fits(value) {
-            return Ok(());
+    /// Says that a value is an empty array that mustn't be, or has another type than the rule says, if it is so.
+    fn misfit(&mut self, rule: &KeyRule, value: &Value, is_missing: bool) -> Done {
+        let (key, kind, found) = (rule.key(), rule.kind(), value.type_str());
+        match value {
+            Value::Array(_) if is_missing => say!(self, key; "array '{key}' is empty"),
+            _ if kind.fits(value) => Ok(()),
+            Value::Array(_) => say!(self, key; "'{key}' must be {kind}"),
+            Value::Integer(number) if kind == KeyKind::Count =>
+                say!(self, key; "'{key}' must be {kind}, not {number}"),
+            _ => say!(self, key; "'{key}' must be {kind}, not {found}"),
         }
-        let mut message = format!(in self.alloc; "'{key}' must be {wanted}")?;
-        if !value.is_array() {
-            let found = value.type_str();
-            write!(&mut message, ", not {found}")?;
-        }
-        self.say(key, message)
     }
 
     /// Says which values in a panel's table of keys aren't strings.
-    fn key_values(&mut self, keys: &Table) -> Done {
-        for (key, value) in keys {
-            if !value.is_str() {
-                let found = value.type_str();
-                let message = format!(in self.alloc;
-                    "a key must have the name of a panel, not {found}"
-                )?;
-                self.say(key.as_str(), message)?;
-            }
+    fn key_values(&mut self) -> Done {
+        let Some(keys) = table_at(self.draft, self.part) else {
+            return Ok(());
+        };
+        for (key, value) in keys.iter().filter(|pair| !pair.1.is_str()) {
+            let found = value.type_str();
+            say!(self, key.as_str(); "a key must have the name of a panel, not {found}")?;
         }
         Ok(())
     }
 
-    /// Says that an array has more than `most` tables, if it has.
-    fn excess(&mut self, key: &str, most: usize) -> Done {
-        let count = self.survey.count(self.part, key)?;
-        if count <= most {
-            return Ok(());
-        }
-        let message = format!(in self.alloc;
-            "{count} tables in '{key}': at most {most} are allowed"
-        )?;
-        self.say(key, message)
+    /// Says which arrays have more tables than they may.
+    fn excess(&mut self) -> Done {
+        let draft = self.draft;
+        let Some(panel) = self.panel() else {
+            return self.most("panel", draft.panels.len(), MOST_PANELS);
+        };
+        self.most("text", panel.texts.len(), MOST_TEXTS)?;
+        self.most("field", panel.fields.len(), MOST_FIELDS)
     }
 
-    fn bad_name(&mut self, letters: &str) -> Done {
-        let Some(name) = self.text("name") else {
-            return Ok(());
-        };
-        let name = quote(self.alloc, name)?;
-        let message = format!(in self.alloc; "bad name {name}: a name has 1 to 16 of {letters}")?;
-        self.say("name", message)
+    /// Says that a panel has more items than it may, or the text more panels, if it is so.
+    fn most(&mut self, key: &str, count: usize, most: usize) -> Done {
+        let table = table_at(self.draft, self.part);
+        let tables = table.and_then(|table| table.get(key)?.as_array());
+        if count <= most {
+            Ok(())
+        } else if tables.map_or(0, |tables| tables.len()) == count {
+            say!(self, key; "{count} tables in '{key}': at most {most} are allowed")
+        } else {
+            let all = if key == "field" {
+                "copies and values"
+            } else {
+                "copies"
+            };
+            say!(self, key; "{count} items in '{key}' with all {all}: at most {most} are allowed")
+        }
     }
 
     fn named_twice(&mut self) -> Done {
-        let Some(name) = self.text("name") else {
-            return Ok(());
+        let (draft, name, part) = (self.draft, self.text("name"), self.part);
+        let copy = draft.item(part).map_or(name, |item| item.name.as_str());
+        let first = match part {
+            Location::Panel(_) => draft.panel_named(name).map(|at| Location::Panel(at)),
+            _ => self
+                .item_named(copy)
+                .filter(|at| *at != part)
+                .or(self.item_named(name)),
         };
-        let is_panel = matches!(self.part, Location::Panel(_));
-        for part in &self.survey.parts {
-            if self.survey.name(*part) == name
-                && matches!(*part, Location::Panel(_)) == is_panel
-                && !matches!(*part, Location::Text(_, _))
-            {
-                let line = self.survey.line(*part, "name")?;
-                let name = quote(self.alloc, name)?;
-                let message = format!(in self.alloc; "name {name} is already used in line {line}")?;
-                return self.say("name", message);
-            }
-        }
-        Ok(())
+        let line = self.line(first.unwrap_or(part), "name")?;
+        say!(self, "name"; "name '{}' is already used in line {line}", Cut(name))
+    }
+
+    fn item_named(&self, name: &str) -> Option<Location> {
+        let at = self.draft.item_named(name)?;
+        Some(Location::Field(at.0, at.1))
     }
 
     /// Says which names in a panel's `keys` and `asks` aren't those of keys; `asks` may have `connect`, too.
     fn bad_keys(&mut self) -> Done {
-        if let Some(keys) = self.survey.table(self.part) {
+        if let Some(keys) = table_at(self.draft, self.part) {
             for key in keys.keys() {
                 self.no_key(key.as_str(), key.as_str())?;
             }
         }
-        let Location::Keys(panel) = self.part else {
+        let Some(panel) = self.at_panel() else {
             return Ok(());
         };
-        self.part = Location::Panel(panel);
-        for name in self.survey.texts(self.part, "asks")? {
-            if name != "connect" {
-                self.no_key("asks", name)?;
+        for name in &panel.asks {
+            if *name != "connect" {
+                self.no_key("asks", *name)?;
             }
         }
         Ok(())
+    }
+
+    /// The panel that has the part. Further findings are on the panel.
+    fn at_panel(&mut self) -> Option<&'s PanelDraft<'a>> {
+        let index = self.part.panel()?;
+        self.part = Location::Panel(index);
+        self.draft.panel(index)
     }
 
     /// Says, at the line of a key of the table, that a name isn't that of a terminal's key, if it isn't.
     fn no_key(&mut self, key: &str, name: &str) -> Done {
-        if KEY_NAMES.iter().any(|known| *known == name) {
+        if key_names().contains(&name) {
             return Ok(());
         }
-        let mut nearest = Nearest::to(self.alloc, name);
-        for known in &KEY_NAMES {
-            nearest.offer(*known)?;
-        }
+        let mut known = Vec::new(self.alloc);
+        known.extend_from_slice(key_names())?;
         if key == "asks" {
-            nearest.offer("connect")?;
+            known.push("connect")?;
         }
-        let name = quote(self.alloc, name)?;
-        let message = nearest.behind(format!(in self.alloc; "no key is named {name}")?)?;
-        self.say(key, message)
+        let (name, guess) = (Cut(name), Guess::of(self.alloc, name, &known)?);
+        say!(self, key; "no key is named '{name}'{guess}")
     }
 
     /// Says which keys a panel's `asks` have twice, or have although its `keys` have them.
-    fn asked_twice(&mut self, panel: usize) -> Done {
-        let mut seen = Vec::new(self.alloc);
-        self.part = Location::Panel(panel);
-        for name in self.survey.texts(self.part, "asks")? {
-            let quoted = quote(self.alloc, name)?;
-            if seen.contains(&name) {
-                let message = format!(in self.alloc; "key {quoted} is named twice")?;
-                self.say("asks", message)?;
+    fn asked_twice(&mut self) -> Done {
+        let keys = table_at(self.draft, self.part);
+        let Some(panel) = self.at_panel() else {
+            return Ok(());
+        };
+        for (index, name) in panel.asks.iter().enumerate() {
+            let key = Cut(*name);
+            if panel.asks.iter().take(index).any(|earlier| earlier == name) {
+                say!(self, "asks"; "key '{key}' is named twice")?;
             }
-            seen.push(name)?;
-            if self.survey.text(Location::Keys(panel), name).is_some() {
-                let message = format!(in self.alloc;
-                    "key {quoted} leads to a panel in 'keys', too"
-                )?;
-                self.say("asks", message)?;
+            if keys.is_some_and(|keys| keys.get(*name).is_some_and(|target| target.is_str())) {
+                say!(self, "asks"; "key '{key}' leads to a panel in 'keys', too")?;
             }
         }
         Ok(())
     }
 
-    fn bad_model(&mut self) -> Done {
-        let Some(number) = self.survey.integer(self.part, "model") else {
-            return Ok(());
-        };
-        let message = format!(in self.alloc; "'model' must be 2, 3, 4 or 5, not {number}")?;
-        self.say("model", message)
-    }
-
     /// Says which character of a text is the first without a code in code page 037, if one has none.
     fn no_code(&mut self, key: &str) -> Done {
-        let text = self.text(key).unwrap_or("");
-        let Some(character) = text.chars().find(|letter| from_latin1(*letter).is_none()) else {
+        let mut letters = self.text(key).chars();
+        let Some(letter) = letters.find(|letter| from_latin1(*letter).is_none()) else {
             return Ok(());
         };
-        let number = u32::from(character);
-        let mut message = format!(in self.alloc; "code page 037 has no character ")?;
-        if '\u{a0}' <= character {
-            write!(&mut message, "'{character}', ")?;
+        let number = u32::from(letter);
+        if letter < '\u{a0}' {
+            say!(self, key; "code page 037 has no character U+{number:04X}")
+        } else {
+            say!(self, key; "code page 037 has no character '{letter}', U+{number:04X}")
         }
-        write!(&mut message, "U+{number:04X}")?;
-        self.say(key, message)
     }
 
-    /// Says how many LUs there are, if `lus` is an array.
-    fn lu_count(&mut self) -> Done {
-        let lus = self
-            .survey
-            .table(Location::Top)
-            .and_then(|top| top.get("lus"));
-        if !lus.is_some_and(|value| value.is_array()) {
-            return Ok(());
+    fn lu_fault(&mut self, fault: PoolFault) -> Done {
+        let (draft, lines) = (self.draft, self.lines);
+        let lus = draft.lus.as_slice();
+        let (PoolFault::BadName(index) | PoolFault::Twice(index)) = fault else {
+            return say!(self, "lus"; "{} LUs: there must be 1 to 64", lus.len());
+        };
+        let text = lus.get(index).copied().unwrap_or("");
+        let (key, name) = (format!(in self.alloc; "lus'{index}")?, Cut(text));
+        let lu = Lu::read(text.as_bytes());
+        let first = lus.iter().position(|name| Lu::read(name.as_bytes()) == lu);
+        let first = format!(in self.alloc; "lus'{}", first.unwrap_or(index))?;
+        let line = lines.of_key(Location::Top, first.as_str())?;
+        match lu {
+            Some(_) => say!(self, key.as_str(); "LU '{name}' is already listed in line {line}"),
+            None => say!(self, key.as_str();
+                "bad LU name '{name}': 1 to 8 of A-Z, 0-9, @, # and $, the first no digit"),
         }
-        let count = self.survey.texts(Location::Top, "lus")?.len();
-        let message = format!(in self.alloc; "{count} LUs: there must be 1 to 64")?;
-        self.say("lus", message)
-    }
-
-    /// Says what is wrong with an LU's name: it is no LU's name, or an earlier one is that of the same LU.
-    fn lu(&mut self, place: usize) -> Done {
-        let lus = self.survey.texts(Location::Top, "lus")?;
-        let Some(name) = lus.get(place).copied() else {
-            return Ok(());
-        };
-        let quoted = quote(self.alloc, name)?;
-        let lu = Lu::read(name.as_bytes());
-        let first = lus
-            .iter()
-            .position(|other| Lu::read(other.as_bytes()) == lu);
-        let message = match (lu, first) {
-            (Some(_), Some(first)) => {
-                let key = format!(in self.alloc; "lus'{first}")?;
-                let line = self.survey.line(Location::Top, key.as_str())?;
-                format!(in self.alloc; "LU {quoted} is already listed in line {line}")?
-            }
-            _ => format!(in self.alloc;
-                "bad LU name {quoted}: 1 to 8 of A-Z, 0-9, @, # and $, the first no digit"
-            )?,
-        };
-        let key = format!(in self.alloc; "lus'{place}")?;
-        self.say(key.as_str(), message)
     }
 }

@@ -1,5 +1,5 @@
 -- A text defines its panels once.
-use Rattle.std.proofs.Common.{◌≡◌, ◌<◌, ◌≤◌, ◌+◌, ◌-◌, ℕ, suc, Bool, List, [], ◌∷◌, length, Option, Some, None, refl, ap, sym, ◌∙◌, subst, inl, inr, arith}
+use Rattle.std.proofs.Common.{◌≡◌, ◌<◌, ◌≤◌, ◌+◌, ◌-◌, ℕ, suc, Bool, List, [], ◌∷◌, ◌++◌, length, Option, Some, None, refl, ap, sym, ◌∙◌, subst, inl, inr, arith}
 use Rattle.std.specs.Prelude.{slice_get, pos, option_map, chars}
 use Rattle.std.specs.Option.{option_and_then}
 use Rattle.std.proofs.Math.Bridge.{le_prop}
@@ -15,16 +15,18 @@ use Rattle.panels.specs.declared.panel.Content.{Content}
 use Rattle.panels.specs.declared.panel.Content.TheVariants.{Literal, Show}
 use Rattle.panels.specs.declared.panel.Field.{Field as FieldItem}
 use Rattle.panels.specs.declared.panel.TextItem.{TextItem}
+use Rattle.panels.specs.declared.panel.Value.{Value as ValueItem}
 use Rattle.panels.specs.declared.fault.Location.{Location}
 use Rattle.panels.specs.declared.fault.Location.TheVariants.{Panel, Field}
 use Rattle.panels.specs.Characters.{codes_of}
-use Rattle.panels.specs.Defines.{Defines, DefinesOnce, IsContentOf, IsCursorBy, IsEachOf, IsFieldNamed, IsFieldOf, IsOtherwiseBy, IsPanelNamed, IsPanelOf, IsTargetBy, IsTextOf, fields_before, text_at_key}
-use Rattle.panels.specs.Draft.{DraftItem, DraftPanel, DraftText, draft_of, draft_size, otherwise_of}
+use Rattle.panels.specs.Defines.{AreTextsOf, Defines, DefinesOnce, IsContentOf, IsCursorBy, IsEachOf, IsFieldNamed, IsFieldOf, IsOtherwiseBy, IsPanelNamed, IsPanelOf, IsShownOf, IsTargetBy, IsTextOf, IsValueOf, fields_before, first_value, text_at_key}
+use Rattle.panels.specs.Draft.{DraftItem, DraftPanel, DraftText, draft_of, draft_size, fields_of, otherwise_of, values_of}
 use Rattle.panels.specs.Faults.{IsBasePanelNamed, IsNamedBefore, name_at}
 use Rattle.panels.specs.Items.{IsExtentOf}
 use Rattle.panels.specs.Keys.{IsKey, name_of_key}
 use Rattle.panels.specs.Panel.{PanelParts, Panels, target_at, target_of}
 use Rattle.panels.specs.Passes.{IsFaultless}
+use Rattle.panels.proofs.Dividing.{field_there}
 use Rattle.panels.proofs.Faultless.{draft_of_each, named_is_part, no_fault}
 use Rattle.panels.proofs.Naming.{twice_named}
 
@@ -107,7 +109,7 @@ same_extent first second size other begin same a b c d e f =
 same_number : (m n : ℕ) → pos m ≡ pos n → m ≡ n
 same_number m n same = cc
 
-one_extent : (shape : ScreenSize) (item : DraftItem) (one other : Extent) → IsExtentOf shape item one → IsExtentOf shape item other → one ≡ other
+pub one_extent : (shape : ScreenSize) (item : DraftItem) (one other : Extent) → IsExtentOf shape item one → IsExtentOf shape item other → one ≡ other
 one_extent shape item one other is also =
     let first : one.first ≡ other.first = same_number one.first other.first (is.0 ∙ sym also.0) in
     let size : one.length ≡ other.length = same_number one.length other.length (is.1 ∙ sym also.1) in
@@ -131,32 +133,58 @@ one_text shape draft item one other clean is also =
     ∙ ap (λ bright. text_item other.extent bright one.content) (is.bright ∙ sym also.bright)
     ∙ ap (λ content. text_item other.extent other.bright content) (one_content draft item one.content other.content clean is.content also.content)
 
-abbrev field_item : ℕ → List ℕ → Extent → Bool → Bool → Bool → Bool → List ℕ → FieldItem
-field_item number name extent numeric hidden required marked fill =
-    record { number = number; name = name; extent = extent; numeric = numeric; hidden = hidden; required = required; marked = marked; fill = fill }
+abbrev field_item : ℕ → List ℕ → List ℕ → Extent → Bool → Bool → Bool → Bool → List ℕ → FieldItem
+field_item number name title extent numeric hidden required marked fill =
+    record { number = number; name = name; title = title; extent = extent; numeric = numeric; hidden = hidden; required = required; marked = marked; fill = fill }
 
 one_field : (shape : ScreenSize) (n : ℕ) (item : DraftItem) (one other : FieldItem) → IsFieldOf shape n item one → IsFieldOf shape n item other → one ≡ other
 one_field shape n item one other is also =
-    ap (λ number. field_item number one.name one.extent one.numeric one.hidden one.required one.marked one.fill) (is.number ∙ sym also.number)
-    ∙ ap (λ name. field_item other.number name one.extent one.numeric one.hidden one.required one.marked one.fill) (is.name ∙ sym also.name)
-    ∙ ap (λ extent. field_item other.number other.name extent one.numeric one.hidden one.required one.marked one.fill) (one_extent shape item one.extent other.extent is.extent also.extent)
-    ∙ ap (λ numeric. field_item other.number other.name other.extent numeric one.hidden one.required one.marked one.fill) (is.numeric ∙ sym also.numeric)
-    ∙ ap (λ hidden. field_item other.number other.name other.extent other.numeric hidden one.required one.marked one.fill) (is.hidden ∙ sym also.hidden)
-    ∙ ap (λ required. field_item other.number other.name other.extent other.numeric other.hidden required one.marked one.fill) (is.required ∙ sym also.required)
-    ∙ ap (λ marked. field_item other.number other.name other.extent other.numeric other.hidden other.required marked one.fill) (is.marked ∙ sym also.marked)
-    ∙ ap (λ fill. field_item other.number other.name other.extent other.numeric other.hidden other.required other.marked fill) (is.fill ∙ sym also.fill)
+    ap (λ number. field_item number one.name one.title one.extent one.numeric one.hidden one.required one.marked one.fill) (is.number ∙ sym also.number)
+    ∙ ap (λ name. field_item other.number name one.title one.extent one.numeric one.hidden one.required one.marked one.fill) (is.name ∙ sym also.name)
+    ∙ ap (λ title. field_item other.number other.name title one.extent one.numeric one.hidden one.required one.marked one.fill) (is.title ∙ sym also.title)
+    ∙ ap (λ extent. field_item other.number other.name other.title extent one.numeric one.hidden one.required one.marked one.fill) (one_extent shape item one.extent other.extent is.extent also.extent)
+    ∙ ap (λ numeric. field_item other.number other.name other.title other.extent numeric one.hidden one.required one.marked one.fill) (is.numeric ∙ sym also.numeric)
+    ∙ ap (λ hidden. field_item other.number other.name other.title other.extent other.numeric hidden one.required one.marked one.fill) (is.hidden ∙ sym also.hidden)
+    ∙ ap (λ required. field_item other.number other.name other.title other.extent other.numeric other.hidden required one.marked one.fill) (is.required ∙ sym also.required)
+    ∙ ap (λ marked. field_item other.number other.name other.title other.extent other.numeric other.hidden other.required marked one.fill) (is.marked ∙ sym also.marked)
+    ∙ ap (λ fill. field_item other.number other.name other.title other.extent other.numeric other.hidden other.required other.marked fill) (is.fill ∙ sym also.fill)
+
+abbrev value_item : ℕ → List ℕ → Extent → ValueItem
+value_item number name extent = record { number = number; name = name; extent = extent }
+
+one_value : (shape : ScreenSize) (n : ℕ) (item : DraftItem) (one other : ValueItem) → IsValueOf shape n item one → IsValueOf shape n item other → one ≡ other
+one_value shape n item one other is also =
+    ap (λ number. value_item number one.name one.extent) (is.number ∙ sym also.number) ∙ ap (λ name. value_item other.number name one.extent) (is.name ∙ sym also.name)
+    ∙ ap (λ extent. value_item other.number other.name extent) (one_extent shape item one.extent other.extent is.extent also.extent)
+
+one_shown : (shape : ScreenSize) (n : ℕ) (item : DraftItem) (one other : TextItem) → IsShownOf shape n item one → IsShownOf shape n item other → one ≡ other
+one_shown shape n item one other is also =
+    ap (λ extent. text_item extent one.bright one.content) (one_extent shape item one.extent other.extent is.extent also.extent)
+    ∙ ap (λ bright. text_item other.extent bright one.content) (is.bright ∙ sym also.bright)
+    ∙ ap (λ content. text_item other.extent other.bright content) (is.content ∙ sym also.content)
+
+one_list_of_texts : (draft : DraftText) (panel : DraftPanel) (p : ℕ) (one other : List TextItem) → IsFaultless draft → AreTextsOf draft.panels p panel one → AreTextsOf draft.panels p panel other
+    → one ≡ other
+one_list_of_texts draft panel p one other clean is also =
+    let shape = draft_size panel in
+    let own =
+    one_each (λ i. IsTextOf shape draft.panels) panel.texts is.own also.own is.are_own also.are_own (λ i item x y at_i of also_of. one_text shape draft item x y clean of also_of) in
+    let shown =
+    one_each (λ i. IsShownOf shape (first_value p draft.panels panel + i)) (values_of panel) is.shown also.shown is.are_shown also.are_shown
+    (λ i item x y at_i of also_of. one_shown shape (first_value p draft.panels panel + i) item x y of also_of) in
+    is.all ∙ ap (λ list. list ++ is.shown) own ∙ ap (λ list. also.own ++ list) shown ∙ sym also.all
 
 -- ---- the cursor
 
 has_name : (shape : ScreenSize) (draft : DraftText) (panel : DraftPanel) (p i : ℕ) (name : List ℕ) (fields : List FieldItem) (field : FieldItem) → slice_get draft.panels p ≡ Some panel
-    → IsEachOf (λ i. IsFieldOf shape (fields_before p draft.panels + i)) panel.fields fields → slice_get fields i ≡ Some field → field.name ≡ name → name_at (Field p i) draft.panels ≡ Some name
+    → IsEachOf (λ i. IsFieldOf shape (fields_before p draft.panels + i)) (fields_of panel) fields → slice_get fields i ≡ Some field → field.name ≡ name → name_at (Field p i) draft.panels ≡ Some name
 has_name shape draft panel p i name fields field there are at_i named =
-    let (item, inside, is) = draft_of_each (λ i. IsFieldOf shape (fields_before p draft.panels + i)) panel.fields fields i field are at_i in
+    let (item, inside, is) = draft_of_each (λ i. IsFieldOf shape (fields_before p draft.panels + i)) (fields_of panel) fields i field are at_i in
     ap (λ o. option_map (λ (f : DraftItem). f.name) (option_and_then (λ (panel : DraftPanel). slice_get panel.fields i) o)) there
-    ∙ ap (option_map (λ (f : DraftItem). f.name)) inside ∙ ap Some (sym is.name ∙ named)
+    ∙ ap (option_map (λ (f : DraftItem). f.name)) (field_there panel i item inside) ∙ ap Some (sym is.name ∙ named)
 
 one_cursor : (shape : ScreenSize) (draft : DraftText) (panel : DraftPanel) (p : ℕ) (name : Option (List ℕ)) (fields : List FieldItem) (one other : ℕ) → IsFaultless draft → slice_get draft.panels p ≡ Some panel
-    → IsEachOf (λ i. IsFieldOf shape (fields_before p draft.panels + i)) panel.fields fields → IsCursorBy name fields one → IsCursorBy name fields other → one ≡ other
+    → IsEachOf (λ i. IsFieldOf shape (fields_before p draft.panels + i)) (fields_of panel) fields → IsCursorBy name fields one → IsCursorBy name fields other → one ≡ other
 one_cursor shape draft panel p None [] one other clean there are is also = is ∙ sym also
 one_cursor shape draft panel p None (first ∷ more) one other clean there are is also = is ∙ sym also
 one_cursor shape draft panel p (Some name) fields one other clean there are (i, field, at_i, named, is) (j, rival, at_j, called, also) =
@@ -220,32 +248,35 @@ one_list_of_targets draft panel p one other clean is also =
 
 -- ---- panels
 
-abbrev panel_parts : List ℕ → Model → Option ℕ → List TextItem → List FieldItem → ℕ → List (Option ℕ) → List Bool → Bool → PanelParts
-panel_parts name model otherwise texts fields cursor targets asked at_connect =
-    record { name = name; model = model; otherwise = otherwise; texts = texts; fields = fields; cursor = cursor; targets = targets; asked = asked; asked_at_connect = at_connect }
+abbrev panel_parts : List ℕ → Model → Option ℕ → List TextItem → List FieldItem → List ValueItem → ℕ → List (Option ℕ) → List Bool → Bool → PanelParts
+panel_parts name model otherwise texts fields values cursor targets asked at_connect =
+    record { name = name; model = model; otherwise = otherwise; texts = texts; fields = fields; values = values; cursor = cursor; targets = targets; asked = asked; asked_at_connect = at_connect }
 
 one_panel : (draft : DraftText) (panel : DraftPanel) (p : ℕ) (one other : PanelParts) → IsFaultless draft → slice_get draft.panels p ≡ Some panel → IsPanelOf draft.panels p panel one
     → IsPanelOf draft.panels p panel other → one ≡ other
 one_panel draft panel p one other clean there is also =
     let shape = draft_size panel in
-    let texts : one.texts ≡ other.texts =
-    one_each (λ i. IsTextOf shape draft.panels) panel.texts one.texts other.texts is.texts also.texts (λ i item x y at_i of also_of. one_text shape draft item x y clean of also_of) in
+    let texts : one.texts ≡ other.texts = one_list_of_texts draft panel p one.texts other.texts clean is.texts also.texts in
+    let values : one.values ≡ other.values =
+    one_each (λ i. IsValueOf shape (first_value p draft.panels panel + i)) (values_of panel) one.values other.values is.values also.values
+    (λ i item x y at_i of also_of. one_value shape (first_value p draft.panels panel + i) item x y of also_of) in
     let fields : one.fields ≡ other.fields =
-    one_each (λ i. IsFieldOf shape (fields_before p draft.panels + i)) panel.fields one.fields other.fields is.fields also.fields
+    one_each (λ i. IsFieldOf shape (fields_before p draft.panels + i)) (fields_of panel) one.fields other.fields is.fields also.fields
     (λ i item x y at_i of also_of. one_field shape (fields_before p draft.panels + i) item x y of also_of) in
     let cursor : one.cursor ≡ other.cursor =
     one_cursor shape draft panel p panel.cursor one.fields one.cursor other.cursor clean there is.fields is.cursor
     (subst (λ list. IsCursorBy panel.cursor list other.cursor) (sym fields) also.cursor) in
     let otherwise : one.otherwise ≡ other.otherwise = one_otherwise draft (otherwise_of panel) one.otherwise other.otherwise clean is.otherwise also.otherwise in
-    ap (λ name. panel_parts name one.model one.otherwise one.texts one.fields one.cursor one.targets one.asked one.asked_at_connect) (is.name ∙ sym also.name)
-    ∙ ap (λ model. panel_parts other.name model one.otherwise one.texts one.fields one.cursor one.targets one.asked one.asked_at_connect) (is.model ∙ sym also.model)
-    ∙ ap (λ place. panel_parts other.name other.model place one.texts one.fields one.cursor one.targets one.asked one.asked_at_connect) otherwise
-    ∙ ap (λ list. panel_parts other.name other.model other.otherwise list one.fields one.cursor one.targets one.asked one.asked_at_connect) texts
-    ∙ ap (λ list. panel_parts other.name other.model other.otherwise other.texts list one.cursor one.targets one.asked one.asked_at_connect) fields
-    ∙ ap (λ place. panel_parts other.name other.model other.otherwise other.texts other.fields place one.targets one.asked one.asked_at_connect) cursor
-    ∙ ap (λ list. panel_parts other.name other.model other.otherwise other.texts other.fields other.cursor list one.asked one.asked_at_connect) (one_list_of_targets draft panel p one other clean is also)
-    ∙ ap (λ list. panel_parts other.name other.model other.otherwise other.texts other.fields other.cursor other.targets list one.asked_at_connect) (is.asked ∙ sym also.asked)
-    ∙ ap (panel_parts other.name other.model other.otherwise other.texts other.fields other.cursor other.targets other.asked) (is.asked_at_connect ∙ sym also.asked_at_connect)
+    ap (λ it. panel_parts it one.model one.otherwise one.texts one.fields one.values one.cursor one.targets one.asked one.asked_at_connect) (is.name ∙ sym also.name)
+    ∙ ap (λ it. panel_parts other.name it one.otherwise one.texts one.fields one.values one.cursor one.targets one.asked one.asked_at_connect) (is.model ∙ sym also.model)
+    ∙ ap (λ it. panel_parts other.name other.model it one.texts one.fields one.values one.cursor one.targets one.asked one.asked_at_connect) otherwise
+    ∙ ap (λ it. panel_parts other.name other.model other.otherwise it one.fields one.values one.cursor one.targets one.asked one.asked_at_connect) texts
+    ∙ ap (λ it. panel_parts other.name other.model other.otherwise other.texts it one.values one.cursor one.targets one.asked one.asked_at_connect) fields
+    ∙ ap (λ it. panel_parts other.name other.model other.otherwise other.texts other.fields it one.cursor one.targets one.asked one.asked_at_connect) values
+    ∙ ap (λ it. panel_parts other.name other.model other.otherwise other.texts other.fields other.values it one.targets one.asked one.asked_at_connect) cursor
+    ∙ ap (λ it. panel_parts other.name other.model other.otherwise other.texts other.fields other.values other.cursor it one.asked one.asked_at_connect) (one_list_of_targets draft panel p one other clean is also)
+    ∙ ap (λ it. panel_parts other.name other.model other.otherwise other.texts other.fields other.values other.cursor other.targets it one.asked_at_connect) (is.asked ∙ sym also.asked)
+    ∙ ap (λ it. panel_parts other.name other.model other.otherwise other.texts other.fields other.values other.cursor other.targets other.asked it) (is.asked_at_connect ∙ sym also.asked_at_connect)
 
 abbrev panel_set : ℕ → List (List ℕ) → List PanelParts → Panels
 panel_set start lus panels = record { start = start; lus = lus; panels = panels }

@@ -7,7 +7,7 @@ use Rattle.std.proofs.lemmas.Option.{slice_get-get_or, slice_get_within}
 use Rattle.panels.specs.declared.fault.TreeFault.{TreeFault}
 use Rattle.panels.specs.declared.fault.TreeFault.TheVariants as fault
 use Rattle.panels.specs.declared.fault.Location.{Location}
-use Rattle.panels.specs.declared.fault.Location.TheVariants.{Top, Panel, Text, Field, Keys}
+use Rattle.panels.specs.declared.fault.Location.TheVariants.{Top, Panel, Text, Field, Value, Keys}
 use Rattle.codes3270.specs.Size.{model_2}
 use Rattle.panels.specs.Draft.{DraftItem, DraftPanel, DraftText, draft_size}
 use Rattle.panels.specs.Items.{is_on_screen, is_in_place}
@@ -25,6 +25,7 @@ item_is_part (Panel p) panels item there = cc
 item_is_part (Text p i) panels item there = ap is_some there
 item_is_part (Field p i) panels item there = ap is_some there
 item_is_part (Keys p) panels item there = cc
+item_is_part (Value p i) panels item there = cc
 
 mapped : {X Y : Type 0} (f : X → Y) (o : Option X) (y : Y) → option_map f o ≡ Some y → is_some o ≡ true
 mapped f None y is = cc
@@ -36,6 +37,7 @@ named_is_part (Panel p) panels name is = mapped (λ panel. panel.name) (slice_ge
 named_is_part (Text p i) panels name is = cc
 named_is_part (Field p i) panels name is = mapped (λ field. field.name) (item_at (Field p i) panels) name is
 named_is_part (Keys p) panels name is = cc
+named_is_part (Value p i) panels name is = cc
 
 misplaced : (b c : Bool) → b ≡ false → not (b && c) ≡ true
 misplaced b c is = rw is refl

@@ -7,7 +7,7 @@ use Rattle.std.proofs.lemmas.Bool.{cases_Bool, false≢true}
 use Rattle.std.proofs.lemmas.Option.{same_Some, slice_get_within}
 use Rattle.std.proofs.lemmas.Slice.Eq.{bytes_eq-Decides}
 use Rattle.panels.specs.declared.fault.Location.{Location}
-use Rattle.panels.specs.declared.fault.Location.TheVariants.{Top, Panel, Text, Field, Keys}
+use Rattle.panels.specs.declared.fault.Location.TheVariants.{Top, Panel, Text, Field, Value, Keys}
 use Rattle.panels.specs.Draft.{DraftItem, DraftPanel}
 use Rattle.panels.specs.Faults.{IsNamedBefore, name_at}
 use Rattle.panels.specs.Index.{NameIndex, part_named, noted, HasFirstOf, IsIndexTo}
@@ -103,6 +103,7 @@ panel_split p (Panel q) before = elim (below_or_at q p before) [ inl less ↦ in
 panel_split p (Text q i) before = absurd before
 panel_split p (Field q i) before = absurd before
 panel_split p (Keys q) before = absurd before
+panel_split p (Value q i) before = absurd before
 
 panel_grows : (p : ℕ) (part : Location) → IsNamedBefore part (Panel p) → IsNamedBefore part (Panel (p + 1))
 panel_grows p Top before = absurd before
@@ -110,6 +111,7 @@ panel_grows p (Panel q) before = omega arith
 panel_grows p (Text q i) before = absurd before
 panel_grows p (Field q i) before = absurd before
 panel_grows p (Keys q) before = absurd before
+panel_grows p (Value q i) before = absurd before
 
 pub panel_step : (panels : List DraftPanel) (p : ℕ) (old new : NameIndex) (draft : DraftPanel) → slice_get panels p ≡ Some draft
     → ((other : List ℕ) → part_named new other ≡ noted (part_named old) draft.name (Panel p) other) → IsIndexTo panels (Panel p) old → IsIndexTo panels (Panel (p + 1)) new
@@ -122,6 +124,7 @@ field_split p i Top before = absurd before
 field_split p i (Panel q) before = absurd before
 field_split p i (Text q j) before = absurd before
 field_split p i (Keys q) before = absurd before
+field_split p i (Value q j) before = absurd before
 field_split p i (Field q j) before =
     elim before [
       | inl less ↦ inl (inl less)
@@ -136,6 +139,7 @@ field_grows p i Top before = absurd before
 field_grows p i (Panel q) before = absurd before
 field_grows p i (Text q j) before = absurd before
 field_grows p i (Keys q) before = absurd before
+field_grows p i (Value q j) before = absurd before
 field_grows p i (Field q j) before =
     elim before [
       | inl less ↦ inl less
@@ -162,6 +166,7 @@ over_split panels p n name Top all has before = absurd before
 over_split panels p n name (Panel q) all has before = absurd before
 over_split panels p n name (Text q j) all has before = absurd before
 over_split panels p n name (Keys q) all has before = absurd before
+over_split panels p n name (Value q i) all has before = absurd before
 over_split panels p n name (Field q j) all has before =
     elim before [
       | inl less ↦ elim (below_or_at q p less) [
@@ -176,6 +181,7 @@ over_grows p n Top before = absurd before
 over_grows p n (Panel q) before = absurd before
 over_grows p n (Text q j) before = absurd before
 over_grows p n (Keys q) before = absurd before
+over_grows p n (Value q i) before = absurd before
 over_grows p n (Field q j) before =
     elim before [
       | inl less ↦
@@ -214,12 +220,14 @@ nothing_before_panel (Panel q) before = omega arith
 nothing_before_panel (Text q i) before = before
 nothing_before_panel (Field q i) before = before
 nothing_before_panel (Keys q) before = before
+nothing_before_panel (Value q i) before = before
 
 nothing_before_field : (part : Location) → IsNamedBefore part (Field 0 0) → ⊥
 nothing_before_field Top before = before
 nothing_before_field (Panel q) before = before
 nothing_before_field (Text q i) before = before
 nothing_before_field (Keys q) before = before
+nothing_before_field (Value q i) before = before
 nothing_before_field (Field q i) before = elim before [ inl less ↦ omega arith | inr same ↦ let none : i < 0 = same.1 in omega arith ]
 
 pub no_panels_named : (panels : List DraftPanel) (index : NameIndex) → ((name : List ℕ) → part_named index name ≡ None) → IsIndexTo panels (Panel 0) index

@@ -48,7 +48,7 @@ last_cell extent =
 
 -- ---- a cell of a kept field
 
-three : (i j : ℕ) → (i < j) ⊎ ((j < i) ⊎ (i ≡ j))
+pub three : (i j : ℕ) → (i < j) ⊎ ((j < i) ⊎ (i ≡ j))
 three i j = grind arith
 
 -- no other field has it

@@ -1,4 +1,6 @@
 pub mod Trees
+pub mod Copies
+pub mod Dividing
 pub mod Turning
 pub mod Building
 pub mod Codes
@@ -18,6 +20,7 @@ pub mod MessageRow
 pub mod Answering
 pub mod KeptFields
 pub mod FieldsWanted
+pub mod TextsWanted
 pub mod NothingElseKept
 pub mod DefinedOnce
 pub mod Setting

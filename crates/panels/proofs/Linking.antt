@@ -1,5 +1,5 @@
 -- The panels and fields that names stand for.
-use Rattle.std.proofs.Common.{◌≡◌, ◌<◌, ◌+◌, ◌*◌, ℕ, suc, List, [], ◌∷◌, Bor, Bool, true, false, cond, length, map, Option, Some, None, get_or, refl, ap, sym, ◌∙◌, subst, add-one, arith}
+use Rattle.std.proofs.Common.{◌≡◌, ◌<◌, ◌≤◌, ◌+◌, ◌*◌, ℕ, suc, List, [], ◌∷◌, Bor, Bool, true, false, cond, length, map, Option, Some, None, get_or, refl, ap, sym, ◌∙◌, subst, add-one, arith}
 use Rattle.std.specs.Prelude.{find, option_copied, slice_get, unwrap_or, MatchOption, Contains, All, IfSome, option_map, bytes_eq, if◌then◌else◌}
 use Rattle.std.specs.Option.{option_and_then, option_map_or}
 use Rattle.std.proofs.lemmas.Bool.{false≢true}
@@ -12,7 +12,7 @@ use Rattle.panels.specs.declared.panel.Field.{Field as FieldItem}
 use Rattle.panels.specs.declared.fault.Location.TheVariants.{Text, Field}
 use Rattle.panels.specs.Keys.{key_names}
 use Rattle.panels.specs.Limits.{most_panels, most_fields}
-use Rattle.panels.specs.Draft.{DraftItem, DraftPanel, DraftText, draft_size, otherwise_of}
+use Rattle.panels.specs.Draft.{DraftItem, DraftPanel, DraftText, draft_size, field_count, fields_of, otherwise_of, values_of}
 use Rattle.panels.specs.Faults.{name_at, NamesPanel, NamesBasePanel, IsBasePanelNamed}
 use Rattle.panels.specs.Items.{is_on_screen}
 use Rattle.panels.specs.Building.{IsTextIn, AreTargetsOf}
@@ -20,6 +20,7 @@ use Rattle.panels.specs.Defines.{IsFieldOf, IsEachOf, IsPanelNamed, IsCursorBy, 
 use Rattle.panels.specs.Passes.{IsFaultless}
 use Rattle.panels.proofs.Sound.{few_panels, few_fields, before_few, cursor_is_there, otherwise_is_there, target_is_there}
 use Rattle.panels.proofs.Building.{AreBuilt}
+use Rattle.panels.proofs.Dividing.{field_at, value_at}
 use Rattle.panels.proofs.Faultless.{on_screen, text_shape, field_shape, there_in}
 
 pub contained_at : {X : Type 0} (xs : List X) (i : ℕ) (x : X) → slice_get xs i ≡ Some x → Contains xs x
@@ -72,10 +73,26 @@ text_on_screen draft panel i item clean has there =
     (on_screen draft (Text p i) item clean (ap (option_and_then (λ panel. slice_get panel.texts i)) at_p ∙ there))
 
 pub field_on_screen : (draft : DraftText) (panel : DraftPanel) (p i : ℕ) (item : DraftItem) → IsFaultless draft → slice_get draft.panels p ≡ Some panel
-    → slice_get panel.fields i ≡ Some item → is_on_screen (draft_size panel) item ≡ true
+    → slice_get (fields_of panel) i ≡ Some item → is_on_screen (draft_size panel) item ≡ true
 field_on_screen draft panel p i item clean at_p there =
     subst (λ s. is_on_screen s item ≡ true) (field_shape draft.panels panel p i at_p)
-    (on_screen draft (Field p i) item clean (ap (option_and_then (λ panel. slice_get panel.fields i)) at_p ∙ there))
+    (on_screen draft (Field p i) item clean (field_at draft.panels panel p i item at_p there))
+
+pub value_on_screen : (draft : DraftText) (panel : DraftPanel) (p i : ℕ) (item : DraftItem) → IsFaultless draft → slice_get draft.panels p ≡ Some panel
+    → slice_get (values_of panel) i ≡ Some item → is_on_screen (draft_size panel) item ≡ true
+value_on_screen draft panel p i item clean at_p there =
+    subst (λ s. is_on_screen s item ≡ true) (field_shape draft.panels panel p (field_count panel.fields + i) at_p)
+    (on_screen draft (Field p (field_count panel.fields + i)) item clean (value_at draft.panels panel p i item at_p there))
+
+-- the number of a panel's first value is small
+pub first_value_few : (draft : DraftText) (panel : DraftPanel) (p : ℕ) → IsFaultless draft → slice_get draft.panels p ≡ Some panel
+    → fields_before p draft.panels + length panel.fields ≤ most_fields * most_panels
+first_value_few draft panel p clean there =
+    let below = slice_get_within draft.panels p panel there in
+    let panels = few_panels draft clean in
+    let fields = few_fields draft panel p clean there in
+    let before = before_few draft p clean in
+    omega arith
 
 -- the text at the first of a panel's keys with a name
 abbrev pub Key : Type 0
@@ -103,17 +120,17 @@ key_searched name read keys all found same is first =
 
 -- of the fields that are built one has the cursor's name
 pub cursor_is_named : (shape : ScreenSize) (draft : DraftText) (panel : DraftPanel) (p : ℕ) (name : List ℕ) (fields : List FieldItem) → IsFaultless draft → slice_get draft.panels p ≡ Some panel
-    → IsEachOf (λ i. IsFieldOf shape (fields_before p draft.panels + i)) panel.fields fields → panel.cursor ≡ Some name → ¬ All (λ field. ¬ (field.name ≡ name)) fields
+    → IsEachOf (λ i. IsFieldOf shape (fields_before p draft.panels + i)) (fields_of panel) fields → panel.cursor ≡ Some name → ¬ All (λ field. ¬ (field.name ≡ name)) fields
 cursor_is_named shape draft panel p name fields clean there are named = λ none.
     cursor_is_there draft panel p name clean there named (λ (i, item, at_i, is).
-    let below : i < length fields = omega (arith, slice_get_within panel.fields i item at_i, are.size) in
+    let below : i < length fields = omega (arith, slice_get_within (fields_of panel) i item at_i, are.size) in
     let (field, found) = there_in fields i below in
     let its = are.are i item field at_i found in
     let read : get_or fields i field ≡ field = get_or_from_slice_get fields i field field found in
     none i field below (ap (λ (field : FieldItem). field.name) read ∙ its.name ∙ is))
 
 pub cursor_given : (shape : ScreenSize) (draft : DraftText) (panel : DraftPanel) (p : ℕ) (cursor : Option (Bor (List ℕ))) (fields : List FieldItem) → IsFaultless draft
-    → slice_get draft.panels p ≡ Some panel → IsEachOf (λ i. IsFieldOf shape (fields_before p draft.panels + i)) panel.fields fields → option_map (λ name. name.now) cursor ≡ panel.cursor
+    → slice_get draft.panels p ≡ Some panel → IsEachOf (λ i. IsFieldOf shape (fields_before p draft.panels + i)) (fields_of panel) fields → option_map (λ name. name.now) cursor ≡ panel.cursor
     → IfSome cursor (λ name. ¬ All (λ field. ¬ (field.name ≡ name.now)) fields)
 cursor_given shape draft panel p None fields clean there are same = tt
 cursor_given shape draft panel p (Some name) fields clean there are same = cursor_is_named shape draft panel p name.now fields clean there are (sym same)

@@ -3,15 +3,15 @@ use Rattle.std.proofs.Common.{◌≡◌, ◌<◌, ◌+◌, ◌-◌, ◌||◌, �
 use Rattle.std.specs.List.{list_any}
 use Rattle.std.specs.Prelude.{bytes_eq, ◌⊎◌, ◌≢◌, IsTrue, MatchOption, is_some, slice_get, option_map, Contains}
 use Rattle.std.specs.Option.{option_and_then, option_map_or}
-use Rattle.std.proofs.lemmas.Bool.{false≢true}
+use Rattle.std.proofs.lemmas.Bool.{cases_order, false≢true}
 use Rattle.std.proofs.lemmas.List.{drop_more, take_rest}
 use Rattle.std.proofs.lemmas.Option.{none-some, same_Some, slice_get_within}
 use Rattle.panels.specs.declared.fault.TreeFault.{TreeFault}
 use Rattle.panels.specs.declared.fault.TreeFault.TheVariants.{BadName, NoTarget}
 use Rattle.panels.specs.declared.fault.Location.{Location}
-use Rattle.panels.specs.declared.fault.Location.TheVariants.{Top, Panel, Text, Field, Keys}
+use Rattle.panels.specs.declared.fault.Location.TheVariants.{Top, Panel, Text, Field, Value, Keys}
 use Rattle.panels.specs.Draft.{DraftItem, DraftPanel, DraftText}
-use Rattle.panels.specs.Faults.{HasFault, HasLostCursor, HasLostOtherwise, asks_twice, has_bad_name, IsNamedBefore, IsNamedTwice, IsTwiceNamed, NamesPanel, NamesField, name_at}
+use Rattle.panels.specs.Faults.{HasFault, HasLostCursor, HasLostOtherwise, asks_twice, has_bad_name, IsNamedBefore, IsNamedTwice, IsTwiceNamed, NamesPanel, NamesField, NamesItem, IsFirstNamed, item_at, name_at, stem_at}
 use Rattle.panels.specs.Index.{NameIndex, part_named, IsLater, IsIndexTo}
 use Rattle.panels.specs.Items.{is_name}
 use Rattle.panels.specs.Walk.{is_letter_of}
@@ -22,6 +22,7 @@ before_itself (Panel p) before = omega arith
 before_itself (Text p i) before = before
 before_itself (Field p i) before = elim before [ inl less ↦ omega arith | inr same ↦ let less : i < i = same.1 in omega arith ]
 before_itself (Keys p) before = before
+before_itself (Value p i) before = before
 
 fields_through : (p i q j r k : ℕ) → (p < q) ⊎ ((p ≡ q) × (i < j)) → (q < r) ⊎ ((q ≡ r) × (j < k)) → (p < r) ⊎ ((p ≡ r) × (i < k))
 fields_through p i q j r k first second =
@@ -40,23 +41,28 @@ pub before_through : (a b c : Location) → IsNamedBefore a b → IsNamedBefore 
 before_through Top b c first second = absurd first
 before_through (Text p i) b c first second = absurd first
 before_through (Keys p) b c first second = absurd first
+before_through (Value p i) b c first second = absurd first
 before_through (Panel p) Top c first second = absurd first
 before_through (Panel p) (Text q j) c first second = absurd first
 before_through (Panel p) (Field q j) c first second = absurd first
 before_through (Panel p) (Keys q) c first second = absurd first
+before_through (Panel p) (Value q i) c first second = absurd first
 before_through (Panel p) (Panel q) Top first second = absurd second
 before_through (Panel p) (Panel q) (Text r k) first second = absurd second
 before_through (Panel p) (Panel q) (Field r k) first second = absurd second
 before_through (Panel p) (Panel q) (Keys r) first second = absurd second
+before_through (Panel p) (Panel q) (Value r i) first second = absurd second
 before_through (Panel p) (Panel q) (Panel r) first second = omega arith
 before_through (Field p i) Top c first second = absurd first
 before_through (Field p i) (Panel q) c first second = absurd first
 before_through (Field p i) (Text q j) c first second = absurd first
 before_through (Field p i) (Keys q) c first second = absurd first
+before_through (Field p i) (Value q j) c first second = absurd first
 before_through (Field p i) (Field q j) Top first second = absurd second
 before_through (Field p i) (Field q j) (Panel r) first second = absurd second
 before_through (Field p i) (Field q j) (Text r k) first second = absurd second
 before_through (Field p i) (Field q j) (Keys r) first second = absurd second
+before_through (Field p i) (Field q j) (Value r k) first second = absurd second
 before_through (Field p i) (Field q j) (Field r k) first second = fields_through p i q j r k first second
 
 not_itself : (first part : Location) → IsNamedBefore first part → first ≢ part
@@ -114,8 +120,9 @@ pub twice_named : (part : Location) (panels : List DraftPanel) → IsNamedTwice 
 twice_named Top panels is = is
 twice_named (Panel p) panels is = is
 twice_named (Text p i) panels is = is
-twice_named (Field p i) panels is = is
+twice_named (Field p i) panels is = inl is
 twice_named (Keys p) panels (earlier, name, before, has, own) = absurd (none-some name own)
+twice_named (Value p i) panels (earlier, name, before, has, own) = absurd (none-some name own)
 
 abbrev pub IsTwiceBy : List DraftPanel → NameIndex → Location → Type 0
 IsTwiceBy panels index part =
@@ -125,9 +132,9 @@ pub panel_is_twice : (panels : List DraftPanel) (part : Location) (p : ℕ) (ind
 panel_is_twice panels part p index same is =
     subst (IsTwiceBy panels index) (sym same) (is_twice panels (Panel p) (Panel (length panels)) index is (λ name has. panel_ends panels p name has))
 
-pub field_is_twice : (panels : List DraftPanel) (part : Location) (p i : ℕ) (index : NameIndex) → part ≡ Field p i → IsIndexTo panels (Field (length panels) 0) index → IsTwiceBy panels index part
-field_is_twice panels part p i index same is =
-    subst (IsTwiceBy panels index) (sym same) (is_twice panels (Field p i) (Field (length panels) 0) index is (λ name has. field_ends panels p i name has))
+pub field_is_twice : (panels : List DraftPanel) (p i : ℕ) (index : NameIndex) → IsIndexTo panels (Field (length panels) 0) index
+    → (IsLater index (name_at (Field p i) panels) (Field p i) → IsNamedTwice (Field p i) panels) × (IsNamedTwice (Field p i) panels → IsLater index (name_at (Field p i) panels) (Field p i))
+field_is_twice panels p i index is = is_twice panels (Field p i) (Field (length panels) 0) index is (λ name has. field_ends panels p i name has)
 
 -- a name that the index doesn't have is of none
 pub no_panel : (panels : List DraftPanel) (index : NameIndex) (name : List ℕ) → IsIndexTo panels (Panel (length panels)) index → part_named index name ≡ None → ¬ NamesPanel name panels
@@ -135,8 +142,8 @@ no_panel panels index name is none (p, has) =
     let known = is.first name (Panel p) has (panel_ends panels p name has) in
     absurd (none-some known.0 (sym none ∙ known.1))
 
-pub no_field : (panels : List DraftPanel) (index : NameIndex) (name : List ℕ) → IsIndexTo panels (Field (length panels) 0) index → part_named index name ≡ None → ¬ NamesField name panels
-no_field panels index name is none (p, i, has) =
+pub no_item : (panels : List DraftPanel) (index : NameIndex) (name : List ℕ) → IsIndexTo panels (Field (length panels) 0) index → part_named index name ≡ None → ¬ NamesItem name panels
+no_item panels index name is none (p, i, has) =
     let known = is.first name (Field p i) has (field_ends panels p i name has) in
     absurd (none-some known.0 (sym none ∙ known.1))
 
@@ -145,9 +152,51 @@ pub panel_found : (panels : List DraftPanel) (index : NameIndex) (name : List �
     → part ≡ Panel p → name_at (Panel p) panels ≡ Some name
 panel_found panels index name part p is found same = subst (λ q. name_at q panels ≡ Some name) same (is.named name part found).0
 
-pub field_found : (panels : List DraftPanel) (index : NameIndex) (name : List ℕ) (part : Location) (p i : ℕ) → IsIndexTo panels (Field (length panels) 0) index → part_named index name ≡ Some part
-    → part ≡ Field p i → name_at (Field p i) panels ≡ Some name
-field_found panels index name part p i is found same = subst (λ q. name_at q panels ≡ Some name) same (is.named name part found).0
+-- of the fields and values with a name the index has the first
+first_found : (panels : List DraftPanel) (index : NameIndex) (name : List ℕ) (part : Location) → IsIndexTo panels (Field (length panels) 0) index → part_named index name ≡ Some part
+    → IsFirstNamed name part panels
+first_found panels index name part is found =
+    let (has, before_end) = is.named name part found in (
+      has,
+      λ earlier before also.
+          let known = is.first name earlier also (before_through earlier part (Field (length panels) 0) before before_end) in
+          let same : known.0 ≡ part = same_Some _ _ (sym known.1 ∙ found) in
+          not_itself known.0 part (or_before known.0 earlier part known.2 before) same,
+    )
+
+pub item_found : (panels : List DraftPanel) (index : NameIndex) (name : List ℕ) (part : Location) (p i : ℕ) → IsIndexTo panels (Field (length panels) 0) index → part_named index name ≡ Some part
+    → part ≡ Field p i → IsFirstNamed name (Field p i) panels
+item_found panels index name part p i is found same = subst (λ q. IsFirstNamed name q panels) same (first_found panels index name part is found)
+
+-- a name of no field or value is of no field
+pub no_field : (panels : List DraftPanel) (name : List ℕ) → ¬ NamesItem name panels → ¬ NamesField name panels
+no_field panels name none named = none (named.p, named.i, named.first.0)
+
+-- a name has one first part
+one_first : (panels : List DraftPanel) (name : List ℕ) (p i q j : ℕ) → IsFirstNamed name (Field p i) panels → IsFirstNamed name (Field q j) panels → (p ≡ q) × (i ≡ j)
+one_first panels name p i q j one other =
+    elim (cases_order p q) [
+      | inr (inl less) ↦ absurd (other.1 (Field p i) (inl less) one.0)
+      | inr (inr more) ↦ absurd (one.1 (Field q j) (inl more) other.0)
+      | inl same ↦ elim (cases_order i j) [
+        | inr (inl less) ↦ absurd (other.1 (Field p i) (inr (same, less)) one.0)
+        | inr (inr more) ↦ absurd (one.1 (Field q j) (inr (sym same, more)) other.0)
+        | inl also ↦ (same, also)
+      ]
+    ]
+
+-- where it is a value, the name is of no field
+pub value_found : (panels : List DraftPanel) (name : List ℕ) (p i : ℕ) (item : DraftItem) → IsFirstNamed name (Field p i) panels → item_at (Field p i) panels ≡ Some item → item.is_value ≡ true
+    → ¬ NamesField name panels
+value_found panels name p i item first at is_value named =
+    let (panel, place) = one_first panels name p i named.p named.i first named.first in
+    let same : item ≡ named.field =
+    same_Some item named.field (sym at ∙ ap (λ r. item_at (Field r i) panels) panel ∙ ap (λ k. item_at (Field named.p k) panels) place ∙ named.there) in
+    false≢true (sym named.is_field ∙ ap (λ (it : DraftItem). it.is_value) (sym same) ∙ is_value)
+
+-- and what has a name is there
+pub named_there : (panels : List DraftPanel) (name : List ℕ) (p i : ℕ) → IsFirstNamed name (Field p i) panels → item_at (Field p i) panels ≡ None → ⊥
+named_there panels name p i first none = none-some name (ap (option_map (λ (field : DraftItem). field.name)) (sym none) ∙ first.0)
 
 pub finds_panel : (panels : List DraftPanel) (index : NameIndex) (name : List ℕ) (part : Location) → IsIndexTo panels (Panel (length panels)) index → part_named index name ≡ Some part
     → ((p : ℕ) → part ≡ Panel p → ⊥) → ⊥
@@ -156,6 +205,7 @@ finds_panel panels index name (Panel p) is found other = other p refl
 finds_panel panels index name (Text p i) is found other = (is.named name (Text p i) found).1
 finds_panel panels index name (Field p i) is found other = (is.named name (Field p i) found).1
 finds_panel panels index name (Keys p) is found other = (is.named name (Keys p) found).1
+finds_panel panels index name (Value p i) is found other = (is.named name (Value p i) found).1
 
 pub finds_field : (panels : List DraftPanel) (index : NameIndex) (name : List ℕ) (part : Location) → IsIndexTo panels (Field (length panels) 0) index → part_named index name ≡ Some part
     → ((p i : ℕ) → part ≡ Field p i → ⊥) → ⊥
@@ -164,6 +214,7 @@ finds_field panels index name (Panel p) is found other = (is.named name (Panel p
 finds_field panels index name (Text p i) is found other = (is.named name (Text p i) found).1
 finds_field panels index name (Field p i) is found other = other p i refl
 finds_field panels index name (Keys p) is found other = (is.named name (Keys p) found).1
+finds_field panels index name (Value p i) is found other = (is.named name (Value p i) found).1
 
 pub map_found : {X Y : Type 0} (f : X → Y) (xs : List X) (i : ℕ) (d : X) → i < length xs → Contains (map f xs) (f (get_or xs i d))
 map_found f [] i d below = absurd (omega arith)
@@ -207,15 +258,16 @@ lost_otherwise draft fault part p panel r of_fault of_part there kept tells =
     ))
 
 -- what the code tells of the name of any part is what is said of panels and fields
-bad_names : (part : Location) (panels : List DraftPanel) → option_map_or (λ name. not (is_name (is_letter_of part) name)) (name_at part panels) false ≡ has_bad_name part panels
+bad_names : (part : Location) (panels : List DraftPanel) → option_map_or (λ name. not (is_name (is_letter_of part) name)) (stem_at part panels) false ≡ has_bad_name part panels
 bad_names Top panels = refl
 bad_names (Panel p) panels = refl
 bad_names (Text p i) panels = refl
 bad_names (Field p i) panels = refl
 bad_names (Keys p) panels = refl
+bad_names (Value p i) panels = refl
 
 pub bad_name : (draft : DraftText) (fault : TreeFault) (part : Location) (r : Bool) → fault ≡ BadName
-    → r ≡ option_map_or (λ name. not (is_name (is_letter_of part) name)) (name_at part draft.panels) false
+    → r ≡ option_map_or (λ name. not (is_name (is_letter_of part) name)) (stem_at part draft.panels) false
     → (IsTrue r → HasFault fault part draft) × (HasFault fault part draft → IsTrue r)
 bad_name draft fault part r of_fault tells =
     subst (λ f. (IsTrue r → HasFault f part draft) × (HasFault f part draft → IsTrue r)) (sym of_fault)

@@ -8,7 +8,7 @@ use Rattle.std.proofs.lemmas.Option.{same_Some, slice_get_within}
 use Rattle.codes3270.specs.Size.{ScreenSize}
 use Rattle.panels.specs.declared.extent.Extent.{Extent}
 use Rattle.panels.specs.declared.fault.Location.{Location}
-use Rattle.panels.specs.declared.fault.Location.TheVariants.{Top, Panel, Text, Field, Keys}
+use Rattle.panels.specs.declared.fault.Location.TheVariants.{Top, Panel, Text, Field, Value, Keys}
 use Rattle.panels.specs.Draft.{DraftItem, DraftPanel}
 use Rattle.panels.specs.Items.{IsExtentOf, is_on_screen, HasCell}
 use Rattle.panels.specs.Faults.{IsOverlapping, Overlaps, item_at, size_at}
@@ -93,6 +93,7 @@ overlaps_text panels p i item is (Top, one, other, before, at_i, at_e, overlap) 
 overlaps_text panels p i item is (Panel q, one, other, before, at_i, at_e, overlap) = absurd before
 overlaps_text panels p i item is (Field q j, one, other, before, at_i, at_e, overlap) = absurd before
 overlaps_text panels p i item is (Keys q, one, other, before, at_i, at_e, overlap) = absurd before
+overlaps_text panels p i item is (Value q j, one, other, before, at_i, at_e, overlap) = absurd before
 overlaps_text panels p i item is (Text q j, one, other, before, at_i, at_e, overlap) =
     (j, other, before.1, subst (λ r. item_at (Text r j) panels ≡ Some other) before.0 at_e, subst (λ x. Overlaps (size_at (Text p i) panels) x other) (same_item panels (Text p i) one item at_i is) overlap)
 
@@ -119,6 +120,7 @@ overlaps_field : (panels : List DraftPanel) (p i : ℕ) (item : DraftItem) → i
 overlaps_field panels p i item is (Top, one, other, before, at_i, at_e, overlap) = absurd before
 overlaps_field panels p i item is (Panel q, one, other, before, at_i, at_e, overlap) = absurd before
 overlaps_field panels p i item is (Keys q, one, other, before, at_i, at_e, overlap) = absurd before
+overlaps_field panels p i item is (Value q j, one, other, before, at_i, at_e, overlap) = absurd before
 overlaps_field panels p i item is (Text q j, one, other, before, at_i, at_e, overlap) =
     let here = subst (λ r. item_at (Text r j) panels ≡ Some other) before at_e in
     inl (j, other, text_below (slice_get panels p) j other here, here, subst (λ x. Overlaps (size_at (Field p i) panels) x other) (same_item panels (Field p i) one item at_i is) overlap)

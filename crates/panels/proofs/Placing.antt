@@ -1,6 +1,6 @@
 -- Items above the row for messages, and that row at the end of the screen.
-use Rattle.std.proofs.Common.{◌≡◌, ◌<◌, ◌≤◌, ◌+◌, ◌-◌, ◌*◌, ◌∙◌, ℕ, zero, suc, List, ℤ, pos, ◌-ℤ◌, ◌≤ℤ◌, true, Some, ap, sym, subst, arith}
-use Rattle.std.specs.Prelude.{All, int_le, slice_get}
+use Rattle.std.proofs.Common.{◌≡◌, ◌<◌, ◌≤◌, ◌+◌, ◌-◌, ◌*◌, ◌∙◌, ℕ, zero, suc, List, ℤ, pos, ◌-ℤ◌, ◌≤ℤ◌, true, false, ◌&&◌, Option, None, Some, ap, sym, subst, arith}
+use Rattle.std.specs.Prelude.{All, MatchOption, int_le, slice_get}
 use Rattle.std.proofs.lemmas.Bool.{and_parts}
 use Rattle.std.proofs.lemmas.Int.{ints}
 use Rattle.std.proofs.lemmas.Option.{slice_get_within, get_or_from_slice_get}
@@ -10,7 +10,7 @@ use Rattle.codes3270.specs.declared.size.Model.{Model}
 use Rattle.codes3270.specs.declared.size.Model.TheVariants.{M2, M3, M4, M5}
 use Rattle.panels.specs.declared.extent.Extent.{Extent}
 use Rattle.panels.specs.Draft.{DraftItem}
-use Rattle.panels.specs.Items.{IsExtentOf, is_on_screen, is_above_message, first_cell}
+use Rattle.panels.specs.Items.{IsExtentOf, is_in_rows, is_on_screen, is_above_message, first_cell}
 use Rattle.panels.specs.Panel.{IsAbove}
 use Rattle.panels.specs.Size.{message_start}
 
@@ -51,6 +51,19 @@ cells_some M4 = omega arith
 cells_some M5 = omega arith
 
 -- ---- the items
+
+-- what is found at the address of an item in the rows is the item's extent
+pub extent_is : (size : ScreenSize) (item : DraftItem) (address length : ℤ) (o : Option Extent) → is_in_rows size item ≡ true → address ≡ first_cell size item → length ≡ item.size
+    → MatchOption o (is_above_message size address length ≡ false) (λ extent. (is_above_message size address length ≡ true) × (pos extent.first ≡ address) × (pos extent.length ≡ length))
+    → MatchOption o (is_on_screen size item ≡ false) (λ extent. (is_on_screen size item ≡ true) × IsExtentOf size item extent)
+extent_is size item address length None inside at of is =
+    ap (λ b. b && is_above_message size (first_cell size item) item.size) inside
+    ∙ subst (λ n. is_above_message size (first_cell size item) n ≡ false) of (subst (λ f. is_above_message size f length ≡ false) at is)
+extent_is size item address length (Some extent) inside at of (is, first, long) = (
+  ap (λ b. b && is_above_message size (first_cell size item) item.size) inside
+      ∙ subst (λ n. is_above_message size (first_cell size item) n ≡ true) of (subst (λ f. is_above_message size f length ≡ true) at is),
+  (first ∙ at, long ∙ of),
+)
 
 le_of : (a b : ℤ) → int_le a b ≡ true → a ≤ℤ b
 le_of a b is = omega (arith, ints, is)

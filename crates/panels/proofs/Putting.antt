@@ -1,10 +1,10 @@
 -- One thing put over another.
-use Rattle.std.proofs.Common.{◌≡◌, ◌<◌, ◌≤◌, ◌+◌, ◌-◌, ℕ, zero, suc, Bor, List, [], ◌∷◌, ◌++◌, length, get_or, set, drop, Bool, true, false, cond, Option, Some, None, refl, ap, sym, subst, ◌∙◌, arith, inl, inr}
+use Rattle.std.proofs.Common.{◌≡◌, ◌<◌, ◌≤◌, ◌+◌, ◌-◌, ℕ, zero, suc, Bor, List, [], ◌∷◌, length, get_or, set, drop, Bool, true, false, cond, Option, Some, None, refl, ap, sym, subst, ◌∙◌, arith, inl, inr}
 use Rattle.std.specs.Prelude.{All, find, codes, is_some, option_copied, IfSome, ◌⊎◌, ◌==◌, ◌≢◌, ◌&&◌, nat_le, nat_lt, unwrap_or, slice_get, slice_index_or}
 use Rattle.std.specs.Option.{option_or, option_and_then, option_map_or}
-use Rattle.std.proofs.lemmas.List.{drop_more, get_or-set_same, get_or-set_other, length-set}
+use Rattle.std.proofs.lemmas.List.{drop_more, get_or_append_left, get_or-append_right, get_or-set_same, get_or-set_other, length-set}
 use Rattle.std.proofs.lemmas.Bool.{cases_eq}
-use Rattle.std.proofs.lemmas.Option.{slice_get_past, slice_get-get_or}
+use Rattle.std.proofs.lemmas.Option.{slice_get_past, slice_get-get_or, unwrap_or-slice_get}
 use Rattle.std.proofs.lemmas.Bool.Decides.{nat_tests}
 use Rattle.codes3270.specs.Size.{ScreenSize, cells_in}
 use Rattle.codes3270.specs.CodePage.{code_of}
@@ -133,7 +133,7 @@ put_first start f want old new wants within is size = put_next start 0 start f o
 
 -- ---- the message
 
-pub text_is : (fields : List Field) (message : Message) → text_with (option_map_or (λ field. field.name) (field_spoken fields message) []) message ≡ message_text fields message
+pub text_is : (fields : List Field) (message : Message) → text_with (option_map_or (λ field. field.title) (field_spoken fields message) []) message ≡ message_text fields message
 text_is fields Fresh = refl
 text_is fields Plain = refl
 text_is fields KeyNotActive = refl
@@ -179,33 +179,16 @@ coded_at [] i = refl
 coded_at (character ∷ text) zero = refl
 coded_at (character ∷ text) (suc i) = coded_at text i
 
--- and of two texts, one behind the other
-behind : (one other : List ℕ) (n i : ℕ) → n ≡ length one → n ≤ i → slice_get (one ++ other) i ≡ slice_get other (i - n)
-behind [] other n i is past =
-    let none : i ≡ i - n = omega (arith, is) in
-    ap (slice_get other) none
-behind (character ∷ one) other n zero is past = absurd (omega (arith, is, past))
-behind (character ∷ one) other n (suc i) is past =
-    let same : i - (n - 1) ≡ suc i - n = omega (arith, is, past) in
-    behind one other (n - 1) i (omega (arith, is)) (omega (arith, past)) ∙ ap (slice_get other) same
-
-before : (one other : List ℕ) (i : ℕ) → i < length one → slice_get (one ++ other) i ≡ slice_get one i
-before [] other i within = absurd (omega (arith, within))
-before (character ∷ one) other zero within = refl
-before (character ∷ one) other (suc i) within = before one other i (omega (arith, within))
-
 -- a message's text, in these two parts
-pub silent : (name : List ℕ) (message : Message) (i : ℕ) → (message ≡ Fresh) ⊎ (message ≡ Plain) → slice_index_or (text_with name message) i 0 ≡ 0
-silent name message i (inl is) = ap (λ m. slice_index_or (text_with name m) i 0) is
-silent name message i (inr is) = ap (λ m. slice_index_or (text_with name m) i 0) is
+pub silent : (title : List ℕ) (message : Message) (i : ℕ) → (message ≡ Fresh) ⊎ (message ≡ Plain) → slice_index_or (text_with title message) i 0 ≡ 0
+silent title message i (inl is) = ap (λ m. slice_index_or (text_with title m) i 0) is
+silent title message i (inr is) = ap (λ m. slice_index_or (text_with title m) i 0) is
 
-pub required_first : (name : List ℕ) (number i : ℕ) → i < 10 → slice_index_or (text_with name (Required number)) i 0 ≡ unwrap_or (option_and_then code_of (slice_get (codes "REQUIRED: ") i)) 0
-required_first name number i within =
-    coded_at (codes "REQUIRED: " ++ name) i ∙ ap (λ o. unwrap_or (option_and_then code_of o) 0) (before (codes "REQUIRED: ") name i within)
+pub required_first : (title : List ℕ) (number i : ℕ) → i < 10 → slice_index_or (text_with title (Required number)) i 0 ≡ unwrap_or (option_and_then code_of (slice_get (codes "REQUIRED: ") i)) 0
+required_first title number i within = get_or_append_left (coded (codes "REQUIRED: ")) title 0 i within ∙ coded_at (codes "REQUIRED: ") i
 
-pub required_rest : (name : List ℕ) (number i : ℕ) → 10 ≤ i → slice_index_or (text_with name (Required number)) i 0 ≡ unwrap_or (option_and_then code_of (slice_get name (i - 10))) 0
-required_rest name number i past =
-    coded_at (codes "REQUIRED: " ++ name) i ∙ ap (λ o. unwrap_or (option_and_then code_of o) 0) (behind (codes "REQUIRED: ") name 10 i refl past)
+pub required_rest : (title : List ℕ) (number i : ℕ) → 10 ≤ i → slice_index_or (text_with title (Required number)) i 0 ≡ unwrap_or (slice_get title (i - 10)) 0
+required_rest title number i past = get_or-append_right (coded (codes "REQUIRED: ")) title 10 i 0 refl past ∙ sym (unwrap_or-slice_get title (i - 10) 0)
 
 -- the character behind the attribute, and behind so many others
 pub character_at : (attr : Attr) (text : List ℕ) (n byte : ℕ) → byte ≡ slice_index_or text n 0 → want.Char byte ≡ item_cell attr text (n + 1)
@@ -246,27 +229,27 @@ layered texts fields message stoppers null base one two three four e0 e1 e2 e3 e
 pub still : (one other : WantedScreen) (cell : ℕ) → one.size ≡ other.size → cell < cells_in other.size → cell < cells_in one.size
 still one other cell same below = subst (λ s. cell < cells_in s) (sym same) below
 
-pub put_all : (panel : PanelParts) (values : Values) (message : Message) (keep : Bool) (name : List ℕ) (texts : List TextItem) (fields : List Field) (base one two three four : WantedScreen)
-    → base.size ≡ size_of panel → name ≡ option_map_or (λ field. field.name) (field_spoken panel.fields message) [] → texts ≡ panel.texts → fields ≡ panel.fields
+pub put_all : (panel : PanelParts) (values : Values) (message : Message) (keep : Bool) (title : List ℕ) (texts : List TextItem) (fields : List Field) (base one two three four : WantedScreen)
+    → base.size ≡ size_of panel → title ≡ option_map_or (λ field. field.title) (field_spoken panel.fields message) [] → texts ≡ panel.texts → fields ≡ panel.fields
     → ((cell : ℕ) (default : Want) → cell < cells_in base.size → get_or base.cells cell default ≡ want.Char 0)
-    → IsPut (λ cell. first_some (stopper_cell cell) fields) base one → IsPut (row_cell (message_start one.size) (text_with name message)) one two
+    → IsPut (λ cell. first_some (stopper_cell cell) fields) base one → IsPut (row_cell (message_start one.size) (text_with title message)) one two
     → IsPut (λ cell. first_some (field_cell values message keep cell) fields) two three → IsPut (λ cell. first_some (text_cell values cell) texts) three four
     → (cell : ℕ) (default : Want) → cell < cells_in (size_of panel) → get_or four.cells cell default ≡ wanted_cell panel values message keep cell
-put_all panel values message keep name texts fields base one two three four whole same_name same_texts same_fields nulls stoppers row inputs labels cell default within =
+put_all panel values message keep title texts fields base one two three four whole same_title same_texts same_fields nulls stoppers row inputs labels cell default within =
     let below : cell < cells_in base.size = subst (λ s. cell < cells_in s) (sym whole) within in
     let at_one = still one base cell stoppers.0 below in
     let at_two = still two one cell row.0 at_one in
     let at_three = still three two cell inputs.0 at_two in
     let start : message_start one.size ≡ message_start (size_of panel) = ap message_start (stoppers.0 ∙ whole) in
-    layered (first_some (text_cell values cell) texts) (first_some (field_cell values message keep cell) fields) (row_cell (message_start one.size) (text_with name message) cell)
+    layered (first_some (text_cell values cell) texts) (first_some (field_cell values message keep cell) fields) (row_cell (message_start one.size) (text_with title message) cell)
     (first_some (stopper_cell cell) fields) (want.Char 0) _ _ _ _ _ (nulls cell default below) (stoppers.1 cell default below) (row.1 cell default at_one)
     (inputs.1 cell default at_two) (labels.1 cell default at_three)
     ∙ ap (λ ts. unwrap_or (option_or (first_some (text_cell values cell) ts) (option_or (first_some (field_cell values message keep cell) fields)
-    (option_or (row_cell (message_start one.size) (text_with name message) cell) (first_some (stopper_cell cell) fields)))) (want.Char 0)) same_texts
+    (option_or (row_cell (message_start one.size) (text_with title message) cell) (first_some (stopper_cell cell) fields)))) (want.Char 0)) same_texts
     ∙ ap (λ fs. unwrap_or (option_or (first_some (text_cell values cell) panel.texts) (option_or (first_some (field_cell values message keep cell) fs)
-    (option_or (row_cell (message_start one.size) (text_with name message) cell) (first_some (stopper_cell cell) fs)))) (want.Char 0)) same_fields
+    (option_or (row_cell (message_start one.size) (text_with title message) cell) (first_some (stopper_cell cell) fs)))) (want.Char 0)) same_fields
     ∙ ap (λ n. unwrap_or (option_or (first_some (text_cell values cell) panel.texts) (option_or (first_some (field_cell values message keep cell) panel.fields)
-    (option_or (row_cell n (text_with name message) cell) (first_some (stopper_cell cell) panel.fields)))) (want.Char 0)) start
+    (option_or (row_cell n (text_with title message) cell) (first_some (stopper_cell cell) panel.fields)))) (want.Char 0)) start
     ∙ ap (λ text. unwrap_or (option_or (first_some (text_cell values cell) panel.texts) (option_or (first_some (field_cell values message keep cell) panel.fields)
     (option_or (row_cell (message_start (size_of panel)) text cell) (first_some (stopper_cell cell) panel.fields)))) (want.Char 0))
-    (ap (λ n. text_with n message) same_name ∙ text_is panel.fields message)
+    (ap (λ n. text_with n message) same_title ∙ text_is panel.fields message)

@@ -1,6 +1,6 @@
 -- Turns that pass, part by part.
 use Rattle.std.proofs.Common.{◌≡◌, ◌<◌, ◌≤◌, ◌+◌, ℕ, zero, suc, true, List, [], ◌∷◌, ◌++◌, length, get_or, Option, Some, None, IsSome, refl, ap, sym, subst, inl, inr, ◌∙◌, add-one, arith}
-use Rattle.std.specs.Prelude.{◌⊎◌, ◌==◌, All, Contains, IsTrue, is_some, slice_get, if◌then◌else◌}
+use Rattle.std.specs.Prelude.{◌⊎◌, ◌==◌, Contains, IsTrue, is_some, slice_get, if◌then◌else◌}
 use Rattle.std.specs.Option.{option_and_then}
 use Rattle.std.proofs.lemmas.Bool.{cases_Bool, false≢true}
 use Rattle.std.proofs.lemmas.Bool.Decides.{Decides-eqb}
@@ -10,10 +10,10 @@ use Rattle.std.proofs.lemmas.Option.{none-some, same_Some, slice_get-get_or, sli
 use Rattle.panels.specs.declared.fault.TreeFault.{TreeFault}
 use Rattle.panels.specs.declared.fault.TreeFault.TheVariants.{UnknownKey, Missing, BadKind, BadName, TwiceNamed, OutOfPlace, Overlap, NoCode, NoTarget, BadKey, TooMany, BadModel}
 use Rattle.panels.specs.declared.fault.Location.{Location}
-use Rattle.panels.specs.declared.fault.Location.TheVariants.{Top, Panel, Text, Field, Keys}
+use Rattle.panels.specs.declared.fault.Location.TheVariants.{Top, Panel, Text, Field, Value, Keys}
 use Rattle.panels.specs.declared.fault.At.{At}
 use Rattle.panels.specs.Draft.{DraftPanel, DraftText}
-use Rattle.panels.specs.Faults.{HasFault, IsFaulty, place_of, faults_of, is_part, item_at}
+use Rattle.panels.specs.Faults.{HasFault, IsFaulty, place_of, faults_of, is_part, item_at, table_of}
 use Rattle.panels.specs.Passes.{IsFirst, IsFaultless}
 use Rattle.panels.specs.Turns.{pass_of, panel_turn, kind_turn, item_turn, fault_turn, turn_of, IsSooner, IsFirstFault}
 use Rattle.panels.specs.Listing.{AreFaultsOf, IsBefore}
@@ -138,7 +138,8 @@ part_from zero kind item = Top
 part_from (suc p) zero item = Panel p
 part_from (suc p) (suc zero) item = Text p item
 part_from (suc p) (suc (suc zero)) item = Field p item
-part_from (suc p) (suc (suc (suc kind))) item = Keys p
+part_from (suc p) (suc (suc (suc zero))) item = Keys p
+part_from (suc p) (suc (suc (suc (suc kind)))) item = Value p item
 
 has_turn : (part : Location) → part_from (panel_turn part) (kind_turn part) (item_turn part) ≡ part
 has_turn Top = refl
@@ -146,6 +147,7 @@ has_turn (Panel p) = refl
 has_turn (Text p i) = refl
 has_turn (Field p i) = refl
 has_turn (Keys p) = refl
+has_turn (Value p i) = refl
 
 same_part : (part other : Location) → panel_turn part ≡ panel_turn other → kind_turn part ≡ kind_turn other → item_turn part ≡ item_turn other → part ≡ other
 same_part part other panel kind item =
@@ -250,12 +252,13 @@ from_turns part panel kind at_panel at_kind =
 is_top : (part : Location) → panel_turn part ≡ 0 → part ≡ Top
 is_top part at_panel = from_turns part 0 (kind_turn part) at_panel refl
 
-is_keys : (part : Location) (p : ℕ) → panel_turn part ≡ suc p → 3 ≤ kind_turn part → part ≡ Keys p
-is_keys Top p at_panel past = absurd (omega arith)
-is_keys (Panel q) p at_panel past = absurd (omega arith)
-is_keys (Text q i) p at_panel past = absurd (omega arith)
-is_keys (Field q i) p at_panel past = absurd (omega arith)
-is_keys (Keys q) p at_panel past =
+is_keys : (part : Location) (p : ℕ) (panels : List DraftPanel) → IsTrue (is_part part panels) → panel_turn part ≡ suc p → 3 ≤ kind_turn part → part ≡ Keys p
+is_keys Top p panels there at_panel past = absurd (omega arith)
+is_keys (Panel q) p panels there at_panel past = absurd (omega arith)
+is_keys (Text q i) p panels there at_panel past = absurd (omega arith)
+is_keys (Field q i) p panels there at_panel past = absurd (omega arith)
+is_keys (Value q i) p panels there at_panel past = absurd (false≢true there)
+is_keys (Keys q) p panels there at_panel past =
     let same : q ≡ p = omega arith in
     ap Keys same
 
@@ -333,7 +336,7 @@ keys_found_suc pass p draft found =
     (λ fault part soon faulty.
     elim (next_panel _ _ _ _ _ _ (suc p) 3 soon) [
       | inl sooner ↦ behind pass (Keys p) part fault sooner
-      | inr (at_pass, at_panel, past) ↦ in_part pass fault part (Keys p) at_pass (is_keys part p at_panel past)
+      | inr (at_pass, at_panel, past) ↦ in_part pass fault part (Keys p) at_pass (is_keys part p draft.panels faulty.0 at_panel past)
     ])
 
 pub keys_found : (pass p : ℕ) (draft : DraftText) (found : List LocatedFault) → AreFoundTo (turn_behind pass (Keys p)) draft found → AreFoundTo (turn_at pass (Panel (p + 1))) draft found
@@ -351,6 +354,7 @@ panel_of_part (Text p i) panels there =
 panel_of_part (Field p i) panels there =
     let below = below_end panels p (some_part (λ panel. slice_get panel.fields i) _ there) in
     omega arith
+panel_of_part (Value p i) panels there = absurd (false≢true there)
 panel_of_part (Keys p) panels there =
     let below = below_end panels p there in
     omega arith
@@ -582,8 +586,8 @@ fault_next pass k fault part draft old new listed there added s =
 
 -- ---- the first of all faults
 
-pub first_of : (draft : DraftText) (first : LocatedFault) (more : List LocatedFault) → AreFaultsOf draft (first ∷ more) → IsFirstFault first.fault (place_of first.part) draft
-first_of draft first more all = record {
+pub first_part : (draft : DraftText) (first : LocatedFault) (more : List LocatedFault) → AreFaultsOf draft (first ∷ more) → IsFirstFault first.fault (place_of (table_of first.part draft.panels)) draft
+first_part draft first more all = record {
   part = first.part;
   at_place = refl;
   stands = all.stand 0 first (omega arith);
@@ -596,8 +600,8 @@ first_of draft first more all = record {
         let behind_it : IsBefore first at = subst (λ (x : LocatedFault). IsBefore first x) is (all.in_order 0 (suc k) at (omega arith) below) in
         not_sooner (turn_of first.fault first.part) (sooner_through (turn_of first.fault first.part) (turn_of at.fault at.part) (turn_of first.fault first.part) behind_it soon)
 
-pub faultless_of : (draft : DraftText) → AreFaultsOf draft [] → IsFaultless draft
-faultless_of draft all fault part faulty = let (k, below, is) = all.each fault part faulty in absurd (omega (arith, below))
+pub none_faultless : (draft : DraftText) → AreFaultsOf draft [] → IsFaultless draft
+none_faultless draft all fault part faulty = let (k, below, is) = all.each fault part faulty in absurd (omega (arith, below))
 
 pub field_there : (panels : List DraftPanel) (draft : DraftPanel) (p i : ℕ) → slice_get panels p ≡ Some draft → i < length draft.fields → is_some (item_at (Field p i) panels) ≡ true
 field_there panels draft p i there below =
@@ -605,10 +609,12 @@ field_there panels draft p i there below =
     ap (λ o. is_some (option_and_then (λ (panel : DraftPanel). slice_get panel.fields i) o)) there ∙ ap is_some at_i
 
 -- the first of the list, if it has one
-pub refused : (draft : DraftText) (found : List LocatedFault) (first : LocatedFault) → AreFaultsOf draft found → slice_get found 0 ≡ Some first → IsFirstFault first.fault (place_of first.part) draft
+pub refused : (draft : DraftText) (found : List LocatedFault) (first : LocatedFault) → AreFaultsOf draft found → slice_get found 0 ≡ Some first
+    → IsFirstFault first.fault (place_of (table_of first.part draft.panels)) draft
 refused draft [] first all is = absurd (none-some first is)
-refused draft (at ∷ more) first all is = subst (λ (x : LocatedFault). IsFirstFault x.fault (place_of x.part) draft) (same_Some at first is) (first_of draft at more all)
+refused draft (at ∷ more) first all is =
+    subst (λ (x : LocatedFault). IsFirstFault x.fault (place_of (table_of x.part draft.panels)) draft) (same_Some at first is) (first_part draft at more all)
 
 pub accepted : (draft : DraftText) (found : List LocatedFault) → AreFaultsOf draft found → slice_get found 0 ≡ None → IsFaultless draft
-accepted draft [] all none = faultless_of draft all
+accepted draft [] all none = none_faultless draft all
 accepted draft (at ∷ more) all none = absurd (none-some at (sym none))

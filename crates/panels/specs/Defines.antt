@@ -1,5 +1,5 @@
 -- Which panels a draft defines (our profile).
-use Rattle.std.specs.Prelude.{◌≡◌, ℕ, zero, suc, ◌+◌, List, [], ◌∷◌, length, Option, Some, None, map, option_and_then, slice_get, bytes_eq, chars, if◌then◌else◌}
+use Rattle.std.specs.Prelude.{◌≡◌, ℕ, zero, suc, ◌+◌, List, [], ◌∷◌, ◌++◌, length, Option, Some, None, map, option_and_then, slice_get, bytes_eq, chars, if◌then◌else◌}
 use Rattle.std.specs.List.{list_any}
 use Rattle.std.specs.Option.{option_map_or}
 use Rattle.codes3270.specs.declared.attention.Aid.{Aid}
@@ -11,16 +11,17 @@ use Rattle.panels.specs.declared.panel.Content.{Content}
 use Rattle.panels.specs.declared.panel.Content.TheVariants.{Literal, Show}
 use Rattle.panels.specs.declared.panel.TextItem.{TextItem}
 use Rattle.panels.specs.declared.panel.Field.{Field}
+use Rattle.panels.specs.declared.panel.Value.{Value}
 use Rattle.panels.specs.Characters.{codes_of}
 use Rattle.panels.specs.Size.{model_numbered}
-use Rattle.panels.specs.Draft.{DraftItem, DraftPanel, DraftText, draft_of, draft_size, otherwise_of}
+use Rattle.panels.specs.Draft.{DraftItem, DraftPanel, DraftText, draft_of, draft_size, field_count, fields_of, otherwise_of, title_of, values_of}
 use Rattle.panels.specs.Faults.{name_at, IsBasePanelNamed}
 use Rattle.panels.specs.Items.{IsExtentOf}
 use Rattle.panels.specs.Keys.{connect_name, key_names, name_of_key, IsKey}
 use Rattle.panels.specs.Panel.{PanelParts, target_of, Panels}
 use Rattle.panels.specs.Passes.{IsFaultless}
 
--- the number of fields in the panels before the one at an index; this one's fields are numbered from it on
+-- the number of fields and values in the panels before the one at an index; this one's are numbered from it on
 abbrev pub fields_before : ℕ → List DraftPanel → ℕ
 fields_before zero panels = 0
 fields_before (suc p) panels =
@@ -30,7 +31,7 @@ fields_before (suc p) panels =
 abbrev pub IsPanelNamed : List DraftPanel → List ℕ → ℕ → Type 0
 IsPanelNamed panels name p = name_at (part.Panel p) panels ≡ Some name
 
--- holds if the field with a number, from 0 over the whole text, has the name
+-- holds if the field or value with a number, from 0 over the whole text, has the name
 abbrev pub IsFieldNamed : List DraftPanel → List ℕ → ℕ → Type 0
 IsFieldNamed panels name number = (p : ℕ) × (i : ℕ) × (name_at (part.Field p i) panels ≡ Some name)
     × (number ≡ fields_before p panels + i)
@@ -45,9 +46,25 @@ pub record IsTextOf (size : ScreenSize) (panels : List DraftPanel) (item : Draft
   pub bright : text.bright ≡ item.bright
   pub content : IsContentOf panels item text.content
 
+-- the number of a panel's first value, behind its fields
+abbrev pub first_value : ℕ → List DraftPanel → DraftPanel → ℕ
+first_value p panels draft = fields_before p panels + field_count draft.fields
+
+-- a value: its number, name and place, and the text that shows it
+pub record IsValueOf (size : ScreenSize) (n : ℕ) (item : DraftItem) (value : Value) : Type 0 where
+  pub number : value.number ≡ n
+  pub name : value.name ≡ item.name
+  pub extent : IsExtentOf size item value.extent
+
+pub record IsShownOf (size : ScreenSize) (n : ℕ) (item : DraftItem) (text : TextItem) : Type 0 where
+  pub extent : IsExtentOf size item text.extent
+  pub bright : text.bright ≡ item.bright
+  pub content : text.content ≡ Show n
+
 pub record IsFieldOf (size : ScreenSize) (n : ℕ) (item : DraftItem) (field : Field) : Type 0 where
   pub number : field.number ≡ n
   pub name : field.name ≡ item.name
+  pub title : field.title ≡ codes_of (chars (title_of item))
   pub extent : IsExtentOf size item field.extent
   pub numeric : field.numeric ≡ item.numeric
   pub hidden : field.hidden ≡ item.hidden
@@ -60,6 +77,14 @@ pub record IsEachOf {X Y : Type 0} (IsOf : ℕ → X → Y → Type 0) (drafts :
   pub size : length things ≡ length drafts
   pub are : (i : ℕ) (draft : X) (thing : Y) → slice_get drafts i ≡ Some draft → slice_get things i ≡ Some thing
       → IsOf i draft thing
+
+-- a panel's texts: those of its texts, and after these those that show its values
+pub record AreTextsOf (panels : List DraftPanel) (p : ℕ) (draft : DraftPanel) (texts : List TextItem) : Type 0 where
+  pub own : List TextItem
+  pub shown : List TextItem
+  pub all : texts ≡ own ++ shown
+  pub are_own : IsEachOf (λ i. IsTextOf (draft_size draft) panels) draft.texts own
+  pub are_shown : IsEachOf (λ i. IsShownOf (draft_size draft) (first_value p panels draft + i)) (values_of draft) shown
 
 -- the cursor's address: the first cell of the field that `cursor` names, else of the first field; 0 without fields
 abbrev pub IsCursorBy : Option (List ℕ) → List Field → ℕ → Type 0
@@ -89,8 +114,10 @@ pub record IsPanelOf (panels : List DraftPanel) (p : ℕ) (draft : DraftPanel) (
   pub name : panel.name ≡ draft.name
   pub model : panel.model ≡ model_numbered draft.model
   pub otherwise : IsOtherwiseBy panels (otherwise_of draft) panel.otherwise
-  pub texts : IsEachOf (λ i. IsTextOf (draft_size draft) panels) draft.texts panel.texts
-  pub fields : IsEachOf (λ i. IsFieldOf (draft_size draft) (fields_before p panels + i)) draft.fields panel.fields
+  pub texts : AreTextsOf panels p draft panel.texts
+  pub fields : IsEachOf (λ i. IsFieldOf (draft_size draft) (fields_before p panels + i)) (fields_of draft) panel.fields
+  pub values : IsEachOf (λ i. IsValueOf (draft_size draft) (first_value p panels draft + i)) (values_of draft)
+      panel.values
   pub cursor : IsCursorBy draft.cursor panel.fields panel.cursor
   pub places : length panel.targets ≡ length key_names
   pub asked : panel.asked ≡ map (λ name. list_any (bytes_eq name) draft.asks) key_names

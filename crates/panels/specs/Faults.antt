@@ -6,12 +6,12 @@ use Rattle.codes3270.specs.Size.{ScreenSize, model_2}
 use Rattle.panels.specs.declared.fault.TreeFault.{TreeFault}
 use Rattle.panels.specs.declared.fault.TreeFault.TheVariants.{UnknownKey, Missing, BadKind, BadName, TwiceNamed, OutOfPlace, Overlap, NoCode, NoTarget, BadKey, TooMany, BadModel}
 use Rattle.panels.specs.declared.fault.Location.{Location}
-use Rattle.panels.specs.declared.fault.Location.TheVariants.{Top, Panel, Text, Field, Keys}
+use Rattle.panels.specs.declared.fault.Location.TheVariants.{Top, Panel, Text, Field, Value, Keys}
 use Rattle.panels.specs.declared.fault.At.{At}
 use Rattle.panels.specs.declared.fault.At.TheVariants as place
 use Rattle.panels.specs.Limits.{most_panels, most_texts, most_fields}
 use Rattle.panels.specs.Size.{is_model_number}
-use Rattle.panels.specs.Draft.{DraftItem, DraftPanel, DraftText, draft_size, otherwise_of}
+use Rattle.panels.specs.Draft.{DraftItem, DraftPanel, DraftText, draft_size, fields_of, otherwise_of}
 use Rattle.panels.specs.Items.{is_panel_name, is_field_name, is_on_screen, is_in_place, HasCell, lacks_code}
 use Rattle.panels.specs.Keys.{is_key_name, is_asked_name}
 
@@ -26,13 +26,13 @@ faults_of pass =
     else if pass == 6 then NoTarget ∷ []
     else []
 
--- the text or field at a part
+-- the item at a part; each copy of one is a part, and each of a value one of a field, after all fields
 abbrev pub item_at : Location → List DraftPanel → Option DraftItem
 item_at (Text p i) panels = option_and_then (λ panel. slice_get panel.texts i) (slice_get panels p)
 item_at (Field p i) panels = option_and_then (λ panel. slice_get panel.fields i) (slice_get panels p)
 item_at _ panels = None
 
--- the size of the screen on which a text or field is laid out; that of model 2 for any other part
+-- the size of the screen on which an item is laid out; that of model 2 for any other part
 abbrev pub size_at : Location → List DraftPanel → ScreenSize
 size_at (Text p i) panels = option_map_or draft_size (slice_get panels p) model_2
 size_at (Field p i) panels = option_map_or draft_size (slice_get panels p) model_2
@@ -52,13 +52,28 @@ wrong_at (Panel p) draft = option_and_then (λ panel. panel.wrong) (slice_get dr
 wrong_at (Keys p) draft = option_and_then (λ panel. panel.wrong_keys) (slice_get draft.panels p)
 wrong_at part draft = option_and_then (λ item. item.wrong) (item_at part draft.panels)
 
--- the name of a panel or field; None for any other part
+-- the panel that has the table; None for the text's own table
+abbrev pub panel_of_part : Location → Option ℕ
+panel_of_part Top = None
+panel_of_part (Panel p) = Some p
+panel_of_part (Text p i) = Some p
+panel_of_part (Field p i) = Some p
+panel_of_part (Value p i) = Some p
+panel_of_part (Keys p) = Some p
+
+-- the name of a panel, a field or a value; None for any other part
 abbrev pub name_at : Location → List DraftPanel → Option (List ℕ)
 name_at (Panel p) panels = option_map (λ panel. panel.name) (slice_get panels p)
 name_at (Field p i) panels = option_map (λ field. field.name) (item_at (Field p i) panels)
 name_at _ panels = None
 
--- whether the text has more panels, or a panel more texts or fields, than it may
+-- the name of a panel, a field or a value as its table has it; None for any other part
+abbrev pub stem_at : Location → List DraftPanel → Option (List ℕ)
+stem_at (Panel p) panels = option_map (λ panel. panel.name) (slice_get panels p)
+stem_at (Field p i) panels = option_map (λ field. field.stem) (item_at (Field p i) panels)
+stem_at _ panels = None
+
+-- whether the text has more panels, or a panel more texts, or more fields and values, than it may
 abbrev pub has_too_many : Location → List DraftPanel → Bool
 has_too_many Top panels = nat_lt most_panels (length panels)
 has_too_many (Panel p) panels =
@@ -67,8 +82,8 @@ has_too_many (Panel p) panels =
 has_too_many _ panels = false
 
 abbrev pub has_bad_name : Location → List DraftPanel → Bool
-has_bad_name (Panel p) panels = option_map_or (λ name. not (is_panel_name name)) (name_at (Panel p) panels) false
-has_bad_name (Field p i) panels = option_map_or (λ name. not (is_field_name name)) (name_at (Field p i) panels) false
+has_bad_name (Panel p) panels = option_map_or (λ name. not (is_panel_name name)) (stem_at (Panel p) panels) false
+has_bad_name (Field p i) panels = option_map_or (λ name. not (is_field_name name)) (stem_at (Field p i) panels) false
 has_bad_name _ panels = false
 
 -- whether the table of keys has a name of no key, or `asks` has one that is neither of a key nor `connect`
@@ -85,7 +100,7 @@ abbrev pub has_bad_model : Location → List DraftPanel → Bool
 has_bad_model (Panel p) panels = option_map_or (λ panel. not (is_model_number panel.model)) (slice_get panels p) false
 has_bad_model _ panels = false
 
--- holds if both parts are panels, or both are fields, and the first comes before the second in the text
+-- holds if both parts are panels, or both are fields or values, and the first comes before the second in the text
 abbrev pub IsNamedBefore : Location → Location → Type 0
 IsNamedBefore (Panel p) (Panel q) = p < q
 IsNamedBefore (Field p i) (Field q j) = (p < q) ⊎ ((p ≡ q) × (i < j))
@@ -111,18 +126,34 @@ abbrev pub IsBasePanelNamed : List DraftPanel → List ℕ → ℕ → Type 0
 IsBasePanelNamed panels name p = (panel : DraftPanel) × (slice_get panels p ≡ Some panel) × (panel.model ≡ pos 2)
     × (panel.name ≡ name)
 
--- each holds if the name is that of: some panel, some panel of model 2, some field, or some field of one panel
+-- each holds if the name is that of: some panel, some panel of model 2, or some field or value
 abbrev pub NamesPanel : List ℕ → List DraftPanel → Type 0
 NamesPanel name panels = (p : ℕ) × (name_at (Panel p) panels ≡ Some name)
 
 abbrev pub NamesBasePanel : List ℕ → List DraftPanel → Type 0
 NamesBasePanel name panels = (p : ℕ) × IsBasePanelNamed panels name p
 
-abbrev pub NamesField : List ℕ → List DraftPanel → Type 0
-NamesField name panels = (p : ℕ) × (i : ℕ) × (name_at (Field p i) panels ≡ Some name)
+abbrev pub NamesItem : List ℕ → List DraftPanel → Type 0
+NamesItem name panels = (p : ℕ) × (i : ℕ) × (name_at (Field p i) panels ≡ Some name)
 
+-- holds if the part has the name, and none before it
+abbrev pub IsFirstNamed : List ℕ → Location → List DraftPanel → Type 0
+IsFirstNamed name part panels = (name_at part panels ≡ Some name)
+    × ((earlier : Location) → IsNamedBefore earlier part → ¬ (name_at earlier panels ≡ Some name))
+
+-- the name is that of some field: the first field or value with it is a field
+pub record NamesField (name : List ℕ) (panels : List DraftPanel) : Type 0 where
+  pub p : ℕ
+  pub i : ℕ
+  pub field : DraftItem
+  pub there : item_at (Field p i) panels ≡ Some field
+  pub is_field : field.is_value ≡ false
+  pub first : IsFirstNamed name (Field p i) panels
+
+-- holds if the name is that of a field of one panel
 abbrev pub HasFieldNamed : List ℕ → DraftPanel → Type 0
-HasFieldNamed name panel = (i : ℕ) × (field : DraftItem) × (slice_get panel.fields i ≡ Some field) × (field.name ≡ name)
+HasFieldNamed name panel =
+    (i : ℕ) × (field : DraftItem) × (slice_get (fields_of panel) i ≡ Some field) × (field.name ≡ name)
 
 -- holds if a panel's `cursor` names none of its fields
 abbrev pub HasLostCursor : DraftPanel → Type 0
@@ -143,6 +174,7 @@ LacksTarget (Text p i) draft =
     (item : DraftItem) × (item_at (Text p i) draft.panels ≡ Some item) × (item.text ≡ None)
     × ¬ NamesField item.show draft.panels
 LacksTarget (Field p i) draft = ⊥
+LacksTarget (Value p i) draft = ⊥
 LacksTarget (Keys p) draft =
     (panel : DraftPanel) × (key : List ℕ × List ℕ) × (slice_get draft.panels p ≡ Some panel) × Contains panel.keys key
     × ¬ NamesPanel key.1 draft.panels
@@ -156,15 +188,21 @@ asks_twice (name ∷ names) = list_any (bytes_eq name) names || asks_twice names
 abbrev pub has_key_twice : DraftPanel → Bool
 has_key_twice panel = asks_twice panel.asks || list_any (λ key. list_any (bytes_eq key.0) panel.asks) panel.keys
 
--- holds if an earlier panel has the panel's name, or an earlier field the field's
+-- holds if an earlier panel has the panel's name, or an earlier field or value that of the field or value
 abbrev pub IsNamedTwice : Location → List DraftPanel → Type 0
 IsNamedTwice part panels =
     (earlier : Location) × (name : List ℕ) × IsNamedBefore earlier part × (name_at earlier panels ≡ Some name)
     × (name_at part panels ≡ Some name)
 
--- holds if the part is named twice in this way, or is a table of keys whose panel has a key twice
+-- holds if the part is a copy of a field or value, and one without copies has the name of its table
+abbrev pub IsNamedAsOne : Location → List DraftPanel → Type 0
+IsNamedAsOne part panels = (item : DraftItem) × (item_at part panels ≡ Some item) × IsTrue (is_some item.copy)
+    × NamesItem item.stem panels
+
+-- holds if the part is named twice in one of these ways, or is a table of keys whose panel has a key twice
 abbrev pub IsTwiceNamed : Location → List DraftPanel → Type 0
 IsTwiceNamed (Keys p) panels = IsTrue (option_map_or has_key_twice (slice_get panels p) false)
+IsTwiceNamed (Field p i) panels = IsNamedTwice (Field p i) panels ⊎ IsNamedAsOne (Field p i) panels
 IsTwiceNamed part panels = IsNamedTwice part panels
 
 -- holds if an earlier item of the panel shares a cell with the item
@@ -196,15 +234,26 @@ place_of Top = place.Top
 place_of (Panel p) = place.Panel p
 place_of (Text p i) = place.Text p i
 place_of (Field p i) = place.Field p i
+place_of (Value p i) = place.Value p i
 place_of (Keys p) = place.Panel p
+
+-- the table of a part: that of which an item is a copy
+abbrev pub table_by : Location → DraftItem → Location
+table_by (Text p i) item = Text p item.index
+table_by (Field p i) item = if item.is_value then Value p item.index else Field p item.index
+table_by part item = part
+
+abbrev pub table_of : Location → List DraftPanel → Location
+table_of part panels = option_map_or (table_by part) (item_at part panels) part
 
 -- holds if the text has the part, and the part has the fault
 abbrev pub IsFaulty : TreeFault → Location → DraftText → Type 0
 IsFaulty fault part draft = IsTrue (is_part part draft.panels) × HasFault fault part draft
 
--- holds if a part at the place has the fault
+-- holds if a part whose table is at the place has the fault
 abbrev pub IsFaultAt : TreeFault → At → DraftText → Type 0
-IsFaultAt fault at_place draft = (part : Location) × (place_of part ≡ at_place) × IsFaulty fault part draft
+IsFaultAt fault at_place draft = (part : Location) × (place_of (table_of part draft.panels) ≡ at_place)
+    × IsFaulty fault part draft
 
 -- holds if no part has a fault that the pass looks for
 abbrev pub IsCleanIn : ℕ → DraftText → Type 0

@@ -33,9 +33,13 @@ is_field_name name = is_name is_field_letter name
 abbrev pub first_of : ScreenSize → ℤ → ℤ → ℤ
 first_of size row column = ((row -ℤ pos 1) *ℤ pos size.columns) +ℤ (column -ℤ pos 1)
 
+-- how many rows below that of its table an item is: none, or one for each copy before it
+abbrev pub rows_below : DraftItem → ℕ
+rows_below item = unwrap_or item.copy 0
+
 -- the address of an item's first character; its attribute is before it
 abbrev pub first_cell : ScreenSize → DraftItem → ℤ
-first_cell size item = first_of size item.row item.column
+first_cell size item = first_of size (item.row +ℤ pos (rows_below item)) item.column
 
 abbrev pub is_between : ℤ → ℤ → ℤ → Bool
 is_between low high value = int_le low value && int_le value high
@@ -46,10 +50,16 @@ abbrev pub is_above_message : ScreenSize → ℤ → ℤ → Bool
 is_above_message screen_size first size = int_le (pos 1) first
     && is_between (pos 1) (pos (message_start screen_size) -ℤ first) size
 
+-- whether the item's row is above that of messages, and its column on the screen
+abbrev pub has_row : ScreenSize → DraftItem → Bool
+has_row size item = is_between (pos 1) (pos (item_rows size) -ℤ pos (rows_below item)) item.row
+
+abbrev pub has_column : ScreenSize → DraftItem → Bool
+has_column size item = is_between (pos 1) (pos size.columns) item.column
+
 -- whether the item's row and column are on a screen of this size, above the message row
 abbrev pub is_in_rows : ScreenSize → DraftItem → Bool
-is_in_rows size item = is_between (pos 1) (pos (item_rows size)) item.row
-    && is_between (pos 1) (pos size.columns) item.column
+is_in_rows size item = has_row size item && has_column size item
 
 -- whether the item, with its attribute, lies above the message row
 abbrev pub is_on_screen : ScreenSize → DraftItem → Bool
@@ -71,6 +81,7 @@ IsExtentOf size item extent = (pos extent.first ≡ first_cell size item) × (po
 abbrev pub has_no_code : ℕ → Bool
 has_no_code character = is_none (code_of character)
 
--- whether some character of the item's text or fill has no code
+-- whether some character of the item's text, fill or label has no code
 abbrev pub lacks_code : DraftItem → Bool
 lacks_code item = list_any has_no_code (chars (unwrap_or item.text [])) || list_any has_no_code (chars item.fill)
+    || list_any has_no_code (chars item.label)

@@ -1,13 +1,14 @@
--- A screen that a panel asks for keeps whole fields, or none (our profile).
+-- A screen that a panel asks for keeps whole fields, or none, and has each text (our profile).
 use Rattle.std.specs.Prelude.{◌≡◌, ℕ, ◌<◌, ◌≤◌, ◌+◌, ◌-◌, Bool, true, false, Some, slice_get, slice_index_or}
 use Rattle.codes3270.specs.declared.attribute.Attr.{Attr}
 use Rattle.datastream.specs.Wanted.{WantedScreen}
 use Rattle.datastream.specs.declared.wanted.Want.TheVariants as want
 use Rattle.panels.specs.declared.extent.Extent.{Extent}
 use Rattle.panels.specs.declared.panel.Field.{Field}
+use Rattle.panels.specs.declared.panel.TextItem.{TextItem}
 use Rattle.panels.specs.declared.message.Message.{Message}
-use Rattle.panels.specs.Panel.{PanelParts, HasItemsApart, IsLaidOut}
-use Rattle.panels.specs.Screen.{Values, field_attr, field_content, screen_of}
+use Rattle.panels.specs.Panel.{PanelParts, HasItemsApart, IsCellOf, IsLaidOut}
+use Rattle.panels.specs.Screen.{Values, autoskip_attr, field_attr, field_content, item_cell, screen_of, shown}
 
 abbrev pub HasAttributeAt : WantedScreen → ℕ → Type 0
 HasAttributeAt screen cell = (attribute : Attr) × (slice_get screen.cells cell ≡ Some (want.Attr attribute))
@@ -74,3 +75,12 @@ FieldsAreWritten =
     → slice_get panel.fields i ≡ Some field → IsCharacterOf field.extent cell
     → slice_get (screen_of panel values message false).cells cell
     ≡ Some (want.Char (slice_index_or (field_content values message field) (cell - field.extent.first) 0))
+
+-- Each cell of each text is written, whatever is kept: its attribute, then its characters, and nulls after their end.
+abbrev pub TextsAreWritten : Type 0
+TextsAreWritten =
+    (panel : PanelParts) (values : Values) (message : Message) (keep : Bool) (i : ℕ) (text : TextItem) (cell : ℕ)
+    → HasItemsApart panel → IsLaidOut panel
+    → slice_get panel.texts i ≡ Some text → IsCellOf text.extent cell
+    → slice_get (screen_of panel values message keep).cells cell
+    ≡ Some (item_cell (autoskip_attr text.bright) (shown values text.content) (cell + 1 - text.extent.first))

@@ -1,3 +1,4 @@
+pub mod PanelText
 pub mod Size
 pub mod Limits
 pub mod Characters
@@ -8,6 +9,7 @@ pub mod Draft
 pub mod Items
 pub mod Keys
 pub mod Faults
+pub mod Stated
 pub mod Messages
 pub mod MessageText
 pub mod Passes

@@ -5,7 +5,7 @@ use Rattle.panels.specs.declared.fault.TreeFault.{TreeFault}
 use Rattle.panels.specs.declared.fault.Location.{Location}
 use Rattle.panels.specs.declared.fault.LocatedFault.{LocatedFault}
 use Rattle.panels.specs.Draft.{DraftText}
-use Rattle.panels.specs.Faults.{IsFaulty, place_of}
+use Rattle.panels.specs.Faults.{IsFaulty, place_of, table_of}
 use Rattle.panels.specs.Passes.{IsFaultless}
 use Rattle.panels.specs.Turns.{turn_of, IsFirstFault, IsSooner}
 
@@ -24,7 +24,7 @@ pub record AreFaultsOf (draft : DraftText) (found : List LocatedFault) : Type 0 
 abbrev pub FaultsBeginWithTheFirst : Type 0
 FaultsBeginWithTheFirst =
     (draft : DraftText) (first : LocatedFault) (more : List LocatedFault) → AreFaultsOf draft (first ∷ more)
-    → IsFirstFault first.fault (place_of first.part) draft
+    → IsFirstFault first.fault (place_of (table_of first.part draft.panels)) draft
 
 abbrev pub NoFaultsAreFaultless : Type 0
 NoFaultsAreFaultless = (draft : DraftText) → AreFaultsOf draft [] → IsFaultless draft

@@ -1,7 +1,7 @@
 -- What `{}` prints of a fault and of its place (our profile).
 use Rattle.std.specs.Prelude.{ℕ, List, ◌++◌, codes, decimal}
 use Rattle.panels.specs.declared.fault.At.{At}
-use Rattle.panels.specs.declared.fault.At.TheVariants.{Top, Panel, Text, Field}
+use Rattle.panels.specs.declared.fault.At.TheVariants.{Top, Panel, Text, Field, Value}
 use Rattle.panels.specs.declared.fault.TreeFault.{TreeFault}
 use Rattle.panels.specs.declared.fault.TreeFault.TheVariants.{UnknownKey, Missing, BadKind, BadName, TwiceNamed, OutOfPlace, Overlap, NoCode, NoTarget, BadKey, TooMany, BadModel}
 use Rattle.panels.specs.declared.fault.PanelFault.{PanelFault}
@@ -12,6 +12,7 @@ place_text Top = codes "top"
 place_text (Panel p) = codes "panel " ++ decimal p
 place_text (Text p i) = codes "panel " ++ (decimal p ++ (codes " text " ++ decimal i))
 place_text (Field p i) = codes "panel " ++ (decimal p ++ (codes " field " ++ decimal i))
+place_text (Value p i) = codes "panel " ++ (decimal p ++ (codes " value " ++ decimal i))
 
 abbrev pub tree_fault_text : TreeFault → List ℕ
 tree_fault_text UnknownKey = codes "UnknownKey"

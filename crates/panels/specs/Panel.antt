@@ -10,20 +10,22 @@ use Rattle.panels.specs.declared.panel.Content.{Content}
 use Rattle.panels.specs.declared.panel.Content.TheVariants.{Literal, Show}
 use Rattle.panels.specs.declared.panel.TextItem.{TextItem}
 use Rattle.panels.specs.declared.panel.Field.{Field}
+use Rattle.panels.specs.declared.panel.Value.{Value}
 use Rattle.panels.specs.Characters.{AreCharacters}
 use Rattle.panels.specs.Keys.{place_of_key, IsKey}
 use Rattle.panels.specs.Size.{message_start}
 
 -- A panel. `otherwise` is the index of the panel that is shown instead in a session of another model, None for model 2.
--- `cursor` is a buffer address. `targets` has the index of the panel that each key leads to, and `asked` whether the
--- application decides on the key, both in the order of `key_names`. With `asked_at_connect` it decides what a session
--- whose first panel this is shows first.
+-- Each of `values` is shown by one of `texts`. `cursor` is a buffer address. `targets` has the index of the panel that
+-- each key leads to, and `asked` whether the application decides on the key, both in the order of `key_names`. With
+-- `asked_at_connect` it decides what a session whose first panel this is shows first.
 pub record PanelParts : Type 0 where
   pub name : List ℕ
   pub model : Model
   pub otherwise : Option ℕ
   pub texts : List TextItem
   pub fields : List Field
+  pub values : List Value
   pub cursor : ℕ
   pub targets : List (Option ℕ)
   pub asked : List Bool
@@ -103,10 +105,11 @@ abbrev pub HasCharacters : Content → Type 0
 HasCharacters (Literal text) = AreCharacters text
 HasCharacters (Show number) = Unit {0}
 
--- the texts and fills of a panel are characters that a cell can hold
+-- the texts, fills and titles of a panel are characters that a cell can hold
 pub record IsOfCharacters (panel : PanelParts) : Type 0 where
   pub texts : All (λ text. HasCharacters text.content) panel.texts
   pub fills : All (λ field. AreCharacters field.fill) panel.fields
+  pub titles : All (λ field. AreCharacters field.title) panel.fields
 
 abbrev pub AreOfCharacters : Panels → Type 0
 AreOfCharacters set = (number : ℕ) (panel : PanelParts) → slice_get set.panels number ≡ Some panel
@@ -141,6 +144,23 @@ abbrev pub NumbersAreApart : Panels → Type 0
 NumbersAreApart set = (number : ℕ) (panel : PanelParts) → slice_get set.panels number ≡ Some panel
     → HaveNumbersApart panel.fields
 
+-- no two values of a panel have the same number, and no value has that of a field of any panel
+pub record ValuesAreApart (set : Panels) : Type 0 where
+  pub values : (p i j : ℕ) (panel : PanelParts) (one other : Value) → i < j → slice_get set.panels p ≡ Some panel
+      → slice_get panel.values i ≡ Some one → slice_get panel.values j ≡ Some other → one.number ≢ other.number
+  pub fields : (p q i j : ℕ) (panel other : PanelParts) (field : Field) (value : Value)
+      → slice_get set.panels p ≡ Some panel → slice_get set.panels q ≡ Some other
+      → slice_get panel.fields i ≡ Some field → slice_get other.values j ≡ Some value → field.number ≢ value.number
+
+-- Holds if each value of a panel is what one of its texts shows, at the same place.
+abbrev pub ShowsItsValues : PanelParts → Type 0
+ShowsItsValues panel = (j : ℕ) (value : Value) → slice_get panel.values j ≡ Some value → (i : ℕ) × (text : TextItem)
+    × (slice_get panel.texts i ≡ Some text) × (text.extent ≡ value.extent) × (text.content ≡ Show value.number)
+
+abbrev pub ValuesAreTexts : Panels → Type 0
+ValuesAreTexts set = (number : ℕ) (panel : PanelParts) → slice_get set.panels number ≡ Some panel
+    → ShowsItsValues panel
+
 -- what holds of the panels of each text
 pub record AreSound (set : Panels) : Type 0 where
   pub linked : AreLinked set
@@ -149,3 +169,5 @@ pub record AreSound (set : Panels) : Type 0 where
   pub characters : AreOfCharacters set
   pub apart : AreApart set
   pub numbers : NumbersAreApart set
+  pub values : ValuesAreApart set
+  pub shown : ValuesAreTexts set

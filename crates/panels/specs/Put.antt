@@ -36,10 +36,10 @@ field_spoken fields message = option_and_then (λ number. field_numbered number 
 abbrev pub row_cell : ℕ → List ℕ → ℕ → Option Want
 row_cell start text cell = if nat_lt cell start then None else Some (item_cell (autoskip_attr true) text (cell - start))
 
--- the text of a message that names a field with this name
+-- the text of a message that names a field with this title, in the host's code
 abbrev pub text_with : List ℕ → Message → List ℕ
-text_with name Fresh = []
-text_with name Plain = []
-text_with name KeyNotActive = coded (codes "KEY NOT ACTIVE")
-text_with name (Required number) = coded (codes "REQUIRED: " ++ name)
-text_with name (Told text cursor) = coded text.characters
+text_with title Fresh = []
+text_with title Plain = []
+text_with title KeyNotActive = coded (codes "KEY NOT ACTIVE")
+text_with title (Required number) = coded (codes "REQUIRED: ") ++ title
+text_with title (Told text cursor) = coded text.characters

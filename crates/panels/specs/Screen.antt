@@ -21,7 +21,7 @@ use Rattle.panels.specs.Size.{message_start}
 use Rattle.panels.specs.Panel.{PanelParts, size_of}
 use Rattle.panels.specs.Values.{value_of}
 
--- the values of fields, by the fields' numbers
+-- what fields and values have, by their numbers
 abbrev pub Values : Type 0
 Values = List (ℕ × List ℕ)
 
@@ -40,7 +40,7 @@ abbrev pub autoskip_attr : Bool → Attr
 autoskip_attr bright =
     record { protected = true; numeric = true; display = (if bright then Bright else Normal); mdt = false }
 
--- the characters of a text: its own, or the value of a field, none if the field has no value
+-- the characters of a text: its own, or what a field or value has, none if it has nothing
 abbrev pub shown : Values → Content → List ℕ
 shown values (Literal text) = text
 shown values (Show number) = unwrap_or (value_of values number) []
@@ -104,7 +104,7 @@ message_text fields Fresh = []
 message_text fields Plain = []
 message_text fields KeyNotActive = coded (codes "KEY NOT ACTIVE")
 message_text fields (Required number) =
-    coded (codes "REQUIRED: " ++ option_map_or (λ field. field.name) (field_numbered number fields) [])
+    coded (codes "REQUIRED: ") ++ option_map_or (λ field. field.title) (field_numbered number fields) []
 message_text fields (Told text cursor) = coded text.characters
 
 -- the cell of the message row, which starts at an address and reaches to the end of the screen

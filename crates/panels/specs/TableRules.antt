@@ -2,12 +2,14 @@
 use Rattle.std.specs.Prelude.{codes, ℕ, Bool, true, false, not, ◌&&◌, List, [], ◌∷◌, Option, Some, None, is_some, option_map, bytes_eq, ℤ, pos, if◌then◌else◌}
 use Rattle.std.specs.Ordering.{int_eq}
 use Rattle.std.specs.List.{list_any}
+use Rattle.std.specs.Int.{is_in_range}
 use Rattle.toml.specs.Data as tree
 use Rattle.toml.specs.Data.{Data, Items, no_items, item, Members, no_members, member, get_member, as_integer, as_str, as_table}
 use Rattle.panels.specs.declared.fault.TreeFault.{TreeFault}
 use Rattle.panels.specs.declared.fault.TreeFault.TheVariants.{UnknownKey, Missing, BadKind}
 use Rattle.panels.specs.declared.rules.KeyKind.{KeyKind}
 use Rattle.panels.specs.declared.rules.KeyKind.TheVariants as kind
+use Rattle.panels.specs.Limits.{most_copies}
 use Rattle.panels.specs.Tree.{has_key, keys}
 
 abbrev pub is_text : Data → Bool
@@ -24,10 +26,16 @@ abbrev pub all_values : (Data → Bool) → Members → Bool
 all_values test no_members = true
 all_values test (member key value more) = test value && all_values test more
 
+-- the number of copies that an integer asks for: itself, if it is from 1 to 42
+abbrev pub count_of : ℤ → Option ℕ
+count_of (pos number) = if is_in_range 1 most_copies number then Some number else None
+count_of _ = None
+
 -- whether a value has a type
 abbrev pub is_of_kind : KeyKind → Data → Bool
 is_of_kind kind.Text (tree.string text) = true
 is_of_kind kind.Integer (tree.integer number) = true
+is_of_kind kind.Count (tree.integer number) = is_some (count_of number)
 is_of_kind kind.Truth (tree.boolean truth) = true
 is_of_kind kind.Texts (tree.array values) = all_items is_text values
 is_of_kind kind.Tables (tree.array values) = all_items is_table values
@@ -52,7 +60,7 @@ top_rules = must (codes "start") kind.Text ∷ must (codes "lus") kind.Texts ∷
 -- the rules for what a panel of any model may have, beside its name, its model and its `otherwise`
 abbrev pub content_rules : List Rule
 content_rules = may (codes "cursor") kind.Text ∷ may (codes "text") kind.Tables ∷ may (codes "field") kind.Tables
-    ∷ may (codes "asks") kind.Texts ∷ may (codes "keys") kind.Table ∷ []
+    ∷ may (codes "value") kind.Tables ∷ may (codes "asks") kind.Texts ∷ may (codes "keys") kind.Table ∷ []
 
 -- the rules for a panel of model 2, which any session shows
 abbrev pub base_rules : List Rule
@@ -80,13 +88,13 @@ panel_rules table = rules_by_model (option_map as_integer (get_member (codes "mo
 abbrev pub literal_rules : List Rule
 literal_rules =
     must (codes "row") kind.Integer ∷ must (codes "col") kind.Integer ∷ must (codes "text") kind.Text
-    ∷ may (codes "bright") kind.Truth ∷ []
+    ∷ may (codes "bright") kind.Truth ∷ may (codes "repeat") kind.Count ∷ []
 
 abbrev pub show_rules : List Rule
 show_rules =
     must (codes "row") kind.Integer ∷ must (codes "col") kind.Integer ∷ must (codes "show") kind.Text
     ∷ must (codes "length") kind.Integer
-    ∷ may (codes "bright") kind.Truth ∷ []
+    ∷ may (codes "bright") kind.Truth ∷ may (codes "repeat") kind.Count ∷ []
 
 abbrev pub field_rules : List Rule
 field_rules =
@@ -94,7 +102,13 @@ field_rules =
     ∷ must (codes "length") kind.Integer
     ∷ may (codes "fill") kind.Text ∷ may (codes "numeric") kind.Truth ∷ may (codes "hidden") kind.Truth
     ∷ may (codes "required") kind.Truth
-    ∷ may (codes "marked") kind.Truth ∷ []
+    ∷ may (codes "marked") kind.Truth ∷ may (codes "label") kind.Text ∷ may (codes "repeat") kind.Count ∷ []
+
+abbrev pub value_rules : List Rule
+value_rules =
+    must (codes "name") kind.Text ∷ must (codes "row") kind.Integer ∷ must (codes "col") kind.Integer
+    ∷ must (codes "length") kind.Integer
+    ∷ may (codes "bright") kind.Truth ∷ may (codes "repeat") kind.Count ∷ []
 
 -- the rules for a text item: for one with its own text, or for one that shows a field
 abbrev pub text_rules : Members → List Rule

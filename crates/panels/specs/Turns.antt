@@ -8,9 +8,9 @@ use Rattle.panels.specs.declared.fault.TreeFault.TheVariants.{UnknownKey, Missin
 use Rattle.panels.specs.declared.fault.PanelFault.{PanelFault}
 use Rattle.panels.specs.declared.fault.PanelFault.TheVariants.{Tree}
 use Rattle.panels.specs.declared.fault.Location.{Location}
-use Rattle.panels.specs.declared.fault.Location.TheVariants.{Top, Panel, Text, Field, Keys}
+use Rattle.panels.specs.declared.fault.Location.TheVariants.{Top, Panel, Text, Field, Value, Keys}
 use Rattle.panels.specs.declared.fault.At.{At}
-use Rattle.panels.specs.Faults.{place_of, IsFaulty}
+use Rattle.panels.specs.Faults.{place_of, table_of, IsFaulty}
 
 -- the pass that looks for a fault, from 1 to 6
 abbrev pub pass_of : TreeFault → ℕ
@@ -34,19 +34,23 @@ panel_turn (Panel p) = suc p
 panel_turn (Text p i) = suc p
 panel_turn (Field p i) = suc p
 panel_turn (Keys p) = suc p
+panel_turn (Value p i) = suc p
 
--- for each panel, a pass looks first at its own table, then at those of its texts, of its fields, and of its keys
+-- For each panel, a pass looks first at its own table, then at its texts, at its fields and values, and at the table of
+-- its keys. A value's table is no part: each copy of a value is one of a field.
 abbrev pub kind_turn : Location → ℕ
 kind_turn Top = 0
 kind_turn (Panel p) = 0
 kind_turn (Text p i) = 1
 kind_turn (Field p i) = 2
 kind_turn (Keys p) = 3
+kind_turn (Value p i) = 4
 
 -- it looks at texts, and at fields, in the order of the text
 abbrev pub item_turn : Location → ℕ
 item_turn (Text p i) = i
 item_turn (Field p i) = i
+item_turn (Value p i) = i
 item_turn _ = 0
 
 -- the faults that a pass looks for in one table are looked for in this order
@@ -81,7 +85,7 @@ IsClearTo turn draft = (fault : TreeFault) (part : Location) → IsSooner (turn_
 -- the draft has the fault at the place, and none whose turn is sooner
 pub record IsFirstFault (fault : TreeFault) (place : At) (draft : DraftText) : Type 0 where
   pub part : Location
-  pub at_place : place_of part ≡ place
+  pub at_place : place_of (table_of part draft.panels) ≡ place
   pub stands : IsFaulty fault part draft
   pub sooner : IsClearTo (turn_of fault part) draft
 

@@ -1,23 +1,23 @@
 //! Builds the panels that a faultless draft defines.
 ghost use Rattle.std.specs.Prelude.{◌≡◌, ◌+◌, ◌<◌, Some, None, All, Contains, IfOk, IfSome, bytes_eq, map, option_map, slice_get, length};
 ghost use Rattle.std.specs.List.{list_any};
-ghost use Rattle.panels.specs.Draft.{draft_size, otherwise_of};
+ghost use Rattle.panels.specs.Draft.{draft_size, fields_of, otherwise_of, values_of};
 ghost use Rattle.panels.specs.Keys.{key_names};
 ghost use Rattle.panels.specs.Passes.{IsFaultless};
-ghost use Rattle.panels.specs.Defines.{fields_before, IsContentOf, IsTextOf, IsEachOf, IsCursorBy, IsOtherwiseBy, IsPanelOf, IsTargetBy, Defines, text_at_key};
+ghost use Rattle.panels.specs.Defines.{fields_before, first_value, AreTextsOf, IsContentOf, IsFieldOf, IsShownOf, IsTextOf, IsValueOf, IsEachOf, IsCursorBy, IsOtherwiseBy, IsPanelOf, IsTargetBy, Defines, text_at_key};
 ghost use Rattle.panels.specs.Building.{IsTextIn, AreTargetsOf};
 
 use crate::characters::Characters;
 use crate::draft::{Draft, ItemDraft, PanelDraft};
 use crate::name::Name;
 use crate::names::{KEY_NAMES, is_among};
-use crate::panel::{Content, Field, Panel, TextItem};
+use crate::panel::{Content, Field, Panel, TextItem, Value};
 use crate::panel_set::PanelSet;
 use codes3270::Addr;
 use std::alloc::{AllocError, Global};
 
 impl<'a> Draft<'a> {
-    /// The number of fields in the panels before the one at this index.
+    /// The number of fields and values in the panels before the one at this index.
     fn fields_before(&self, panel: usize) -> usize
         requires faultless { IsFaultless self.now }
         requires there { panel < length self.now.panels }
@@ -39,10 +39,11 @@ impl<'a> Draft<'a> {
         if let Some(literal) = text.text {
             return Ok(Content::Literal(Characters::of_text(alloc, literal)?));
         }
-        let (panel, field) = self.field_named(text.show).unwrap_or((0, 0));
+        let (panel, field) = self.field_named(text.show.as_str()).unwrap_or((0, 0));
         Ok(Content::Show(self.fields_before(panel) + field))
     }
 
+    /// The texts of a panel's own.
     fn texts(&self, alloc: Global, panel: &PanelDraft) -> Result<Vec<TextItem>, AllocError>
         requires faultless { IsFaultless self.now }
         requires there { Contains self.now.panels panel.now }
@@ -64,23 +65,120 @@ impl<'a> Draft<'a> {
         Ok(texts)
     }
 
-    /// The panel that the draft at an index defines.
-    fn panel_at(&self, alloc: Global, panel: &PanelDraft, index: usize) -> Result<Panel, AllocError>
+    /// The number of the first value of the panel at an index.
+    fn first_value(&self, panel: &PanelDraft, index: usize) -> usize
         requires faultless { IsFaultless self.now }
         requires there { slice_get self.now.panels index ≡ Some panel.now }
-        ensures { IfOk result (IsPanelOf self.now.panels index panel.now) }
+        ensures { result ≡ first_value index self.now.panels panel.now }
+    {
+        self.fields_before(index) + panel.field_count()
+    }
+
+    /// The texts that show the values of the panel at an index.
+    fn shown_values(
+        &self,
+        alloc: Global,
+        panel: &PanelDraft,
+        index: usize,
+    ) -> Result<Vec<TextItem>, AllocError>
+        requires faultless { IsFaultless self.now }
+        requires there { slice_get self.now.panels index ≡ Some panel.now }
+        ensures { IfOk result (λ texts. IsEachOf
+            (λ i. IsShownOf (draft_size panel.now) (first_value index self.now.panels panel.now + i))
+            (values_of panel.now) texts.items) }
+    {
+        let size = panel.size();
+        let first = self.first_value(panel, index);
+        let drafts = panel.value_drafts();
+        let mut texts = Vec::new(alloc);
+        for place in 0..drafts.len() {
+            let value = &drafts[place];
+            let Some(extent) = value.extent(size) else {
+                continue;
+            };
+            texts.push(TextItem {
+                extent,
+                bright: value.bright,
+                content: Content::Show(first + place),
+            })?;
+        }
+        Ok(texts)
+    }
+
+    /// All texts of the panel at an index.
+    fn all_texts(
+        &self,
+        alloc: Global,
+        panel: &PanelDraft,
+        index: usize,
+    ) -> Result<Vec<TextItem>, AllocError>
+        requires faultless { IsFaultless self.now }
+        requires there { slice_get self.now.panels index ≡ Some panel.now }
+        ensures { IfOk result (λ texts. AreTextsOf self.now.panels index panel.now texts.items) }
+    {
+        let mut texts = self.texts(alloc, panel)?;
+        let mut shown = self.shown_values(alloc, panel, index)?;
+        texts.append(&mut shown)?;
+        Ok(texts)
+    }
+
+    /// The values of the panel at an index.
+    fn values(
+        &self,
+        alloc: Global,
+        panel: &PanelDraft,
+        index: usize,
+    ) -> Result<Vec<Value>, AllocError>
+        requires faultless { IsFaultless self.now }
+        requires there { slice_get self.now.panels index ≡ Some panel.now }
+        ensures { IfOk result (λ values. IsEachOf
+            (λ i. IsValueOf (draft_size panel.now) (first_value index self.now.panels panel.now + i))
+            (values_of panel.now) values.items) }
+    {
+        let size = panel.size();
+        let first = self.first_value(panel, index);
+        let drafts = panel.value_drafts();
+        let mut values = Vec::new(alloc);
+        for place in 0..drafts.len() {
+            let value = &drafts[place];
+            let Some(extent) = value.extent(size) else {
+                continue;
+            };
+            values.push(Value {
+                number: first + place,
+                name: Name::of_text(alloc, value.name.as_str())?,
+                extent,
+            })?;
+        }
+        Ok(values)
+    }
+
+    /// The fields of the panel at an index.
+    fn fields(
+        &self,
+        alloc: Global,
+        panel: &PanelDraft,
+        index: usize,
+    ) -> Result<Vec<Field>, AllocError>
+        requires faultless { IsFaultless self.now }
+        requires there { slice_get self.now.panels index ≡ Some panel.now }
+        ensures { IfOk result (λ fields. IsEachOf
+            (λ i. IsFieldOf (draft_size panel.now) (fields_before index self.now.panels + i))
+            (fields_of panel.now) fields.items) }
     {
         let size = panel.size();
         let first = self.fields_before(index);
+        let drafts = panel.field_drafts();
         let mut fields = Vec::new(alloc);
-        for place in 0..panel.fields.len() {
-            let field = &panel.fields[place];
+        for place in 0..drafts.len() {
+            let field = &drafts[place];
             let Some(extent) = field.extent(size) else {
                 continue;
             };
             fields.push(Field {
                 number: first + place,
-                name: Name::of_text(alloc, field.name)?,
+                name: Name::of_text(alloc, field.name.as_str())?,
+                title: Characters::of_text(alloc, field.title())?,
                 extent,
                 numeric: field.numeric,
                 hidden: field.hidden,
@@ -89,11 +187,22 @@ impl<'a> Draft<'a> {
                 fill: Characters::of_text(alloc, field.fill)?,
             })?;
         }
+        Ok(fields)
+    }
+
+    /// The panel that the draft at an index defines.
+    fn panel_at(&self, alloc: Global, panel: &PanelDraft, index: usize) -> Result<Panel, AllocError>
+        requires faultless { IsFaultless self.now }
+        requires there { slice_get self.now.panels index ≡ Some panel.now }
+        ensures { IfOk result (IsPanelOf self.now.panels index panel.now) }
+    {
+        let fields = self.fields(alloc, panel, index)?;
         Ok(Panel {
             name: Name::of_text(alloc, panel.name)?,
             model: panel.model(),
             otherwise: self.otherwise(panel),
-            texts: self.texts(alloc, panel)?,
+            texts: self.all_texts(alloc, panel, index)?,
+            values: self.values(alloc, panel, index)?,
             cursor: cursor_of(panel.cursor, fields.as_slice()),
             targets: self.targets(alloc, panel)?,
             asked: asked_keys(alloc, panel)?,

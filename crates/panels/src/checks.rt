@@ -1,6 +1,6 @@
 //! Finds the faults of a draft, table by table.
 ghost use Rattle.std.specs.Prelude.{◌≡◌, ◌↔◌, ◌+◌, ◌<◌, IfOk, IsTrue, OnOk, length, ◌≤ℤ◌, ◌<ℤ◌, ◌-ℤ◌, ◌&&◌, ℕ, Some, true, false, MatchOption, pos, chars, List, Contains, bytes_eq, map, not, option_map};
-ghost use Rattle.panels.specs.Faults.{HasFault, is_part, faults_of, IsOverlapping, Overlaps, item_at, size_at, HasFieldNamed, HasLostCursor, has_key_twice, has_strange_key, asks_twice, HasLostOtherwise, IsBasePanelNamed, NamesBasePanel, NamesPanel, NamesField, name_at};
+ghost use Rattle.panels.specs.Faults.{HasFault, is_part, faults_of, IsOverlapping, Overlaps, item_at, size_at, HasFieldNamed, HasLostCursor, has_key_twice, has_strange_key, asks_twice, HasLostOtherwise, IsNamedAsOne, IsTwiceNamed, IsBasePanelNamed, NamesBasePanel, NamesPanel, NamesField, NamesItem, IsFirstNamed, name_at};
 ghost use Rattle.panels.specs.Listing.{AreFaultsOf};
 ghost use Rattle.panels.specs.Walk.{turn_at, turn_behind, AreFoundTo, IsAdded, nth, is_letter_of};
 ghost use Rattle.panels.specs.Size.{item_rows, message_start};
@@ -21,12 +21,14 @@ use crate::size::{item_rows, message_start};
 use codes3270::{Size, from_latin1};
 use std::alloc::{AllocError, Global};
 
-// The most panels of a text, and the most texts and fields of a panel.
-const MOST_PANELS: usize = 64;
+/// The most panels of a text.
+pub const MOST_PANELS: usize = 64;
 
-const MOST_TEXTS: usize = 256;
+/// The most texts of a panel.
+pub const MOST_TEXTS: usize = 256;
 
-const MOST_FIELDS: usize = 128;
+/// The most fields and values of a panel.
+pub const MOST_FIELDS: usize = 128;
 
 impl<'a> Draft<'a> {
     /// Whether a table has a fault.
@@ -39,16 +41,12 @@ impl<'a> Draft<'a> {
             (TooMany, Location::Panel(panel)) => self.panel(panel).is_some_and(|panel| {
                 MOST_TEXTS < panel.texts.len() || MOST_FIELDS < panel.fields.len()
             }),
-            (BadName, _) => self.name(part).is_some_and(|name| !is_name(part, name)),
+            (BadName, _) => self.stem(part).is_some_and(|name| !is_name(part, name)),
             (BadKey, Location::Keys(panel)) => self
                 .panel(panel)
                 .is_some_and(|panel| panel.has_strange_key()),
             (TwiceNamed, Location::Panel(_)) => is_later(&self.panel_names, self.name(part), part),
-            (TwiceNamed, Location::Field(_, _)) => is_later(
-                &self.field_names,
-                self.name(part),
-                part,
-            ),
+            (TwiceNamed, Location::Field(panel, field)) => self.is_field_twice(panel, field),
             (TwiceNamed, Location::Keys(panel)) => {
                 self.panel(panel).is_some_and(|panel| panel.has_key_twice())
             }
@@ -68,7 +66,7 @@ impl<'a> Draft<'a> {
                 None => false,
             },
             (NoTarget, Location::Text(_, _)) => match self.item(part) {
-                Some(text) => text.text.is_none() && self.field_named(text.show).is_none(),
+                Some(text) => text.text.is_none() && self.field_named(text.show.as_str()).is_none(),
                 None => false,
             },
             (NoTarget, Location::Keys(panel)) => match self.panel(panel) {
@@ -111,7 +109,7 @@ impl<'a> Draft<'a> {
         Ok(())
     }
 
-    /// Adds the faults of a panel that a pass looks for: of its own table, its texts, its fields and its table of keys.
+    /// Adds the faults of a panel that a pass looks for: of its table, its texts, its fields and values, and its keys.
     fn add_of_panel(
         &self,
         pass: usize,
@@ -146,8 +144,12 @@ impl<'a> Draft<'a> {
         Ok(())
     }
 
-    /// All faults, pass by pass.
-    pub(crate) fn faults(&self, alloc: Global) -> Result<Vec<LocatedFault>, AllocError>
+    /// All faults of the text, each once, in the order in which `PanelSet::read` looks for them; that refuses the text for
+    /// the first. A value that is absent, or of another type, counts as 0, false or no text, and may have faults for that,
+    /// too.
+    ///
+    /// Err only if memory is refused.
+    pub fn faults(&self, alloc: Global) -> Result<Vec<LocatedFault>, AllocError>
         ensures { IfOk result (λ found. AreFaultsOf self.now found.items) }
     {
         let mut found = Vec::new(alloc);
@@ -158,7 +160,7 @@ impl<'a> Draft<'a> {
     }
 
     /// The extent of an item on a screen of this size; `None` if there is none, or it isn't above the message row.
-    fn extent(&self, size: Size, part: Location) -> Option<Extent>
+    pub fn extent(&self, size: Size, part: Location) -> Option<Extent>
         ensures { MatchOption result
             ((item : DraftItem) → item_at part self.now.panels ≡ Some item → is_on_screen size item ≡ false)
             (λ extent. (item : DraftItem) × (item_at part self.now.panels ≡ Some item) × (is_on_screen size item ≡ true)
@@ -185,7 +187,7 @@ impl<'a> Draft<'a> {
         false
     }
 
-    /// Whether a text or a field shares a cell with an earlier item of its panel.
+    /// Whether an item shares a cell with an earlier one of its panel.
     pub(crate) fn is_overlapping(&self, part: Location) -> bool
         ensures { IsTrue result ↔ IsOverlapping part self.now.panels }
     {
@@ -200,12 +202,31 @@ impl<'a> Draft<'a> {
                 self.overlaps_any(size, extent, Location::Text(panel, 0), texts)
                     || self.overlaps_any(size, extent, part, field)
             }
-            Location::Top | Location::Panel(_) | Location::Keys(_) => false,
+            Location::Top | Location::Panel(_) | Location::Value(_, _) | Location::Keys(_) => false,
         }
     }
 
+    /// Whether an earlier field or value has the name of this one, or this one is a copy, and one without copies has
+    /// its table's name.
+    fn is_field_twice(&self, panel: usize, field: usize) -> bool
+        ensures { IsTrue result ↔ IsTwiceNamed (part.Field panel field) self.now.panels }
+    {
+        let part = Location::Field(panel, field);
+        is_later(&self.field_names, self.name(part), part) || self.is_named_as_one(part)
+    }
+
+    /// Whether a part is a copy of a field or value, and one without copies has the name of its table.
+    fn is_named_as_one(&self, part: Location) -> bool
+        ensures { IsTrue result ↔ IsNamedAsOne part self.now.panels }
+    {
+        let Some(item) = self.item(part) else {
+            return false;
+        };
+        item.copy.is_some() && self.item_named(item.stem).is_some()
+    }
+
     /// The index of the first panel with a name.
-    pub(crate) fn panel_named(&self, name: &str) -> Option<usize>
+    pub fn panel_named(&self, name: &str) -> Option<usize>
         ensures { MatchOption result (¬ NamesPanel name.now self.now.panels)
             (λ panel. name_at (part.Panel panel) self.now.panels ≡ Some name.now) }
     {
@@ -216,7 +237,7 @@ impl<'a> Draft<'a> {
     }
 
     /// The index of the first panel of model 2 with a name.
-    pub(crate) fn base_panel_named(&self, name: &str) -> Option<usize>
+    pub fn base_panel_named(&self, name: &str) -> Option<usize>
         ensures { MatchOption result (¬ NamesBasePanel name.now self.now.panels)
             (IsBasePanelNamed self.now.panels name.now) }
     {
@@ -238,15 +259,29 @@ impl<'a> Draft<'a> {
         }
     }
 
-    /// The first field with a name: the index of its panel, and its own there.
-    pub(crate) fn field_named(&self, name: &str) -> Option<(usize, usize)>
-        ensures { MatchOption result (¬ NamesField name.now self.now.panels)
-            (λ at. name_at (part.Field at.0 at.1) self.now.panels ≡ Some name.now) }
+    /// The first field or value with a name: the index of its panel, and its own there.
+    pub fn item_named(&self, name: &str) -> Option<(usize, usize)>
+        ensures { MatchOption result (¬ NamesItem name.now self.now.panels)
+            (λ at. IsFirstNamed name.now (part.Field at.0 at.1) self.now.panels) }
     {
         match self.field_names.get(name)? {
             Location::Field(panel, field) => Some((*panel, *field)),
             _ => None,
         }
+    }
+
+    /// The field with a name: the index of its panel, and its own there. `None` if the first with this name is a value.
+    pub fn field_named(&self, name: &str) -> Option<(usize, usize)>
+        ensures { MatchOption result (¬ NamesField name.now self.now.panels)
+            (λ at. (name_at (part.Field at.0 at.1) self.now.panels ≡ Some name.now)
+            × NamesField name.now self.now.panels) }
+    {
+        let (panel, field) = self.item_named(name)?;
+        let item = self.item(Location::Field(panel, field))?;
+        if item.is_value {
+            return None;
+        }
+        Some((panel, field))
     }
 
     /// Whether one of a panel's keys names no panel.

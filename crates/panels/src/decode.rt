@@ -1,9 +1,9 @@
 //! Decodes a TOML tree into a draft.
-ghost use Rattle.std.specs.Prelude.{◌≡◌, codes, map, option_map, unwrap_or, IfOk};
+ghost use Rattle.std.specs.Prelude.{◌≡◌, ◌++◌, codes, map, option_map, string_bytes, unwrap_or, IfOk, OnOk, Some};
 ghost use Rattle.toml.specs.Data.{no_members};
 ghost use Rattle.toml.specs.View.{table_view};
-ghost use Rattle.panels.specs.Draft.{panel_of, draft_of};
-ghost use Rattle.panels.specs.Rules.{item_in};
+ghost use Rattle.panels.specs.Draft.{copies_by, draft_of, has_place, has_sound_model, items_from, name_of_copy, panel_of, repeat_of};
+ghost use Rattle.panels.specs.Rules.{item_in, items_in};
 ghost use Rattle.panels.specs.TableRules.{wrong_in_keys};
 ghost use Rattle.panels.specs.Tree.{items_under, table_under, tables_in, texts_in, texts_by_key};
 
@@ -11,49 +11,166 @@ use crate::draft::{Draft, ItemDraft, PanelDraft};
 use crate::fault::TreeFault;
 use crate::index::name_indexes;
 use crate::items::characters_in;
-use crate::rules::{item_rules, panel_rules, top_rules, wrong_by};
-use crate::tree::{is_true_at, number_at, number_or, text_at, text_or_empty, value_at, values_at};
+use crate::rules::{count_of, item_rules, panel_rules, top_rules, wrong_by};
+use crate::tree::{
+    has_array, has_integer, has_key, has_text, is_true_at, number_at, number_or, text_at,
+    text_or_empty, value_at, values_at,
+};
 use std::alloc::{AllocError, Global};
 use toml::Table;
 
-/// The draft of an item, from its table; `array` is the key of the array that has it, `text` or `field`.
-fn item_draft<'a>(array: &str, table: &'a Table) -> ItemDraft<'a>
-    ensures { result ≡ item_in array.now (table_view table.now) }
+/// Whether the table of an item has its row, its column, and its text or length.
+fn has_place(table: &Table) -> bool
+    ensures { result ≡ has_place (table_view table.now) }
+{
+    has_integer(table, "row")
+        && has_integer(table, "col")
+        && (has_text(table, "text") || has_integer(table, "length"))
+}
+
+/// Whether the `model` in the table of a panel is absent, or an integer.
+fn has_sound_model(panel: &Table) -> bool
+    ensures { result ≡ has_sound_model (table_view panel.now) }
+{
+    !has_key(panel, "model") || has_integer(panel, "model")
+}
+
+/// The name of a copy: the name that its table has, and the copy's number from 1 on.
+fn name_of_copy(alloc: Global, stem: &str, copy: Option<u8>) -> Result<String, AllocError>
+    ensures { IfOk result (λ name. string_bytes name ≡ name_of_copy stem.now copy) }
+{
+    match copy {
+        Some(copy) => {
+            let number = u16::from(copy) + 1;
+            format!(in alloc; "{stem}.{number}")
+        }
+        None => String::from_str(alloc, stem),
+    }
+}
+
+/// The draft of a copy of an item, from the item's table, which has this index in its array; `array` is the key of that
+/// array, `text`, `field` or `value`.
+fn item_draft<'a>(
+    alloc: Global,
+    array: &str,
+    index: usize,
+    table: &'a Table,
+    copy: Option<u8>,
+) -> Result<ItemDraft<'a>, AllocError>
+    ensures { IfOk result (λ item. item ≡ item_in array.now index (table_view table.now) copy) }
 {
     let text = text_at(table, "text");
-    ItemDraft {
+    let stem = text_or_empty(table, "name");
+    Ok(ItemDraft {
+        table,
         wrong: wrong_by(item_rules(array, table), table),
+        index,
+        copy,
+        is_value: array == "value",
+        is_named: has_text(table, "name"),
+        is_placed: has_place(table),
+        has_show: has_text(table, "show"),
         row: number_at(table, "row"),
         column: number_at(table, "col"),
         length: text.map_or_else(|| number_at(table, "length"), |text| characters_in(text)),
         text,
-        show: text_or_empty(table, "show"),
-        name: text_or_empty(table, "name"),
+        show: name_of_copy(alloc, text_or_empty(table, "show"), copy)?,
+        stem,
+        name: name_of_copy(alloc, stem, copy)?,
+        label: text_or_empty(table, "label"),
         fill: text_or_empty(table, "fill"),
         bright: is_true_at(table, "bright"),
         numeric: is_true_at(table, "numeric"),
         hidden: is_true_at(table, "hidden"),
         required: is_true_at(table, "required"),
         marked: is_true_at(table, "marked"),
-    }
+    })
 }
 
-/// The drafts of the items in a panel's array of texts or fields.
+/// The number of copies that a table asks for; `None` if it has no `repeat`.
+fn copies_in(table: &Table) -> Option<u8>
+    ensures { result ≡ repeat_of (table_view table.now) }
+{
+    let repeat = value_at(table, "repeat")?.as_integer()?;
+    count_of(repeat)
+}
+
+/// Adds `count` copies of an item.
+fn add_copies<'a>(
+    alloc: Global,
+    array: &str,
+    index: usize,
+    table: &'a Table,
+    count: u8,
+    items: &mut Vec<ItemDraft<'a>>,
+) -> Result<(), AllocError>
+    ensures { OnOk result (items.new.items ≡ items.old.items
+        ++ map (item_in array.now index (table_view table.now)) (copies_by (Some count))) }
+{
+    for copy in 0..count {
+        items.push(item_draft(alloc, array, index, table, Some(copy))?)?;
+    }
+    Ok(())
+}
+
+/// Adds the copies of an item, or the item alone if its table has no `repeat`.
+fn add_items<'a>(
+    alloc: Global,
+    array: &str,
+    index: usize,
+    table: &'a Table,
+    items: &mut Vec<ItemDraft<'a>>,
+) -> Result<(), AllocError>
+    ensures { OnOk result (items.new.items ≡ items.old.items ++ items_in array.now index (table_view table.now)) }
+{
+    match copies_in(table) {
+        Some(count) => add_copies(alloc, array, index, table, count, items)?,
+        None => items.push(item_draft(alloc, array, index, table, None)?)?,
+    }
+    Ok(())
+}
+
+/// The tables in an array of a panel; values of other types are left out.
+fn tables_at<'a>(alloc: Global, panel: &'a Table, array: &str) -> Result<Vec<&'a Table>, AllocError>
+    ensures { IfOk result (λ tables.
+        map (λ table. table_view table.now) tables.items ≡ tables_in (items_under array.now (table_view panel.now))) }
+{
+    let mut tables = Vec::new(alloc);
+    for value in values_at(panel, array) {
+        if let Some(table) = value.as_table() {
+            tables.push(table)?;
+        }
+    }
+    Ok(tables)
+}
+
+/// The drafts of the items in a panel's array of texts, fields or values.
 fn item_drafts<'a>(
     alloc: Global,
     panel: &'a Table,
     array: &str,
 ) -> Result<Vec<ItemDraft<'a>>, AllocError>
-    ensures { IfOk result
-        (λ items. items.items ≡ map (item_in array.now) (tables_in (items_under array.now (table_view panel.now)))) }
+    ensures { IfOk result (λ items.
+        items.items ≡ items_from (items_in array.now) 0 (tables_in (items_under array.now (table_view panel.now)))) }
 {
+    let tables = tables_at(alloc, panel, array)?;
     let mut items = Vec::new(alloc);
-    for value in values_at(panel, array) {
-        if let Some(table) = value.as_table() {
-            items.push(item_draft(array, table))?;
-        }
+    for index in 0..tables.len() {
+        add_items(alloc, array, index, tables[index], &mut items)?;
     }
     Ok(items)
+}
+
+/// The drafts of a panel's fields, and after these of its values.
+fn field_drafts<'a>(alloc: Global, panel: &'a Table) -> Result<Vec<ItemDraft<'a>>, AllocError>
+    ensures { IfOk result (λ items. items.items
+        ≡ items_from (items_in (codes "field")) 0 (tables_in (items_under (codes "field") (table_view panel.now)))
+        ++ items_from (items_in (codes "value")) 0 (tables_in (items_under (codes "value") (table_view panel.now)))) }
+{
+    let mut fields = item_drafts(alloc, panel, "field")?;
+    let mut values = item_drafts(alloc, panel, "value")?;
+    fields.append(&mut values)?;
+    Ok(fields)
 }
 
 /// What is wrong with a panel's table of keys.
@@ -112,13 +229,17 @@ fn panel_draft<'a>(alloc: Global, panel: &'a Table) -> Result<PanelDraft<'a>, Al
 {
     let keys = key_table(panel);
     Ok(PanelDraft {
+        table: panel,
         wrong: wrong_by(panel_rules(panel), panel),
+        is_named: has_text(panel, "name"),
+        has_sound_model: has_sound_model(panel),
+        has_otherwise: has_text(panel, "otherwise"),
         name: text_or_empty(panel, "name"),
         model: number_or(panel, "model", 2),
         otherwise: text_or_empty(panel, "otherwise"),
         cursor: text_at(panel, "cursor"),
         texts: item_drafts(alloc, panel, "text")?,
-        fields: item_drafts(alloc, panel, "field")?,
+        fields: field_drafts(alloc, panel)?,
         asks: texts_at(alloc, panel, "asks")?,
         wrong_keys: wrong_in_table(keys),
         keys: keys_in(alloc, keys)?,
@@ -152,18 +273,25 @@ fn texts_at<'a>(alloc: Global, table: &'a Table, key: &str) -> Result<Vec<&'a st
     Ok(texts)
 }
 
-/// The draft of a panel text, from its TOML tree.
-pub(crate) fn decode<'a>(alloc: Global, top: &'a Table) -> Result<Draft<'a>, AllocError>
-    ensures { IfOk result (λ draft. draft ≡ draft_of (table_view top.now)) }
-{
-    let panels = panel_drafts(alloc, top)?;
-    let (panel_names, field_names) = name_indexes(alloc, panels.as_slice())?;
-    Ok(Draft {
-        wrong: wrong_by(top_rules(), top),
-        start: text_or_empty(top, "start"),
-        lus: texts_at(alloc, top, "lus")?,
-        panels,
-        panel_names,
-        field_names,
-    })
+impl<'a> Draft<'a> {
+    /// The draft of a panel text, from its TOML tree.
+    ///
+    /// Err only if memory is refused.
+    pub fn of(alloc: Global, top: &'a Table) -> Result<Draft<'a>, AllocError>
+        ensures { IfOk result (λ draft. draft ≡ draft_of (table_view top.now)) }
+    {
+        let panels = panel_drafts(alloc, top)?;
+        let (panel_names, field_names) = name_indexes(alloc, panels.as_slice())?;
+        Ok(Draft {
+            table: top,
+            wrong: wrong_by(top_rules(), top),
+            has_start: has_text(top, "start"),
+            has_lus: has_array(top, "lus"),
+            start: text_or_empty(top, "start"),
+            lus: texts_at(alloc, top, "lus")?,
+            panels,
+            panel_names,
+            field_names,
+        })
+    }
 }

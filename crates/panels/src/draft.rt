@@ -1,7 +1,7 @@
 //! Drafts: what the tables of a panel text say, by the types of their keys, before faults are looked for.
-ghost use Rattle.std.specs.Prelude.{◌≡◌, not, option_copied, option_map, slice_get};
-ghost use Rattle.panels.specs.Draft.{draft_size, otherwise_of};
-ghost use Rattle.panels.specs.Faults.{item_at, name_at, size_at, wrong_at};
+ghost use Rattle.std.specs.Prelude.{◌≡◌, ◌<◌, ◌≤◌, IfSome, length, not, position, option_copied, option_map, slice_get};
+ghost use Rattle.panels.specs.Draft.{draft_size, field_count, fields_of, otherwise_of, title_of, values_of};
+ghost use Rattle.panels.specs.Faults.{item_at, name_at, size_at, stem_at, table_by, table_of, wrong_at};
 ghost use Rattle.panels.specs.Size.{is_model_number, model_numbered};
 
 use crate::fault::{Location, TreeFault};
@@ -9,20 +9,40 @@ use crate::index::NameIndex;
 use crate::size::model_numbered;
 use codes3270::{Model, Size};
 use std::marker;
+use toml::Table;
 
-/// A text or a field of a panel, as its table has it. What is absent is 0, false, or no text.
+/// A text, a field or a value of a panel, or one of its copies, as its table has it. What is absent is 0, false, or
+/// no text.
 #[derive(Drop)]
-pub(crate) struct ItemDraft<'a> {
+pub struct ItemDraft<'a> {
+    /// The table, in which messages look for names.
+    pub table: &'a Table,
     /// What is wrong with its keys and their values.
     pub wrong: Option<TreeFault>,
+    /// The index of its table among those of texts, of fields, or of values.
+    pub index: usize,
+    /// Its index among the copies; `None` if its table has no `repeat`.
+    pub copy: Option<u8>,
+    /// Whether it is a value.
+    pub is_value: bool,
+    /// Whether it has a name.
+    pub is_named: bool,
+    /// Whether it has a row, a column, and a text or a length.
+    pub is_placed: bool,
+    /// Whether it has the name of a field to show.
+    pub has_show: bool,
     pub row: i64,
     pub column: i64,
     /// Its number of characters: that of its text, or the value at `length`.
     pub length: i64,
     pub text: Option<&'a str>,
     /// The name of the field whose value it shows, if it has no text of its own.
-    pub show: &'a str,
-    pub name: &'a str,
+    pub show: String,
+    /// The value at `name`, without a copy's number.
+    pub stem: &'a str,
+    pub name: String,
+    /// What messages call it, if it isn't empty.
+    pub label: &'a str,
     pub fill: &'a str,
     pub bright: bool,
     pub numeric: bool,
@@ -32,19 +52,27 @@ pub(crate) struct ItemDraft<'a> {
 }
 
 impl<'a> marker::Model for ItemDraft<'a> {
-    ghost use Rattle.std.specs.Prelude.{option_map};
+    ghost use Rattle.std.specs.Prelude.{option_map, string_bytes};
     ghost use Rattle.panels.specs.Draft.{DraftItem};
 
     ghost Value = { DraftItem };
 
     ghost view = { λ item. record {
       wrong = item.wrong;
+      index = item.index;
+      copy = item.copy;
+      is_value = item.is_value;
+      named = item.is_named;
+      placed = item.is_placed;
+      shows = item.has_show;
       row = item.row;
       column = item.column;
       size = item.length;
       text = option_map (λ text. text.now) item.text;
-      show = item.show.now;
-      name = item.name.now;
+      show = string_bytes item.show;
+      stem = item.stem.now;
+      name = string_bytes item.name;
+      label = item.label.now;
       fill = item.fill.now;
       bright = item.bright;
       numeric = item.numeric;
@@ -56,8 +84,15 @@ impl<'a> marker::Model for ItemDraft<'a> {
 
 /// A panel, as its tables have it.
 #[derive(Drop)]
-pub(crate) struct PanelDraft<'a> {
+pub struct PanelDraft<'a> {
+    pub table: &'a Table,
+    /// What is wrong with the keys of its own table and their values.
     pub wrong: Option<TreeFault>,
+    /// Whether it has a name.
+    pub is_named: bool,
+    /// Whether its `model` is absent, or an integer.
+    pub has_sound_model: bool,
+    pub has_otherwise: bool,
     pub name: &'a str,
     /// Its `model`; 2 if it has none.
     pub model: i64,
@@ -65,6 +100,7 @@ pub(crate) struct PanelDraft<'a> {
     pub otherwise: &'a str,
     pub cursor: Option<&'a str>,
     pub texts: Vec<ItemDraft<'a>>,
+    /// Its fields, and after these its values.
     pub fields: Vec<ItemDraft<'a>>,
     /// The names of the keys that the application decides on.
     pub asks: Vec<&'a str>,
@@ -82,6 +118,9 @@ impl<'a> marker::Model for PanelDraft<'a> {
 
     ghost view = { λ panel. record {
       wrong = panel.wrong;
+      named = panel.is_named;
+      sized = panel.has_sound_model;
+      replaced = panel.has_otherwise;
       name = panel.name.now;
       model = panel.model;
       otherwise = panel.otherwise.now;
@@ -94,15 +133,22 @@ impl<'a> marker::Model for PanelDraft<'a> {
     } };
 }
 
-/// The whole text, with the first part that has each name.
+/// What the tables of a panel text say, before faults are looked for. Values in an array of tables that aren't tables, and
+/// values in an array of strings that aren't strings, are left out.
 #[derive(Drop)]
-pub(crate) struct Draft<'a> {
+pub struct Draft<'a> {
+    pub table: &'a Table,
+    /// What is wrong with the keys of the text's own table and their values.
     pub wrong: Option<TreeFault>,
+    pub has_start: bool,
+    /// Whether it has an array of LUs.
+    pub has_lus: bool,
     pub start: &'a str,
     pub lus: Vec<&'a str>,
     pub panels: Vec<PanelDraft<'a>>,
-    pub panel_names: NameIndex,
-    pub field_names: NameIndex,
+    // The first part that has each name.
+    pub(crate) panel_names: NameIndex,
+    pub(crate) field_names: NameIndex,
 }
 
 impl<'a> marker::Model for Draft<'a> {
@@ -114,12 +160,47 @@ impl<'a> marker::Model for Draft<'a> {
 
     ghost view = { λ draft. record {
       wrong = draft.wrong;
+      starts = draft.has_start;
+      has_lus = draft.has_lus;
       start = draft.start.now;
       lus = map (λ lu. lu.now) draft.lus.items;
       panels = draft.panels.items;
     } };
 
     ghost invariant = { λ draft. AreIndexes draft.panels.items draft.panel_names draft.field_names };
+}
+
+impl<'a> ItemDraft<'a> {
+    /// Its table, if it is at this part.
+    fn table(&self, part: Location) -> Location
+        ensures { result ≡ table_by part self.now }
+    {
+        match part {
+            Location::Text(panel, _) => Location::Text(panel, self.index),
+            Location::Field(panel, _) if self.is_value => Location::Value(panel, self.index),
+            Location::Field(panel, _) => Location::Field(panel, self.index),
+            Location::Top | Location::Panel(_) | Location::Value(_, _) | Location::Keys(_) => part,
+        }
+    }
+
+    /// What messages call it: its label, or its name if it has none.
+    pub(crate) fn title(&self) -> &str
+        ensures { result.now ≡ title_of self.now }
+    {
+        if self.label.is_empty() {
+            self.name.as_str()
+        } else {
+            self.label
+        }
+    }
+}
+
+/// The index of the first value among these items.
+fn first_value(items: &[ItemDraft]) -> Option<usize>
+    ensures index { result ≡ position (λ item. item.is_value) items.now }
+    ensures within { IfSome result (λ index. index < length items.now) }
+{
+    items.iter().position(|item| item.is_value)
 }
 
 impl<'a> PanelDraft<'a> {
@@ -148,6 +229,29 @@ impl<'a> PanelDraft<'a> {
         }
     }
 
+    /// The number of its fields.
+    pub(crate) fn field_count(&self) -> usize
+        ensures count { result ≡ field_count self.now.fields }
+        ensures within { result ≤ length self.now.fields }
+    {
+        let fields = self.fields.as_slice();
+        first_value(fields).unwrap_or(fields.len())
+    }
+
+    /// Its fields.
+    pub(crate) fn field_drafts(&self) -> &[ItemDraft<'a>]
+        ensures { result.now ≡ fields_of self.now }
+    {
+        &self.fields[..self.field_count()]
+    }
+
+    /// Its values.
+    pub(crate) fn value_drafts(&self) -> &[ItemDraft<'a>]
+        ensures { result.now ≡ values_of self.now }
+    {
+        &self.fields[self.field_count()..]
+    }
+
     /// Whether the number of its model is none of 2 to 5.
     pub(crate) fn has_bad_model(&self) -> bool
         ensures { result ≡ not (is_model_number self.now.model) }
@@ -157,43 +261,69 @@ impl<'a> PanelDraft<'a> {
 }
 
 impl<'a> Draft<'a> {
-    pub(crate) fn panel(&self, index: usize) -> Option<&PanelDraft<'a>>
+    /// The panel with an index.
+    pub fn panel(&self, index: usize) -> Option<&PanelDraft<'a>>
         ensures { option_copied result ≡ slice_get self.now.panels index }
     {
         self.panels.as_slice().get(index)
     }
 
-    /// The text or field at a part; `None` if the part is another table, or isn't there.
-    pub(crate) fn item(&self, part: Location) -> Option<&ItemDraft<'a>>
+    /// The item at a part; `None` if the part is another table, or isn't there.
+    pub fn item(&self, part: Location) -> Option<&ItemDraft<'a>>
         ensures { option_copied result ≡ item_at part self.now.panels }
     {
         match part {
             Location::Text(panel, text) => self.panel(panel)?.texts.as_slice().get(text),
             Location::Field(panel, field) => self.panel(panel)?.fields.as_slice().get(field),
-            Location::Top | Location::Panel(_) | Location::Keys(_) => None,
+            Location::Top | Location::Panel(_) | Location::Value(_, _) | Location::Keys(_) => None,
         }
     }
 
-    /// The size of the screen on which a text or field is laid out; that of model 2 for any other part.
-    pub(crate) fn size(&self, part: Location) -> Size
+    /// The size of the screen on which an item is laid out; that of model 2 for any other part.
+    pub fn size(&self, part: Location) -> Size
         ensures { result ≡ size_at part self.now.panels }
     {
         match part {
             Location::Text(panel, _) | Location::Field(panel, _) => {
                 self.panel(panel).map_or(Size::base(), |panel| panel.size())
             }
-            Location::Top | Location::Panel(_) | Location::Keys(_) => Size::base(),
+            Location::Top | Location::Panel(_) | Location::Value(_, _) | Location::Keys(_) => {
+                Size::base()
+            }
         }
     }
 
-    /// The name of a panel or field; `None` for any other part.
-    pub(crate) fn name(&self, part: Location) -> Option<&'a str>
+    /// The name of a panel, a field or a value as its table has it; `None` for any other part.
+    pub(crate) fn stem(&self, part: Location) -> Option<&'a str>
+        ensures { option_map (λ name. name.now) result ≡ stem_at part self.now.panels }
+    {
+        match part {
+            Location::Panel(panel) => Some(self.panel(panel)?.name),
+            Location::Field(_, _) => Some(self.item(part)?.stem),
+            Location::Top | Location::Text(_, _) | Location::Value(_, _) | Location::Keys(_) =>
+                None,
+        }
+    }
+
+    /// The table of a part: that of which an item is a copy.
+    pub fn table(&self, part: Location) -> Location
+        ensures { result ≡ table_of part self.now.panels }
+    {
+        match self.item(part) {
+            Some(item) => item.table(part),
+            None => part,
+        }
+    }
+
+    /// The name of a panel, a field or a value; `None` for any other part.
+    pub(crate) fn name(&self, part: Location) -> Option<&str>
         ensures { option_map (λ name. name.now) result ≡ name_at part self.now.panels }
     {
         match part {
             Location::Panel(panel) => Some(self.panel(panel)?.name),
-            Location::Field(_, _) => Some(self.item(part)?.name),
-            Location::Top | Location::Text(_, _) | Location::Keys(_) => None,
+            Location::Field(_, _) => Some(self.item(part)?.name.as_str()),
+            Location::Top | Location::Text(_, _) | Location::Value(_, _) | Location::Keys(_) =>
+                None,
         }
     }
 
@@ -205,7 +335,9 @@ impl<'a> Draft<'a> {
             Location::Top => self.wrong,
             Location::Panel(panel) => self.panel(panel)?.wrong,
             Location::Keys(panel) => self.panel(panel)?.wrong_keys,
-            Location::Text(_, _) | Location::Field(_, _) => self.item(part)?.wrong,
+            Location::Text(_, _) | Location::Field(_, _) | Location::Value(_, _) => {
+                self.item(part)?.wrong
+            }
         }
     }
 }

@@ -33,7 +33,7 @@ impl Extent {
     }
 
     /// Whether it shares a cell with another, their attributes included.
-    pub(crate) fn meets(self, other: Extent) -> bool
+    pub fn meets(self, other: Extent) -> bool
         ensures { result
             ≡ (nat_le self.first (other.first + other.length) && nat_le other.first (self.first + self.length)) }
     {

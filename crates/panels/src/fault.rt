@@ -1,6 +1,6 @@
 //! Why a panel text is refused, and where.
 ghost use Rattle.std.specs.Prelude.{◌≡◌};
-ghost use Rattle.panels.specs.Faults.{place_of};
+ghost use Rattle.panels.specs.Faults.{panel_of_part, place_of};
 ghost use Rattle.panels.specs.Walk.{nth};
 
 use std::fmt;
@@ -12,29 +12,31 @@ pub enum TreeFault {
     UnknownKey,
     /// A key that must be there is absent, or the array of panels is empty.
     Missing,
-    /// A value isn't of its key's TOML type.
+    /// A value isn't of its key's TOML type, or `repeat` isn't from 1 to 42.
     BadKind,
-    /// A name isn't 1 to 16 of `A` to `Z` and `0` to `9` for a panel, or of `a` to `z`, `0` to `9` and `_` for a field.
+    /// A name isn't 1 to 16 of `A` to `Z` and `0` to `9` for a panel, or of `a` to `z`, `0` to `9` and `_` for a
+    /// field or a value.
     BadName,
-    /// An earlier panel, or an earlier field of any panel, has the name; or `asks` has a name twice, or one of `keys`.
+    /// An earlier panel, or an earlier field or value of any panel, has the name; or a field or value with `repeat` has
+    /// that of one without; or `asks` has a name twice, or one of `keys`. A panel's values come after its fields.
     TwiceNamed,
-    /// The item doesn't lie above the last row of the panel's screen, or its fill is longer than the item.
+    /// The item, or one of its copies, doesn't lie above the last row of the panel's screen, or its fill is longer.
     OutOfPlace,
-    /// The item shares a cell with an earlier one of its panel; texts come before fields.
+    /// The item shares a cell with an earlier one of its panel; texts come before fields, and these before values.
     Overlap,
-    /// A character of a text or a fill has no code in code page 037.
+    /// A character of a text, a label or a fill has no code in code page 037.
     NoCode,
     /// `start`, `cursor`, `show` or a key names no such panel or field, or `otherwise` names no panel of model 2.
     NoTarget,
     /// A name in `keys` or `asks` is of no key; `asks` may have `connect` as well.
     BadKey,
-    /// The text has more than 64 panels, or a panel more than 256 texts or 128 fields.
+    /// The text has more than 64 panels, or a panel more than 256 texts, or 128 fields and values, with all copies.
     TooMany,
     /// The number of a panel's model is none of 2 to 5.
     BadModel,
 }
 
-/// The place of a fault in a panel text. Panels, texts and fields count from 0, in the order of the text.
+/// The place of a fault in a panel text. Panels, texts, fields and values count from 0, in the order of the text.
 #[derive(Clone, Copy, Debug, PartialEq, Eq)]
 pub enum At {
     /// The text's own table.
@@ -44,9 +46,12 @@ pub enum At {
     Text(usize, usize),
     /// A field: the index of its panel, and its own in the panel.
     Field(usize, usize),
+    /// A value: the index of its panel, and its own in the panel.
+    Value(usize, usize),
 }
 
-/// A table of a panel text. Panels, texts and fields count from 0, in the order of the text.
+/// A table of a panel text. Panels, texts, fields and values count from 0, in the order of the text. Within this crate
+/// each copy of a text or a field counts as one, and each copy of a value as a field, after all fields of its panel.
 #[derive(Clone, Copy, Debug, PartialEq, Eq)]
 pub enum Location {
     /// The text's own table.
@@ -56,11 +61,27 @@ pub enum Location {
     Text(usize, usize),
     /// A field: the index of its panel, and its own in the panel.
     Field(usize, usize),
+    /// A value: the index of its panel, and its own in the panel.
+    Value(usize, usize),
     /// The table of a panel's keys.
     Keys(usize),
 }
 
 impl Location {
+    /// The index of the panel that has this table; `None` for the text's own table.
+    pub fn panel(self) -> Option<usize>
+        ensures { result ≡ panel_of_part self }
+    {
+        match self {
+            Location::Top => None,
+            Location::Panel(panel)
+            | Location::Text(panel, _)
+            | Location::Field(panel, _)
+            | Location::Value(panel, _)
+            | Location::Keys(panel) => Some(panel),
+        }
+    }
+
     /// The place at which a fault of this table is reported; for a table of keys it is the panel's.
     pub fn place(self) -> At
         ensures { result ≡ place_of self }
@@ -70,6 +91,7 @@ impl Location {
             Location::Panel(panel) | Location::Keys(panel) => At::Panel(panel),
             Location::Text(panel, text) => At::Text(panel, text),
             Location::Field(panel, field) => At::Field(panel, field),
+            Location::Value(panel, value) => At::Value(panel, value),
         }
     }
 
@@ -80,7 +102,7 @@ impl Location {
         match self {
             Location::Text(panel, _) => Location::Text(panel, index),
             Location::Field(panel, _) => Location::Field(panel, index),
-            Location::Top | Location::Panel(_) | Location::Keys(_) => self,
+            Location::Top | Location::Panel(_) | Location::Value(_, _) | Location::Keys(_) => self,
         }
     }
 }
@@ -138,6 +160,7 @@ impl fmt::Display for At {
             At::Panel(panel) => write!(f, "panel {panel}"),
             At::Text(panel, text) => write!(f, "panel {panel} text {text}"),
             At::Field(panel, field) => write!(f, "panel {panel} field {field}"),
+            At::Value(panel, value) => write!(f, "panel {panel} value {value}"),
         }
     }
 }

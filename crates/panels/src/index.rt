@@ -7,7 +7,7 @@ use crate::fault::Location;
 use std::alloc::{AllocError, Global};
 use std::collections::BTreeMap;
 
-/// Maps each name, of panels or of fields, to the first part of the text that has it.
+/// Maps each name, of panels or of fields and values, to the first part of the text that has it.
 pub(crate) type NameIndex = BTreeMap<String, Location>;
 
 /// Adds a part under its name, unless an earlier part has this name.
@@ -21,7 +21,7 @@ fn note(index: &mut NameIndex, alloc: Global, name: &str, part: Location) -> Res
     Ok(())
 }
 
-/// The index of the panels' names, and that of the names of all panels' fields.
+/// The index of the panels' names, and that of the names of all panels' fields and values.
 pub(crate) fn name_indexes(
     alloc: Global,
     panels: &[PanelDraft],
@@ -38,7 +38,7 @@ pub(crate) fn name_indexes(
             note(
                 &mut of_fields,
                 alloc,
-                item.name,
+                item.name.as_str(),
                 Location::Field(panel, field),
             )?;
         }

@@ -1,14 +1,11 @@
-//! The texts and fields of a panel text: their extents, and whether they share cells.
-ghost use Rattle.std.specs.Prelude.{◌≡◌, ◌↔◌, ◌≤ℤ◌, ◌<ℤ◌, ◌-ℤ◌, ◌<◌, ◌&&◌, ℕ, Some, IsTrue, true, false, MatchOption, pos, chars, length};
+//! The texts, fields and values of a panel text: their extents, and whether they share cells.
+ghost use Rattle.std.specs.Prelude.{◌≡◌, ◌≤ℤ◌, ◌<ℤ◌, ◌+ℤ◌, ◌-ℤ◌, ◌<◌, ◌&&◌, IsTrue, true, false, MatchOption, pos, chars, length};
+ghost use Rattle.std.specs.List.{list_any};
 ghost use Rattle.panels.specs.Size.{item_rows, message_start};
-ghost use Rattle.panels.specs.Draft.{DraftItem};
-ghost use Rattle.panels.specs.Faults.{IsOverlapping, Overlaps, item_at, size_at};
-ghost use Rattle.panels.specs.Items.{IsExtentOf, is_in_rows, is_on_screen, is_in_place, lacks_code, is_above_message, first_of};
-ghost use Rattle.panels.specs.Walk.{nth};
+ghost use Rattle.panels.specs.Items.{IsExtentOf, first_cell, has_column, has_no_code, has_row, is_in_rows, rows_below, is_on_screen, is_in_place, lacks_code, is_above_message, first_of};
 
-use crate::draft::{Draft, ItemDraft};
+use crate::draft::ItemDraft;
 use crate::extent::Extent;
-use crate::fault::Location;
 use crate::size::{item_rows, message_start};
 use codes3270::{Size, from_latin1};
 
@@ -63,15 +60,59 @@ fn extent_at(size: Size, first: i64, length: i64) -> Option<Extent>
     })
 }
 
+/// Whether some character of a text has no code.
+fn text_has_no_codes(text: &str) -> bool
+    ensures { result ≡ list_any has_no_code (chars text.now) }
+{
+    text.chars()
+        .any(|character| from_latin1(character).is_none())
+}
+
 impl<'a> ItemDraft<'a> {
+    /// How many rows below that of its table it is.
+    fn rows_below(&self) -> i64
+        ensures { result ≡ pos (rows_below self.now) }
+    {
+        i64::from(self.copy.unwrap_or(0))
+    }
+
+    /// Whether its row is on a screen of this size, above the message row.
+    fn has_row(&self, size: Size) -> bool
+        ensures { result ≡ has_row size self.now }
+    {
+        1 <= self.row && self.row <= i64::from(item_rows(size)) - self.rows_below()
+    }
+
+    /// Whether its column is on a screen of this size.
+    fn has_column(&self, size: Size) -> bool
+        ensures { result ≡ has_column size self.now }
+    {
+        1 <= self.column && self.column <= i64::from(size.cols())
+    }
+
     /// Whether its row and column are on a screen of this size, above the message row.
     fn is_in_rows(&self, size: Size) -> bool
         ensures { result ≡ is_in_rows size self.now }
     {
-        1 <= self.row
-            && self.row <= i64::from(item_rows(size))
-            && 1 <= self.column
-            && self.column <= i64::from(size.cols())
+        self.has_row(size) && self.has_column(size)
+    }
+
+    /// Its row.
+    fn first_row(&self, size: Size) -> i64
+        requires { IsTrue (has_row size self.now) }
+        ensures { result ≡ (self.now.row +ℤ pos (rows_below self.now)) }
+    {
+        self.row + self.rows_below()
+    }
+
+    /// The buffer address of its first character on a screen of this size.
+    fn address(&self, size: Size) -> i64
+        requires { IsTrue (is_in_rows size self.now) }
+        ensures value { result ≡ first_cell size self.now }
+        ensures low { pos 0 ≤ℤ result }
+        ensures high { result <ℤ pos (message_start size) }
+    {
+        address_of(size, self.first_row(size), self.column)
     }
 
     /// Its extent on a screen of this size; `None` if it doesn't lie above the message row.
@@ -82,7 +123,7 @@ impl<'a> ItemDraft<'a> {
         if !self.is_in_rows(size) {
             return None;
         }
-        extent_at(size, address_of(size, self.row, self.column), self.length)
+        extent_at(size, self.address(size), self.length)
     }
 
     /// Whether it lies above the message row of a screen of this size, and its fill is no longer than it.
@@ -92,13 +133,12 @@ impl<'a> ItemDraft<'a> {
         self.extent(size).is_some() && characters_in(self.fill) <= self.length
     }
 
-    /// Whether some character of its text or its fill has no code.
+    /// Whether some character of its text, its fill or its label has no code.
     pub(crate) fn has_no_codes(&self) -> bool
         ensures { result ≡ lacks_code self.now }
     {
-        let text = self.text.unwrap_or("");
-        text.chars()
-            .chain(self.fill.chars())
-            .any(|character| from_latin1(character).is_none())
+        text_has_no_codes(self.text.unwrap_or(""))
+            || text_has_no_codes(self.fill)
+            || text_has_no_codes(self.label)
     }
 }

@@ -1,7 +1,7 @@
 //! Laws of panels: each is the contract of a function that does nothing. Proofs of
 //! other crates use them; no program calls them, and the root doesn't export them.
 ghost use Rattle.panels.specs.Defines.{DefinesOnce};
-ghost use Rattle.panels.specs.KeptFields.{AttributesAreThere, FieldsAreKeptWhole, FieldsAreOnTheScreen, FieldsAreWritten, NothingElseIsKept};
+ghost use Rattle.panels.specs.KeptFields.{AttributesAreThere, FieldsAreKeptWhole, FieldsAreOnTheScreen, FieldsAreWritten, NothingElseIsKept, TextsAreWritten};
 ghost use Rattle.panels.specs.Listing.{FaultsBeginWithTheFirst, NoFaultsAreFaultless};
 ghost use Rattle.panels.specs.MessageRow.{PanelsLeaveTheRow, TheRowIsTheMessage, TheRoomIsTheRow};
 
@@ -37,8 +37,14 @@ pub fn fields_are_written()
     ensures characters { FieldsAreWritten }
 {}
 
+/// Law: each screen that a panel asks for has each text of the panel, its own or the value that it shows. For this no
+/// two items of the panel may share a cell.
+pub fn texts_are_written()
+    ensures { TextsAreWritten }
+{}
+
 /// Law: the head of a draft's list of faults is its first fault, and a draft with an empty list is faultless. So
-/// `PanelSet::read` refuses a text for the first fault that `faults` lists.
+/// `PanelSet::read` refuses a text for the first fault that `Draft::faults` lists.
 pub fn the_first_fault_is_at_the_head()
     ensures first { FaultsBeginWithTheFirst }
     ensures none { NoFaultsAreFaultless }

@@ -27,8 +27,9 @@
 //! }
 //! ```
 //!
-//! `specs/Panel` says what panels are, `Defines` which text defines them, `Faults`, `Passes` and `Turns` which fault is
-//! reported, `Listing` what all faults of a text are, and `Screen` what a panel asks for.
+//! [`Draft`] has what the tables of a text say, with [`Draft::faults`] all its faults. `specs/Panel` says what panels are,
+//! `Defines` which text defines them, `Faults`, `Passes` and `Turns` which fault is reported, `Listing` what all faults
+//! of a text are, and `Screen` what a panel asks for.
 #![tactic(auto)]
 
 mod build;
@@ -39,6 +40,7 @@ mod draft;
 mod extent;
 mod fault;
 mod index;
+mod input;
 mod items;
 pub mod laws;
 mod message;
@@ -52,17 +54,21 @@ mod read;
 pub mod rules;
 mod screen;
 mod size;
+mod stated;
 mod tree;
 mod values;
 
 pub use characters::Characters;
+pub use checks::{MOST_FIELDS, MOST_PANELS, MOST_TEXTS};
+pub use draft::{Draft, ItemDraft, PanelDraft};
 pub use extent::Extent;
 pub use fault::{At, LocatedFault, Location, PanelFault, TreeFault};
+pub use input::split_input;
 pub use message::Message;
 pub use message_text::{MOST_MESSAGE, MessageText};
 pub use name::Name;
+pub use names::key_names;
 pub use next::Next;
-pub use panel::{Field, Panel};
+pub use panel::{Field, Panel, Value};
 pub use panel_set::PanelSet;
-pub use read::faults;
 pub use values::Values;

@@ -14,7 +14,8 @@ pub enum Message {
     /// The panel is shown again after a key that leads nowhere, with the message `KEY NOT ACTIVE`.
     KeyNotActive,
     /// The panel is shown again as the field with this number, from 0 over the whole text, must be filled in. The
-    /// message is `REQUIRED: ` and the field's name, and the cursor is at the field's first character.
+    /// message is `REQUIRED: ` and the field's label, or its name if it has none. The cursor is at the field's first
+    /// character.
     Required(usize),
     /// The panel is shown with this message of an application. The cursor is at the first character of the field with
     /// this number, from 0 over the whole text, if the panel has it; else at the panel's own place.

@@ -2,7 +2,7 @@
 ghost use Rattle.std.specs.Prelude.{◌≡◌, ◌↔◌, List, ℕ, Some, IsTrue, Contains, MatchOption, bytes_eq, map, not, option_map, pos};
 ghost use Rattle.std.specs.List.{list_any};
 ghost use Rattle.panels.specs.Items.{is_name as is_name_by};
-ghost use Rattle.panels.specs.Keys.{connect_name, is_asked_name, is_key_name};
+ghost use Rattle.panels.specs.Keys.{connect_name, is_asked_name, is_key_name, key_names};
 ghost use Rattle.panels.specs.declared.fault.Location.TheVariants as part;
 ghost use Rattle.panels.specs.Faults.{HasFieldNamed, HasLostCursor, has_key_twice, has_strange_key, asks_twice, HasLostOtherwise, IsBasePanelNamed, NamesBasePanel, NamesPanel, NamesField, name_at};
 ghost use Rattle.panels.specs.Index.{IsLater};
@@ -12,26 +12,27 @@ use crate::draft::{Draft, ItemDraft, PanelDraft};
 use crate::fault::Location;
 use crate::index::NameIndex;
 
-/// Whether a letter may be in the name of a panel, or of a field.
+/// Whether a letter may be in the name of a panel, or of a field or a value.
 fn is_letter(part: Location, letter: u8) -> bool
     ensures { result ≡ is_letter_of part letter }
 {
     match part {
         Location::Panel(_) => matches!(letter, b'A'..=b'Z' | b'0'..=b'9'),
-        Location::Top | Location::Text(_, _) | Location::Field(_, _) | Location::Keys(_) => {
-            matches!(letter, b'a'..=b'z' | b'0'..=b'9' | b'_')
-        }
+        Location::Top
+        | Location::Text(_, _)
+        | Location::Field(_, _)
+        | Location::Value(_, _)
+        | Location::Keys(_) => { matches!(letter, b'a'..=b'z' | b'0'..=b'9' | b'_') }
     }
 }
 
-/// Whether a panel, or a field, may have a name: 1 to 16 letters of those that its kind allows.
+/// Whether a panel, or a field or a value, may have a name: 1 to 16 letters of those that its kind allows.
 pub(crate) fn is_name(part: Location, name: &str) -> bool
     ensures { result ≡ is_name_by (is_letter_of part) name.now }
 {
     (1..=16).contains(&name.len()) && name.bytes().all(|letter| is_letter(part, letter))
 }
 
-/// The names of the keys that may lead to a panel.
 pub(crate) static KEY_NAMES: [&str; 29] = [
     "enter", "clear", "pa1", "pa2", "pa3", "pf1", "pf2", "pf3", "pf4", "pf5", "pf6", "pf7", "pf8",
     "pf9", "pf10", "pf11", "pf12", "pf13", "pf14", "pf15", "pf16", "pf17", "pf18", "pf19", "pf20",
@@ -40,6 +41,13 @@ pub(crate) static KEY_NAMES: [&str; 29] = [
 
 /// The name in `asks` by which the application decides what a session shows first.
 pub(crate) const CONNECT: &str = "connect";
+
+/// The names of the keys that may lead to a panel: `enter`, `clear`, `pa1` to `pa3`, `pf1` to `pf24`.
+pub fn key_names() -> &'static [&'static str]
+    ensures { map (λ name. name.now) result.now ≡ key_names }
+{
+    &KEY_NAMES
+}
 
 /// Whether `asks` may have a name: that of a key, or `connect`.
 fn is_asked_name(name: &str) -> bool
@@ -70,14 +78,20 @@ pub(crate) fn is_among(names: &[&str], name: &str) -> bool
 pub(crate) fn is_later(index: &NameIndex, name: Option<&str>, part: Location) -> bool
     ensures { IsTrue result ↔ IsLater index.now (option_map (λ n. n.now) name.entry) part }
 {
-    name.is_some_and(|name| index.get(name).is_some_and(|first| *first != part))
+    let Some(name) = name else {
+        return false;
+    };
+    match index.get(name) {
+        Some(first) => *first != part,
+        None => false,
+    }
 }
 
 impl<'a> ItemDraft<'a> {
     fn is_named(&self, name: &str) -> bool
         ensures { IsTrue result ↔ (self.now.name ≡ name.now) }
     {
-        self.name == name
+        self.name.as_str() == name
     }
 }
 
@@ -136,7 +150,7 @@ impl<'a> PanelDraft<'a> {
     fn has_field_named(&self, name: &str) -> bool
         ensures { IsTrue result ↔ HasFieldNamed name.now self.now }
     {
-        for field in &self.fields {
+        for field in self.field_drafts() {
             if field.is_named(name) {
                 return true;
             }

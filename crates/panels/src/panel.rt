@@ -1,6 +1,6 @@
 //! Panels and their items.
 ghost use Rattle.std.specs.Prelude.{◌≡◌, option_copied};
-ghost use Rattle.panels.specs.Names.{field_in};
+ghost use Rattle.panels.specs.Names.{field_in, number_in, value_in};
 ghost use Rattle.panels.specs.Panel.{is_shown, size_of};
 
 use crate::characters::Characters;
@@ -14,7 +14,7 @@ use std::marker;
 #[derive(Debug, Drop)]
 pub(crate) enum Content {
     Literal(Characters),
-    /// The value of the field with this number, from 0 over the whole text.
+    /// What the field or value with this number has, from 0 over the whole text.
     Show(usize),
 }
 
@@ -29,10 +29,12 @@ pub(crate) struct TextItem {
 /// A field of a panel.
 #[derive(Debug, Drop)]
 pub struct Field {
-    /// Its number, from 0 on, among the fields of the whole text.
+    /// Its number, from 0 on, among the fields and values of the whole text.
     pub number: usize,
-    /// 1 to 16 of `a` to `z`, `0` to `9` and `_`, unique over the whole text.
+    /// 1 to 16 of `a` to `z`, `0` to `9` and `_`, and the number of a copy; unique over the whole text.
     pub name: Name,
+    /// What messages call it, in the host's code: its label, or its name if it has none.
+    pub title: Characters,
     /// Its cells on the panel's screen.
     pub extent: Extent,
     /// Whether its attribute is numeric.
@@ -47,15 +49,29 @@ pub struct Field {
     pub fill: Characters,
 }
 
-/// A panel: the texts and fields of a screen, and where each key leads. Its screen has the alternate size of its model.
+/// A value of a panel: protected text that an application's reply fills.
+#[derive(Debug, Drop)]
+pub struct Value {
+    /// Its number, from 0 on, among the fields and values of the whole text.
+    pub number: usize,
+    /// 1 to 16 of `a` to `z`, `0` to `9` and `_`, and the number of a copy; unique over the whole text.
+    pub name: Name,
+    /// Its cells on the panel's screen.
+    pub extent: Extent,
+}
+
+/// A panel: the texts, fields and values of a screen, and where each key leads. Its screen has the alternate size of
+/// its model.
 #[derive(Debug, Drop)]
 pub struct Panel {
     pub(crate) name: Name,
     pub(crate) model: Model,
     /// The index of the panel that is shown instead in a session of another model; `None` for model 2.
     pub(crate) otherwise: Option<usize>,
+    /// Its texts, and after these a text for each value, which shows it.
     pub(crate) texts: Vec<TextItem>,
     pub(crate) fields: Vec<Field>,
+    pub(crate) values: Vec<Value>,
     pub(crate) cursor: Addr,
     /// The index of the panel that each key leads to, in the order of `KEY_NAMES`.
     pub(crate) targets: Vec<Option<usize>>,
@@ -76,6 +92,7 @@ impl marker::Model for Panel {
       otherwise = panel.otherwise;
       texts = panel.texts.items;
       fields = panel.fields.items;
+      values = panel.values.items;
       cursor = panel.cursor;
       targets = panel.targets.items;
       asked = panel.asked.items;
@@ -88,6 +105,7 @@ impl marker::Model for Panel {
       otherwise = panel.otherwise;
       texts = panel.texts.items;
       fields = panel.fields.items;
+      values = panel.values.items;
       cursor = panel.cursor;
       targets = panel.targets.items;
       asked = panel.asked.items;
@@ -132,6 +150,30 @@ impl Panel {
         ensures { option_copied result ≡ field_in name.now self.now }
     {
         self.fields.iter().find(|field| field.name.as_str() == name)
+    }
+
+    /// Its value with a name, if it has one.
+    fn value_named(&self, name: &str) -> Option<&Value>
+        ensures { option_copied result ≡ value_in name.now self.now }
+    {
+        self.values.iter().find(|value| value.name.as_str() == name)
+    }
+
+    /// The number of its field or value with a name, if it has one.
+    pub(crate) fn number_named(&self, name: &str) -> Option<usize>
+        ensures { result ≡ number_in name.now self.now }
+    {
+        match self.field_named(name) {
+            Some(field) => Some(field.number),
+            None => self.value_named(name).map(|value| value.number),
+        }
+    }
+
+    /// Its values, in the order of the text.
+    pub fn values(&self) -> &[Value]
+        ensures { result.now ≡ self.now.values }
+    {
+        self.values.as_slice()
     }
 
     /// Its fields, in the order of the text.

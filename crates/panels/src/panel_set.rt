@@ -4,7 +4,7 @@ ghost use Rattle.codes3270.specs.Size.{cells_in};
 ghost use Rattle.codes3270.specs.declared.size.Model.TheVariants.{M2};
 ghost use Rattle.codes3270.specs.declared.attention.Aid.{Aid};
 ghost use Rattle.panels.specs.Keys.{IsKey};
-ghost use Rattle.panels.specs.Names.{field_named, panel_named};
+ghost use Rattle.panels.specs.Names.{field_named, number_named, panel_named};
 ghost use Rattle.panels.specs.Panel.{Panels, AreSound, is_shown, size_of, shown_in, target_of};
 
 use crate::panel::{Field, Panel};
@@ -87,6 +87,18 @@ impl PanelSet {
         None
     }
 
+    /// The number of the field or value with a name, of any panel, if there is one.
+    pub fn number_named(&self, name: &str) -> Option<usize>
+        ensures { result ≡ number_named name.now self.now }
+    {
+        for panel in &self.panels {
+            if let Some(number) = panel.number_named(name) {
+                return Some(number);
+            }
+        }
+        None
+    }
+
     /// The index of the panel that a session of this model shows for the one at `index`, which must be below `len`:
     /// that panel if it is of model 2 or of the session's model, else its `otherwise`, which is of model 2.
     pub fn shown(&self, index: usize, session: Model) -> usize
@@ -105,8 +117,9 @@ impl PanelSet {
 
     /// Law: the set has the first panel and each key's target; each panel that isn't of model 2 has one of model 2 as
     /// its `otherwise`; each panel's items lie above the message row of its model's screen, and its cursor is on that
-    /// screen; all its texts and fills are characters that a cell can hold; no two of its items share a cell, and no
-    /// two of its fields have the same number.
+    /// screen; all its texts, fills and titles are characters that a cell can hold; no two of its items share a cell,
+    /// and no two of its fields and values have the same number; no field of any panel has that of a value; and each
+    /// value is what one of its panel's texts shows.
     pub fn panels_are_sound(&self)
         ensures { AreSound self.now }
     {

@@ -1,17 +1,15 @@
 //! Reading a panel text.
-ghost use Rattle.std.specs.Prelude.{◌≡◌, IfOk, IfErr, OnOk, slice_get};
+ghost use Rattle.std.specs.Prelude.{◌≡◌, IfOk, IfErr, OnOk, map, slice_get};
 ghost use Rattle.toml.specs.View.{table_view};
 ghost use Rattle.panels.specs.Draft.{draft_of};
 ghost use Rattle.panels.specs.Passes.{IsFaultless, IsReasonIn, IsReason};
-ghost use Rattle.panels.specs.Listing.{AreFaultsOf};
 ghost use Rattle.panels.specs.Turns.{IsFirstIn, IsFirstOf};
 ghost use Rattle.panels.specs.Defines.{Defines, IsReadFrom};
 
-use crate::decode::decode;
 use crate::draft::Draft;
 use crate::fault::{LocatedFault, PanelFault};
 use crate::panel_set::PanelSet;
-use std::alloc::{AllocError, Global};
+use std::alloc::Global;
 use toml::Table;
 
 /// The first of these faults, if there is one.
@@ -31,7 +29,10 @@ fn check(alloc: Global, draft: &Draft) -> Result<(), PanelFault>
         return Err(PanelFault::Memory);
     };
     match first_of(found.as_slice()) {
-        Some(first) => Err(PanelFault::Tree(first.fault, first.part.place())),
+        Some(first) => {
+            let table = draft.table(first.part);
+            Err(PanelFault::Tree(first.fault, table.place()))
+        }
         None => Ok(()),
     }
 }
@@ -43,27 +44,17 @@ fn read_tree(alloc: Global, top: &Table) -> Result<PanelSet, PanelFault>
     ensures fault { IfErr result (IsReasonIn (draft_of (table_view top.now))) }
     ensures first { IfErr result (IsFirstIn (draft_of (table_view top.now))) }
 {
-    let draft = decode(alloc, top).map_err(|_| PanelFault::Memory)?;
+    let draft = Draft::of(alloc, top).map_err(|_| PanelFault::Memory)?;
     check(alloc, &draft)?;
     draft.build(alloc).map_err(|_| PanelFault::Memory)
-}
-
-/// All faults of a panel text, each once, in the order in which `PanelSet::read` looks for them; that refuses the text
-/// for the first. A value that is absent, or of another type, counts as 0, false or no text, and may have faults for
-/// that, too.
-///
-/// Err only if memory is refused.
-pub fn faults(alloc: Global, top: &Table) -> Result<Vec<LocatedFault>, AllocError>
-    ensures { IfOk result (λ found. AreFaultsOf (draft_of (table_view top.now)) found.items) }
-{
-    decode(alloc, top)?.faults(alloc)
 }
 
 impl PanelSet {
     /// The panels that a TOML text defines, or the first fault of the text (our profile). Passes look for faults in
     /// this order: TOML; keys and types; numbers of items; names; models, places and characters; overlaps; targets. A
-    /// pass goes from table to table: the text's own, then panel by panel the panel's, its texts', its fields' and its
-    /// keys'. Err is `Memory` if memory is refused.
+    /// pass goes from part to part: the text's own table, then panel by panel the panel's, its texts, its fields, its
+    /// values and its keys; an item with `repeat` is as many parts as it has copies. Err is `Memory` if memory is
+    /// refused.
     pub fn read(alloc: Global, text: &str) -> Result<PanelSet, PanelFault>
         ensures panels { IfOk result (IsReadFrom text.now) }
         ensures fault { IfErr result (IsReason text.now) }

@@ -1,5 +1,7 @@
 //! The screens that panels ask for.
-ghost use Rattle.std.specs.Prelude.{◌≡◌, ◌<◌, ℕ, All, true, false, IfSome, option_map, replicate, slice_index_or, option_copied};
+ghost use Rattle.std.specs.Prelude.{◌≡◌, ◌<◌, ℕ, [], All, true, false, IfSome, option_and_then, option_map, unwrap_or, replicate, slice_index_or, option_copied};
+ghost use Rattle.std.specs.Option.{option_map_or};
+ghost use Rattle.codes3270.specs.CodePage.{code_of};
 ghost use Rattle.codes3270.specs.Size.{cells_in};
 ghost use Rattle.codes3270.specs.Storable.{is_storable};
 ghost use Rattle.datastream.specs.Wanted.{IsProper};
@@ -123,32 +125,54 @@ fn put_stoppers(wanted: &mut Wanted, fields: &[Field])
 
 const REQUIRED: &[u8; 10] = b"REQUIRED: ";
 
-/// A byte, in the host's code, of the text of a message that names the field `name`; a null after the text's end.
-fn message_byte(message: &Message, name: &[u8], index: usize) -> u8
-    ensures byte { result ≡ slice_index_or (text_with name.now message.now) index 0 }
+/// The code of a byte of Latin-1; a null for none, or for one without a code.
+fn code_or_null(byte: Option<u8>) -> u8
+    ensures code { result ≡ unwrap_or (option_and_then code_of byte) 0 }
     ensures storable { is_storable result ≡ true }
 {
-    let byte = match message {
-        Message::Fresh | Message::Plain => None,
-        Message::KeyNotActive => b"KEY NOT ACTIVE".get(index).copied(),
-        Message::Required(_) if index < REQUIRED.len() => REQUIRED.get(index).copied(),
-        Message::Required(_) => name.get(index - REQUIRED.len()).copied(),
-        Message::Told(text, _) => text.characters.get(index).copied(),
-    };
     byte.and_then(|byte| from_latin1(char::from(byte)))
         .unwrap_or(0)
 }
 
-/// Puts the message row; `name` is that of the field that the message names.
-fn put_message(wanted: &mut Wanted, message: &Message, name: &[u8])
-    ensures { IsPut (row_cell (message_start wanted.old.size) (text_with name.now message.now)) wanted.old wanted.new }
+/// A byte, in the host's code, of the text of a message that names a field with this title; a null after its end.
+fn message_byte(message: &Message, title: &[u8], index: usize) -> u8
+    requires { AreCharacters title.now }
+    ensures byte { result ≡ slice_index_or (text_with title.now message.now) index 0 }
+    ensures storable { is_storable result ≡ true }
+{
+    match message {
+        Message::Fresh | Message::Plain => 0,
+        Message::KeyNotActive => code_or_null(b"KEY NOT ACTIVE".get(index).copied()),
+        Message::Required(_) if index < REQUIRED.len() => {
+            code_or_null(REQUIRED.get(index).copied())
+        }
+        Message::Required(_) => title.get(index - REQUIRED.len()).copied().unwrap_or(0),
+        Message::Told(text, _) => code_or_null(text.characters.get(index).copied()),
+    }
+}
+
+/// The title of a field, in the host's code; empty without a field.
+fn title_of<'a>(field: Option<&'a Field>) -> &'a [u8]
+    ensures title { result.now ≡ option_map_or (λ field. field.title) (option_copied field.entry) [] }
+    ensures characters { AreCharacters result.now }
+{
+    match field {
+        Some(field) => field.title.as_slice(),
+        None => &[],
+    }
+}
+
+/// Puts the message row; `title` is that of the field that the message names.
+fn put_message(wanted: &mut Wanted, message: &Message, title: &[u8])
+    requires { AreCharacters title.now }
+    ensures { IsPut (row_cell (message_start wanted.old.size) (text_with title.now message.now)) wanted.old wanted.new }
 {
     let size = wanted.size();
     let start = usize::from(message_start(size));
     let room = usize::from(size.cols()) - 1;
     wanted.put(start, Want::Attr(skipped_attr(true)));
     for index in 0..room {
-        let byte = message_byte(message, name, index);
+        let byte = message_byte(message, title, index);
         wanted.put(start + 1 + index, Want::Char(byte));
     }
 }
@@ -205,9 +229,9 @@ impl Panel {
     {
         let fields = self.fields.as_slice();
         let spoken = self.field_of(&message);
-        let name = spoken.map_or("", |field| field.name.as_str());
+        let title = title_of(spoken);
         put_stoppers(wanted, fields);
-        put_message(wanted, &message, name.as_bytes());
+        put_message(wanted, &message, title);
         put_fields(wanted, values, &message, keep, fields);
         put_texts(wanted, values, self.texts.as_slice());
         // For the contract: there is a want for each cell.

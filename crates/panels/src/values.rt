@@ -1,4 +1,4 @@
-//! The values of fields.
+//! The values of fields, and of values that an application fills.
 ghost use Rattle.std.specs.Prelude.{◌≡◌, ◌≢◌, ◌==◌, List, ℕ, [], Some, length, option_copied, OnOk, OnErr, IfSome, IsSome, All};
 ghost use Rattle.std.specs.BTreeMap.{insert_entry, is_at};
 ghost use Rattle.std.specs.Map.{remove_entry, values_of};
@@ -11,7 +11,7 @@ use std::alloc::{AllocError, Global};
 use std::collections::BTreeMap;
 use std::marker::Model;
 
-/// The values of fields, by the fields' numbers over the whole text.
+/// What fields and values have, by their numbers over the whole text.
 #[derive(Drop)]
 pub struct Values {
     alloc: Global,

@@ -2,7 +2,7 @@
 use Rattle.std.proofs.Common.{◌≡◌, refl, ap, subst, ℕ, List, Bool, Result, Ok, Err}
 use Rattle.std.specs.Prelude.{◌==◌}
 use Rattle.std.proofs.KnownBytes.{Keeps-refl}
-use Rattle.panel_check.specs.PanelText.{panel_text}
+use Rattle.panels.specs.PanelText.{panel_text}
 use Rattle.panel_check.specs.Pages.{page_text}
 use Rattle.panel_check.specs.Report.{HasFirstCause, IsFaultlessIfAccepted, fault_count}
 use Rattle.panel_check.specs.declared.report.Report.{Report}

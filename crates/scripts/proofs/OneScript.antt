@@ -17,7 +17,8 @@ use Rattle.jobs.specs.HexLines.{lines_of}
 use Rattle.scripts.specs.Plays.{AreHappeningsOf, Plays, PlaysLine, PlaysNext, playable_command, said_of, terminal_models}
 use Rattle.scripts.specs.ScriptLines.{typed_text}
 use Rattle.applications.specs.PanelHosts.{lus_of}
-use Rattle.scripts.specs.Scripts.{IsWorldOf, ScriptsHaveOnePage, panel_text, script_text}
+use Rattle.panels.specs.PanelText.{panel_text}
+use Rattle.scripts.specs.Scripts.{IsWorldOf, ScriptsHaveOnePage, script_text}
 use Rattle.scripts.specs.declared.script_line.ScriptCommand.{ScriptCommand}
 use Rattle.scripts.specs.declared.script_line.ScriptCommand.TheVariants as command
 

@@ -1,6 +1,6 @@
 -- How a run of `check` ends: what it read, what it printed, and its fault and exit status (our profile).
 use Rattle.std.specs.Prelude.{◌≡◌, ◌==◌, ℕ, Bool, true, false, List, Option, Some, None, Result, Ok, Err}
-use Rattle.panel_check.specs.PanelText.{panel_text}
+use Rattle.panels.specs.PanelText.{panel_text}
 use Rattle.panel_check.specs.Pages.{page_text}
 use Rattle.panel_check.specs.Report.{HasFirstCause, IsFaultlessIfAccepted, fault_count}
 use Rattle.panel_check.specs.declared.report.Report.{Report}

@@ -7,7 +7,8 @@ use Rattle.job_streams.specs.declared.fault.Fault.TheVariants.{InputNotRead, Pan
 use Rattle.scripts.specs.declared.page_job.PageJob.{PageJob}
 use Rattle.scripts.specs.declared.page_job.PageJob.TheVariants.{Script, Show}
 use Rattle.applications.specs.PanelHosts.{HasPanelFault, HasPoolFault}
-use Rattle.scripts.specs.Scripts.{panel_text, IsScriptPage}
+use Rattle.panels.specs.PanelText.{panel_text}
+use Rattle.scripts.specs.Scripts.{IsScriptPage}
 use Rattle.job_streams.specs.Runs.{IsSilent, NotRead, OnInput, status_after}
 
 -- ---- the output

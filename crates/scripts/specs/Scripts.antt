@@ -1,37 +1,24 @@
 -- An input with a panel text and a script, and the page that is printed for it (our profile).
-use Rattle.std.specs.Prelude.{◌≡◌, ℕ, ◌+◌, ◌==◌, ◌&&◌, ◌||◌, Bool, true, List, [], ◌∷◌, codes, bytes_eq, nat_eq, Option, take, drop, if◌then◌else◌}
-use Rattle.std.specs.List.{after_first, starts_with}
+use Rattle.std.specs.Prelude.{◌≡◌, ℕ, ◌==◌, true, List, Option, drop, if◌then◌else◌}
+use Rattle.std.specs.List.{after_first}
 use Rattle.host_core.specs.declared.terminals.Terminals.{Terminals}
 use Rattle.lu_pool.specs.Reading.{IsReadFrom as IsPoolReadFrom, IsRight}
 use Rattle.lu_pool.specs.declared.entry.Entry.{Entry}
 use Rattle.panels.specs.Defines.{IsReadFrom}
 use Rattle.panels.specs.Panel.{Panels as PanelsRead}
+use Rattle.panels.specs.PanelText.{mark_place, panel_text}
 use Rattle.term_core.specs.ScreenText.{newline}
 use Rattle.world3270.specs.model.ByteWorld.{ByteWorld, new_byte_world}
 use Rattle.scripts.specs.Plays.{IsPlayed, terminal_models}
 use Rattle.applications.specs.PanelHosts.{lus_of}
 
--- ---- the two parts of an input
-
--- whether the text begins with a line `%%`
-abbrev pub is_at_mark : List ℕ → Bool
-is_at_mark text = bytes_eq text (codes "%%") || starts_with nat_eq text (codes "%%\n")
-
--- The index of the first line `%%`; the text's length if there is no such line. `begins`: a line begins at this index.
-abbrev pub mark_place : Bool → List ℕ → ℕ
-mark_place begins [] = 0
-mark_place begins (char ∷ text) = if begins && is_at_mark (char ∷ text) then 0
-    else 1 + mark_place (char == newline) text
-
--- the panel text: the text before that line
-abbrev pub panel_text : List ℕ → List ℕ
-panel_text input = take (mark_place true input) input
+-- ---- the script of an input
 
 -- the text after the first line
 abbrev pub behind_line : List ℕ → List ℕ
 behind_line text = after_first (λ char. char == newline) text
 
--- the script: the text after that line
+-- the script: the text after the line that ends the panel text
 abbrev pub script_text : List ℕ → List ℕ
 script_text input = behind_line (drop (mark_place true input) input)
 

@@ -1,16 +1,17 @@
 //! `script`: plays a script in a world of panels and terminals, and prints what the operators see.
-ghost use Rattle.std.specs.Prelude.{◌≡◌, true, string_bytes, IfOk, IfErr};
-ghost use Rattle.std.specs.Str.{IsCharBoundary};
+ghost use Rattle.std.specs.Prelude.{◌≡◌, string_bytes, IfOk, IfErr};
 ghost use Rattle.job_streams.specs.Runs.{ending_of};
 ghost use Rattle.scripts.specs.PageJobRuns.{EndsPrinting};
 ghost use Rattle.applications.specs.PanelHosts.{DefinesNoHost};
-ghost use Rattle.scripts.specs.Scripts.{IsScriptPage, IsWorldOf, behind_line, is_at_mark, mark_place, panel_text, script_text};
+ghost use Rattle.panels.specs.PanelText.{panel_text};
+ghost use Rattle.scripts.specs.Scripts.{IsScriptPage, IsWorldOf, behind_line, script_text};
 ghost use Rattle.scripts.specs.declared.page_job.PageJob.TheVariants.{Script};
 
 use crate::player::{MODELS, play};
 use applications::application_of;
 use host_core::Terminals;
 use job_streams::{Fault, Sink};
+use panels::split_input;
 use std::alloc::Global;
 use world3270::World;
 
@@ -63,28 +64,6 @@ fn page_of_script(alloc: Global, terminals: Terminals, input: &str) -> Result<Sc
 
 // ---- the two parts of an input
 
-/// Whether the text begins with a line `%%`.
-fn is_at_mark(text: &[u8]) -> bool
-    ensures { result ≡ is_at_mark text.now }
-{
-    text == b"%%".as_slice() || text.starts_with(b"%%\n")
-}
-
-/// The index of the first line `%%`; the text's length if there is no such line.
-fn mark_place(text: &[u8]) -> usize
-    ensures place { result ≡ mark_place true text.now }
-    ensures boundary { IsCharBoundary text.now result }
-{
-    let mut begins = true;
-    for (place, letter) in text.iter().enumerate() {
-        if begins && is_at_mark(&text[place..]) {
-            return place;
-        }
-        begins = *letter == b'\n';
-    }
-    text.len()
-}
-
 /// The text after the first line.
 fn behind_line(text: &str) -> &str
     ensures { result.now ≡ behind_line text.now }
@@ -100,7 +79,7 @@ pub fn parted(input: &str) -> (&str, &str)
     ensures panels { result.0.now ≡ panel_text input.now }
     ensures script { result.1.now ≡ script_text input.now }
 {
-    let (panels, marked) = input.split_at(mark_place(input.as_bytes()));
+    let (panels, marked) = split_input(input);
     (panels, behind_line(marked))
 }
 

@@ -223,7 +223,8 @@ module _ {S W : Type 0} (noticed : W → Notice → Result Unit Fault → W → 
     failed : (why : Fault) → VisitsEach EndsTalkingAt old watcher (Err why) new after → answer ≡ Err why
         → Reloads host old watcher answer new after
     refused : (ended : Bool) (why : ReloadFault) → VisitsEach EndsTalkingAt old watcher (Ok ended) new after
-        → (why ≡ reload_fault.TooMany → AreOwned most_earlier new.hosts.owners) → answer ≡ Ok (Err why) → Reloads host old watcher answer new after
+        → (why ≡ reload_fault.TooMany → AreOwned most_earlier new.hosts.owners) → answer ≡ Ok (Err why)
+        → Reloads host old watcher answer new after
     reloads : (ended : Bool) (place : ℕ) (mid : ServerCore S)
         → VisitsEach EndsTalkingAt old watcher (Ok ended) mid after
         → IsFreePlace place mid.hosts.owners → new ≡ record mid { hosts = reloaded place host mid.hosts }

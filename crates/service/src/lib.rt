@@ -3,7 +3,7 @@
 //! The connections are those of crate `server`. In each turn `serve` also applies time limits, asks the application
 //! and obeys the control socket, and serves clients of the metrics port.
 //!
-//! `specs/ServiceTurns` defines a turn of `serve`, `Serving` what commands change in it, and `Uptimes` the server's time.
+//! `specs/ServiceTurns` defines a turn of `serve`, `Serving` what commands change in it, and `Uptimes` the time.
 #![tactic(auto)]
 
 mod application;

@@ -21,7 +21,7 @@ use Rattle.tn3270e_msg.specs.Talk.{Talk}
 use Rattle.tn3270e_msg.specs.declared.host_talk.HostState.{HostState}
 use Rattle.panels.specs.declared.next.Next.{Next}
 use Rattle.panels.specs.declared.next.Next.TheVariants.{Go, Ask, Again}
-use Rattle.host_core.specs.Acts.{Act, Decision, Sent as SentValue, after_key, decided, decision_on, first_panel, on_empty, wanted_by, done, may_act, acted, painted, known_despite, unheard_next, when_shown}
+use Rattle.host_core.specs.Acts.{Act, Decision, Sent as SentValue, after_key, decided, decision_on, first_panel, on_empty, wanted_by, done, may_act, acted, painted, known_despite, unheard_next, values_shown, when_shown}
 use Rattle.host_core.specs.Application.{Application, IsApplication, IsSizeOf}
 use Rattle.host_core.specs.Laws.{IsPaintable}
 use Rattle.host_core.specs.Takes.{may_have_changed}
@@ -138,7 +138,9 @@ kept_sent app link sending k to same size steady at fact shown = record {
 
 -- the screen that is asked for, of the panel that is shown to the terminal
 abbrev wants_of : Application → Session → ℕ → Message → Bool → Values → WantedScreen
-wants_of app conn panel message keep values = wanted_by app conn (app.shown (model_in conn) panel) message keep values
+wants_of app conn panel message keep values =
+    let shown = app.shown (model_in conn) panel in
+    wanted_by app conn shown message keep (values_shown app shown message values)
 
 -- it is one that the panel asks for, whether or not what is believed lets it keep fields
 wanted_if_fits : (fit : Bool) (app : Application) (panel : ℕ) (message : Message) (values : Values)
@@ -155,7 +157,7 @@ wanted_in_a_way app conn panel message false values = (false, refl)
 wants_its : (app : Application) (waits : Bool) (conn : Session) (screen : Screen) (panel : ℕ) (message : Message) (keep : Bool) (values : Values) → IsDecided app conn (Act.Show panel message keep values) → (keep ≡ true → KnowsItsFields app conn)
     → Meets conn.shadow screen → WantsItsPanelOn app waits (shown app conn panel message keep values).conn (when_shown conn).shadow (wants_of app (when_shown conn) panel message keep values) screen
 wants_its app waits conn screen panel message keep values choice knows told = record {
-  wants = record { conn = conn; same_talk = refl; asked = panel; keep = keep; is_decided = choice; knows = knows; panel_is = refl; over_is = refl; wanted_is = refl };
+  wants = record { conn = conn; same_talk = refl; asked = panel; keep = keep; given = values; is_decided = choice; knows = knows; panel_is = refl; values_are = refl; over_is = refl; wanted_is = refl };
   told = λ w. told;
 }
 

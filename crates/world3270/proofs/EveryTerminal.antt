@@ -44,7 +44,7 @@ use Rattle.world3270.proofs.Asked.{asked_seen, each_asked}
 use Rattle.world3270.proofs.Obeys.{decides_new}
 use Rattle.world3270.proofs.Headline.{Knows, agrees, bound_agrees, host_attached, knows_at, nothing_waits}
 use Rattle.world3270.proofs.ReadsInput.{still_unformatted}
-use Rattle.world3270.proofs.ShownFields.{cursor_shown, fields_shown}
+use Rattle.world3270.proofs.ShownFields.{cursor_shown, fields_shown, values_shown}
 use Rattle.world3270.proofs.ShownPanels.{shown_now}
 use Rattle.world3270.proofs.SimulatedDown.{noted_still, painted_still, read_still, talked_still}
 use Rattle.world3270.proofs.SimulatedHost.{acts_still, answers_still, hears_still, loses_still, notes_still}
@@ -261,6 +261,7 @@ module _ (given : LowerLaws) (written : WrittenIsThere) (kept : KeptStaysThere) 
           record {
             shown = shown;
             fields = fields_shown written kept app is wants false t.link.host t.link.term.display.before_restored t.link.term.display.last_restored shown;
+            values = values_shown app wants false t.link.host t.link.term.display.before_restored t.link.term.display.last_restored shown;
             cursor = cursor_shown app wants false t.link.host t.link.term.display.before_restored t.link.term.display.last_restored shown;
           }
 

@@ -37,12 +37,13 @@ use Rattle.keyboard.specs.declared.key.Key.{Key}
 use Rattle.keyboard.specs.declared.key.Pressed.{Pressed}
 use Rattle.keyboard.specs.declared.key.Pressed.TheVariants.{Done, Refused, Send}
 use Rattle.panels.specs.Characters.{is_character, AreCharacters}
-use Rattle.panels.specs.Screen.{Values}
-use Rattle.panels.specs.Values.{set_if, with_values, without_fields}
+use Rattle.panels.specs.Screen.{Values, is_fresh}
+use Rattle.panels.specs.Values.{set_if, with_values, without_fields, without_values}
 use Rattle.panels.specs.declared.message.Message.{Message}
 use Rattle.panels.specs.declared.next.Next.{Next}
 use Rattle.panels.specs.declared.next.Next.TheVariants.{Go, Ask, Again}
 use Rattle.panels.specs.declared.panel.Field.{Field as PanelField}
+use Rattle.panels.specs.declared.panel.Value.{Value as PanelValue}
 use Rattle.presentation.proofs.Storable.{storable_unmodified}
 use Rattle.shadow.specs.Queries.{belief_with}
 use Rattle.shadow.specs.Belief.{Fact, Belief, Shadow}
@@ -52,7 +53,7 @@ use Rattle.shadow.specs.Meets.{Holds, FieldMeets, Meets, told}
 use Rattle.shadow.specs.Painted.{keeps_ahead, attr_or_kept, cells_under, painted_from, plainly_painted}
 use Rattle.shadow.specs.Pairs.{Pairwise}
 use Rattle.tn3270e_msg.specs.declared.cause.Cause.{Cause}
-use Rattle.host_core.specs.Acts.{Act, Decision, Sent, text_known, learned, first_missing, is_to_be_read, check_required, first_panel, once_filled_in, on_empty, on_key, after_key as after_the_key, decided, decision_on, wanted_by, done, may_act, acted, when_shown}
+use Rattle.host_core.specs.Acts.{Act, Decision, Sent, text_known, learned, first_missing, is_to_be_read, check_required, first_panel, once_filled_in, on_empty, on_key, after_key as after_the_key, decided, decision_on, wanted_by, done, may_act, acted, values_shown, when_shown}
 use Rattle.host_core.specs.Application.{Application, IsValidSize, IsApplication, WantsProperScreens, AreTexts}
 use Rattle.host_core.specs.Messages.{ToTerminal, ToHost, Verdict}
 use Rattle.host_core.specs.NoteLaws.{TakesNotes, IsProperNote}
@@ -308,6 +309,18 @@ without_texts [] values texts = texts
 without_texts (field ∷ panel) values texts =
     without_texts panel (remove_entry (is_at (nat_cmp field.number)) values) (All-map-remove_entry (is_at (nat_cmp field.number)) (λ (entry : ℕ × List ℕ). entry.1) AreCharacters values texts)
 
+drop_texts : (shown : List PanelValue) (values : Values) → AreTexts values → AreTexts (without_values shown values)
+drop_texts [] values texts = texts
+drop_texts (value ∷ shown) values texts =
+    drop_texts shown (remove_entry (is_at (nat_cmp value.number)) values) (All-map-remove_entry (is_at (nat_cmp value.number)) (λ (entry : ℕ × List ℕ). entry.1) AreCharacters values texts)
+
+shown_texts : (app : Application) (panel : ℕ) (message : Message) (values : Values) → AreTexts values → AreTexts (values_shown app panel message values)
+shown_texts app panel message values texts = by_fresh (is_fresh message)
+  where
+    by_fresh : (fresh : Bool) → AreTexts (if fresh then without_values (app.values panel) values else values)
+    by_fresh true = drop_texts (app.values panel) values texts
+    by_fresh false = texts
+
 with_texts : (values others : Values) → AreTexts values → AreTexts others → AreTexts (with_values values others)
 with_texts values [] texts are = texts
 with_texts values (other ∷ others) texts are =
@@ -318,9 +331,10 @@ with_texts values (other ∷ others) texts are =
 answer_texts : (app : Application) (conn : Session) (said : ApplicationAnswer) (panel : Option ℕ) → AreTexts (learned conn.shadow (app.fields conn.panel) conn.values) → AreTexts said.values → ActsOnTexts (act_by app conn said panel)
 answer_texts app conn said None known are = with_texts (learned conn.shadow (app.fields conn.panel) conn.values) said.values known are
 answer_texts app conn said (Some panel) known are =
-    let fields : List PanelField = app.fields (app.shown (model_in conn) panel) in
-    with_texts (without_fields fields (learned conn.shadow (app.fields conn.panel) conn.values)) said.values
-    (without_texts fields (learned conn.shadow (app.fields conn.panel) conn.values) known) are
+    let form = app.shown (model_in conn) panel in
+    let left = without_fields (app.fields form) (learned conn.shadow (app.fields conn.panel) conn.values) in
+    with_texts (without_values (app.values form) left) said.values
+    (drop_texts (app.values form) left (without_texts (app.fields form) (learned conn.shadow (app.fields conn.panel) conn.values) known)) are
 
 wanted_is : (app : Application) (conn : Session) (panel : ℕ) (message : Message) (keep : Bool) (values : Values) → WantsProperScreens app → AreTexts values → IsScreen (wanted_by app conn panel message keep values)
 wanted_is app conn panel message false values asks texts = asks panel values message false texts
@@ -343,7 +357,10 @@ pub record SendsTexts (sending : Sent) : Type 0 where
 
 done_texts : (app : Application) (conn : Session) (act : Act) → WantsProperScreens app → AreTexts conn.values → ActsOnTexts act → SendsTexts (done app conn act)
 done_texts app conn Act.Read asks texts is = record { message = tt; values = texts }
-done_texts app conn (Act.Show panel message keep values) asks texts is = record { message = wanted_is app (when_shown conn) (app.shown (model_in conn) panel) message keep values asks is; values = is }
+done_texts app conn (Act.Show panel message keep values) asks texts is =
+    let form = app.shown (model_in conn) panel in
+    let left : AreTexts (values_shown app form message values) = shown_texts app form message values is in
+    record { message = wanted_is app (when_shown conn) form message keep (values_shown app form message values) asks left; values = left }
 
 -- a blank screen takes any note
 blank_chars : (cells : ℕ) → list_all is_char (replicate cells (CharCell 0)) ≡ true

@@ -3,12 +3,14 @@ use Rattle.std.proofs.Common.{◌≡◌, ◌≢◌, ◌⊎◌, inl, inr, ◌+◌
 use Rattle.std.specs.BTreeMap.{insert_entry}
 use Rattle.std.specs.List.{Contains, list_any}
 use Rattle.std.specs.Ordering.{is_eq, nat_cmp}
-use Rattle.std.specs.Prelude.{⊤, All, cond, is_some, slice_get, slice_index_or}
+use Rattle.std.specs.Prelude.{⊤, All, cond, is_some, slice_get, slice_index_or, unwrap_or}
 use Rattle.std.proofs.lemmas.Bool.{cases_eq}
 use Rattle.std.proofs.lemmas.Option.{get_or_from_slice_get, same_Some, slice_get_within}
 use Rattle.codes3270.specs.declared.attention.Aid.{Aid}
 use Rattle.codes3270.specs.declared.attention.Aid.TheVariants.{NoAid, Enter, Clear, Pf, Pa}
 use Rattle.codes3270.specs.declared.attribute.Attr.{Attr}
+use Rattle.codes3270.specs.declared.attribute.Cell.{Cell}
+use Rattle.codes3270.specs.declared.attribute.Cell.TheVariants.{Char}
 use Rattle.datastream.specs.Fields.{Field, fields}
 use Rattle.datastream.specs.Inbound.{without_nulls}
 use Rattle.datastream.specs.Screen.{Screen, field_text}
@@ -19,20 +21,22 @@ use Rattle.datastream.proofs.FieldViews.{listed_field}
 use Rattle.panels.specs.KeptFields.{IsCharacterOf}
 use Rattle.panels.proofs.Setting.{put_here, put_there}
 use Rattle.panels.specs.Screen.{Values, field_attr, field_content, is_fresh}
-use Rattle.panels.specs.Values.{value_of, with_values}
+use Rattle.panels.specs.Values.{value_of, with_values, without_values}
 use Rattle.panels.specs.declared.extent.Extent.{Extent}
 use Rattle.panels.specs.declared.message.Message.{Message}
 use Rattle.panels.specs.declared.message.Message.TheVariants.{Fresh, Plain, KeyNotActive, Required, Told}
 use Rattle.panels.specs.declared.next.Next.{Next}
 use Rattle.panels.specs.declared.next.Next.TheVariants.{Go, Ask, Again}
 use Rattle.panels.specs.declared.panel.Field.{Field as PanelField}
+use Rattle.panels.specs.declared.panel.Value.{Value as PanelValue}
 use Rattle.shadow.specs.Belief.{Belief, Shadow, fields_of}
 use Rattle.shadow.specs.Fits.{fields_fit, fits, is_keep, is_paintable}
 use Rattle.shadow.specs.Heard.{after_attention}
 use Rattle.shadow.specs.Meets.{Meets}
-use Rattle.shadow.specs.Painted.{plainly_painted}
+use Rattle.shadow.specs.Painted.{cells_under, painted_from, plainly_painted}
 use Rattle.shadow.specs.PaintedFields.{HasField, KeptStaysThere, WantsKept, WantsWritten, WrittenIsThere}
 use Rattle.shadow.proofs.Keeps.{no_keep, paintable_fits}
+use Rattle.shadow.proofs.Paints.{length-under}
 use Rattle.host_core.specs.Acts.{Act, Decision, after_key, belief_of, decision_on, first_missing, first_panel, is_in_doubt, is_to_be_read, learned, on_empty, on_key, once_filled_in, known_despite, check_required, wanted_by, when_shown}
 use Rattle.host_core.specs.Application.{Application, IsApplication}
 use Rattle.host_core.specs.Questions.{act_by, has_value_of, panel_for}
@@ -47,7 +51,7 @@ use Rattle.world3270.specs.statement.Asked.{IsFieldText}
 use Rattle.world3270.specs.statement.Showing.{IsDecided, IsKnownIfRead, IsTextKnown, KnowsItsFields, ShowsItsPanel}
 use Rattle.world3270.proofs.Acting.{none_whole, wanted_in_a_way}
 use Rattle.world3270.proofs.Asked.{IsTextOf, asked_sure, belief_there, learned_has, stands_at, sure_told}
-use Rattle.world3270.specs.statement.ShownFields.{AreShown, IsKept, IsWritten, OtherTextsAreNot, ShowsField, WantsItsFields, fitted, is_again}
+use Rattle.world3270.specs.statement.ShownFields.{AreShown, IsKept, IsWritten, OtherTextsAreNot, ShowsField, ValuesAreShown, WantsItsFields, fitted, is_again}
 
 -- ---- what is kept is shown again
 
@@ -411,7 +415,7 @@ module _ (app : Application) (is : IsApplication app) (wants : WantsItsFields ap
 
 pub fields_shown : WrittenIsThere → KeptStaysThere → (app : Application) → IsApplication app → WantsItsFields app → (waits : Bool) (host : Session) (before screen : Screen) → ShowsItsPanel app waits host before screen
     → AreShown waits (app.fields host.panel) host.values host.message before screen
-fields_shown written kept app is wants waits host before screen shown = by_keep shown.wanted_for.keep shown.wanted_for.is_decided shown.wanted_for.knows shown.wanted_for.wanted_is
+fields_shown written kept app is wants waits host before screen shown = by_keep shown.wanted_for.keep given_is shown.wanted_for.is_decided shown.wanted_for.knows shown.wanted_for.wanted_is
   where
     panel : ℕ
     panel = host.panel
@@ -465,12 +469,48 @@ fields_shown written kept app is wants waits host before screen shown = by_keep 
     if_fits true keeps knows is_so is_that = again keeps knows is_so is_that
     if_fits false keeps knows is_so is_that = in_full is_that
 
-    by_keep : (keep : Bool) → IsDecided app conn (Act.Show shown.wanted_for.asked message keep values) → (keep ≡ true → KnowsItsFields app conn) → shown.wanted ≡ wanted_by app (when_shown conn) panel message keep values
+    given : Values
+    given = shown.wanted_for.given
+
+    -- a panel that is shown again has all of them
+    given_is : is_again message ≡ true → given ≡ values
+    given_is so = sym (shown.wanted_for.values_are ∙ ap (λ (fresh : Bool). if fresh then without_values (app.values panel) given else given) (not_fresh message so))
+
+    by_keep : (keep : Bool) → (is_again message ≡ true → given ≡ values) → IsDecided app conn (Act.Show shown.wanted_for.asked message keep given) → (keep ≡ true → KnowsItsFields app conn) → shown.wanted ≡ wanted_by app (when_shown conn) panel message keep values
         → AreShown waits (app.fields panel) values message before screen
-    by_keep true decided knows is_that =
-        if_fits (fits (when_shown conn).shadow (app.screen panel values message true)) (act_keeps app conn shown.wanted_for.asked message values decided (knows refl)) (knows refl)
-        (kept_again app conn shown.wanted_for.asked message values decided) is_that
-    by_keep false decided knows is_that = in_full is_that
+    by_keep true same decided knows is_that =
+        let so = kept_again app conn shown.wanted_for.asked message given decided in
+        if_fits (fits (when_shown conn).shadow (app.screen panel values message true))
+        (subst (Keeps app conn shown.wanted_for.asked) (same so) (act_keeps app conn shown.wanted_for.asked message given decided (knows refl))) (knows refl) so is_that
+    by_keep false same decided knows is_that = in_full is_that
+
+-- ---- each value is shown
+
+-- a character that is wanted is on the painted screen
+painted_char : (reset : Bool) (whole rest : List Want) (cells : List Cell) (place : ℕ) (byte : ℕ) → length cells ≡ length rest → slice_get rest place ≡ Some (want.Char byte)
+    → slice_get (painted_from reset whole rest cells) place ≡ Some (Char byte)
+painted_char reset whole [] cells place byte same at = absurd (cc)
+painted_char reset whole (first ∷ rest) [] place byte same at = absurd (omega arith)
+painted_char reset whole (want.Char char ∷ rest) (there ∷ cells) zero byte same at =
+    let is : want.Char char ≡ want.Char byte = cc in
+    let equal : char ≡ byte = cc in
+    ap (λ (b : ℕ). Some (Char b)) equal
+painted_char reset whole (want.Keep ∷ rest) (there ∷ cells) zero byte same at = absurd (cc)
+painted_char reset whole (want.Attr attribute ∷ rest) (there ∷ cells) zero byte same at = absurd (cc)
+painted_char reset whole (want.Char char ∷ rest) (there ∷ cells) (suc place) byte same at = painted_char reset whole rest cells place byte (omega arith) at
+painted_char reset whole (want.Keep ∷ rest) (there ∷ cells) (suc place) byte same at = painted_char reset whole rest cells place byte (omega arith) at
+painted_char reset whole (want.Attr attribute ∷ rest) (there ∷ cells) (suc place) byte same at = painted_char reset whole rest cells place byte (omega arith) at
+
+pub values_shown : (app : Application) → WantsItsFields app → (waits : Bool) (host : Session) (before screen : Screen) → ShowsItsPanel app waits host before screen
+    → ValuesAreShown (app.values host.panel) host.values screen
+values_shown app wants waits host before screen shown = λ index value at cell is.
+    let way = wanted_in_a_way app (when_shown shown.wanted_for.conn) host.panel host.message shown.wanted_for.keep host.values in
+    let wanted = shown.wanted in
+    let char = slice_index_or (unwrap_or (value_of host.values value.number) []) (cell - value.extent.first) 0 in
+    let there : slice_get wanted.cells cell ≡ Some (want.Char char) =
+    ap (λ (w : WantedScreen). slice_get w.cells cell) (shown.wanted_for.wanted_is ∙ way.1) ∙ wants.values host.panel host.values host.message way.0 index value cell at is in
+    ap (λ (s : Screen). slice_get s.cells cell) shown.is
+    ∙ painted_char wanted.reset wanted.cells wanted.cells (cells_under (length wanted.cells) before.cells) cell char (length-under (length wanted.cells) before.cells) there
 
 -- ---- the cursor
 

@@ -1,14 +1,23 @@
 -- Once a panel was shown the screen shows the connection's panel: it is read off the moment.
-use Rattle.std.proofs.Common.{◌≡◌, ℕ, Bool, true, false, None, Option, Some, List, refl, ap, sym, subst, ◌∙◌, if◌then◌else◌}
+use Rattle.std.proofs.Common.{◌≡◌, ◌==◌, ◌+◌, ◌-◌, ◌≤◌, ℕ, arith, cond, Bool, true, false, None, Option, Some, List, [], refl, ap, sym, subst, ◌∙◌, if◌then◌else◌}
 use Rattle.std.specs.Option.{option_map_or}
-use Rattle.std.specs.Prelude.{slice_get, unwrap_or}
+use Rattle.std.specs.Prelude.{slice_get, slice_index_or, unwrap_or}
+use Rattle.codes3270.specs.declared.attribute.Attr.{Attr}
 use Rattle.datastream.specs.Screen.{Screen}
+use Rattle.datastream.specs.declared.wanted.Want.TheVariants as want
 use Rattle.shadow.specs.PaintedFields.{KeptStaysThere, WrittenIsThere}
-use Rattle.panels.specs.KeptFields.{AttributesAreThere, FieldsAreKeptWhole, FieldsAreOnTheScreen, FieldsAreWritten}
+use Rattle.panels.specs.KeptFields.{AttributesAreThere, FieldsAreKeptWhole, FieldsAreOnTheScreen, FieldsAreWritten, IsCharacterOf, TextsAreWritten}
 use Rattle.codes3270.specs.declared.size.Model.{Model}
 use Rattle.codes3270.specs.declared.size.Model.TheVariants.{M2}
-use Rattle.panels.specs.Panel.{AreSound, HasItemsApart, HaveNumbersApart, HaveOtherwise, IsLaidOut, IsOtherwise, PanelParts, Panels, is_shown, shown_in as form_in, shown_of}
+use Rattle.panels.specs.Panel.{AreSound, HasItemsApart, HaveNumbersApart, HaveOtherwise, IsCellOf, IsLaidOut, IsOtherwise, PanelParts, Panels, is_shown, shown_in as form_in, shown_of}
+use Rattle.panels.proofs.KeptFields.{some_distance}
+use Rattle.panels.specs.Screen.{Values, autoskip_attr, item_cell, screen_of as panel_screen, shown as shown_text}
+use Rattle.panels.specs.Values.{value_of}
+use Rattle.panels.specs.declared.extent.Extent.{Extent}
+use Rattle.panels.specs.declared.message.Message.{Message}
+use Rattle.panels.specs.declared.panel.Content.{Content}
 use Rattle.panels.specs.declared.panel.Field.{Field as PanelField}
+use Rattle.panels.specs.declared.panel.Value.{Value as PanelValue}
 use Rattle.host_core.specs.Application.{Application, IsApplication, application_of, no_panel, panel_at}
 use Rattle.host_core.specs.Laws.{PanelsAreShown}
 use Rattle.host_core.specs.Session.{Session}
@@ -31,7 +40,7 @@ use Rattle.world3270.specs.model.World.{World, new_world}
 use Rattle.world3270.proofs.AskedOverBytes.{panel_there}
 use Rattle.world3270.proofs.Headline.{terminal_attached}
 use Rattle.world3270.proofs.SeenRepresents.{same_seen}
-use Rattle.world3270.proofs.ShownFields.{cursor_shown, fields_shown}
+use Rattle.world3270.proofs.ShownFields.{cursor_shown, fields_shown, values_shown}
 use Rattle.world3270.proofs.Waits.{all_wait}
 use Rattle.world3270.proofs.Worlds.{new_good, run_good}
 
@@ -79,6 +88,7 @@ fields_are_shown written kept always app serves pool models events is lists few 
     record {
       shown = shown;
       fields = fields_shown written kept app is wants true (world.link number).host terminal.before_restored terminal.last_restored shown;
+      values = values_shown app wants true (world.link number).host terminal.before_restored terminal.last_restored shown;
       cursor = cursor_shown app wants true (world.link number).host terminal.before_restored terminal.last_restored shown;
     }
 
@@ -91,6 +101,17 @@ pub record KnownPanels : Type 0 where
   pub written : FieldsAreWritten
   pub kept : FieldsAreKeptWhole
   pub on_screen : FieldsAreOnTheScreen
+  pub texts : TextsAreWritten
+
+later : (attr : Attr) (char : ℕ) (first : Bool) → first ≡ false → cond first (want.Attr attr) (want.Char char) ≡ want.Char char
+later attr char first is = rw is refl
+
+-- a character of an item, which isn't its attribute
+char_at : (attr : Attr) (text : List ℕ) (first cell : ℕ) → first ≤ cell → Some (item_cell attr text (cell + 1 - first)) ≡ Some (want.Char (slice_index_or text (cell - first) 0))
+char_at attr text first cell past =
+    let before : cell + 1 - first - 1 ≡ cell - first = omega arith in
+    ap Some (later attr (slice_index_or text (cell + 1 - first - 1) 0) ((cell + 1 - first) == 0) (some_distance first cell past)
+    ∙ ap (λ (distance : ℕ). want.Char (slice_index_or text distance 0)) before)
 
 -- a field of a panel, and that this is one of the set's
 record Among (set : Panels) (panel index : ℕ) (field : PanelField) : Type 0 where
@@ -102,6 +123,20 @@ among set sound panel index field at =
     let there = panel_there (slice_get set.panels panel) index field at in
     let same : there.0 ≡ panel_at set panel = sym (ap (λ (p : Option PanelParts). unwrap_or p no_panel) there.1) in
     record { apart = subst HasItemsApart same (sound.apart panel there.0 there.1); laid_out = subst IsLaidOut same (sound.laid_out panel there.0 there.1) }
+
+-- what a panel asks for has each value's characters
+shows_value : TextsAreWritten → (set : Panels) → AreSound set → (p : ℕ) (panel : PanelParts) (values : Values) (message : Message) (keep : Bool) (index : ℕ) (value : PanelValue) (cell : ℕ)
+    → slice_get set.panels p ≡ Some panel → slice_get panel.values index ≡ Some value → IsCharacterOf value.extent cell
+    → slice_get (panel_screen panel values message keep).cells cell ≡ Some (want.Char (slice_index_or (unwrap_or (value_of values value.number) []) (cell - value.extent.first) 0))
+shows_value written set sound p panel values message keep index value cell at_p at is =
+    let (i, text, at_i, place, shows) = sound.shown p panel at_p index value at in
+    let first = value.extent.first in
+    let has : IsCellOf value.extent cell = (omega (arith, is.0), omega (arith, is.1)) in
+    let item = autoskip_attr text.bright in
+    written panel values message keep i text cell (sound.apart p panel at_p) (sound.laid_out p panel at_p) at_i (subst (λ (extent : Extent). IsCellOf extent cell) (sym place) has)
+    ∙ ap (λ (extent : Extent). Some (item_cell item (shown_text values text.content) (cell + 1 - extent.first))) place
+    ∙ ap (λ (content : Content). Some (item_cell item (shown_text values content) (cell + 1 - first))) shows
+    ∙ char_at item (unwrap_or (value_of values value.number) []) first cell is.0
 
 -- the panel that is shown to a model is shown to it as it is
 shown_again : (set : Panels) → HaveOtherwise set → (model : Model) (number : ℕ) → form_in set model (form_in set model number) ≡ form_in set model number
@@ -147,6 +182,7 @@ wants_its_fields known set sound = record {
   ends = λ panel values message keep index field at.
       let a = among set sound panel index field at in
       (known.on_screen (panel_at set panel) values message keep index field a.apart a.laid_out at).next;
+  values = λ panel values message keep index value cell at is. by_panel panel values message keep index value cell (slice_get set.panels panel) refl at is;
   reset = λ panel values message keep. refl;
   cursor = λ panel values message. refl;
   numbers = λ panel i j one other below at_i at_j.
@@ -155,6 +191,16 @@ wants_its_fields known set sound = record {
       (subst (λ (p : PanelParts). HaveNumbersApart p.fields) same (sound.numbers panel there.0 there.1)) i j one other below at_i at_j;
   again = shown_again set sound.otherwise;
 }
+  where
+    by_panel : (p : ℕ) (values : Values) (message : Message) (keep : Bool) (index : ℕ) (value : PanelValue) (cell : ℕ) (panel : Option PanelParts) → slice_get set.panels p ≡ panel
+        → slice_get (unwrap_or (slice_get set.panels p) no_panel).values index ≡ Some value → IsCharacterOf value.extent cell
+        → slice_get (panel_screen (unwrap_or (slice_get set.panels p) no_panel) values message keep).cells cell
+        ≡ Some (want.Char (slice_index_or (unwrap_or (value_of values value.number) []) (cell - value.extent.first) 0))
+    by_panel p values message keep index value cell None there at is =
+        absurd (let none : slice_get no_panel.values index ≡ Some value = subst (λ (o : Option PanelParts). slice_get (unwrap_or o no_panel).values index ≡ Some value) there at in cc)
+    by_panel p values message keep index value cell (Some panel) there at is =
+        ap (λ (o : Option PanelParts). slice_get (panel_screen (unwrap_or o no_panel) values message keep).cells cell) there
+        ∙ shows_value known.texts set sound p panel values message keep index value cell there (subst (λ (o : Option PanelParts). slice_get (unwrap_or o no_panel).values index ≡ Some value) there at) is
 
 pub panel_is_shown_over_bytes : KnownPanels → AlwaysOf FieldsAreShown → PanelIsShownOverBytes
 panel_is_shown_over_bytes known always bytes is number rest host terminal service_is terminal_is has =

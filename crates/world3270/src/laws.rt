@@ -35,7 +35,9 @@ use datastream::laws::{fields_both_ways, kept_since_the_write, sent_is_read, wha
 use host_core::laws::{notes_are_written, panels_are_shown, what_is_shown_fits};
 use keyboard::laws::{keys_keep_what_was_left, sent_keys_wait, what_keys_leave_can_be_sent};
 use lu_pool::laws::the_pool_is_a_map;
-use panels::laws::{fields_are_on_the_screen, fields_are_written, kept_fields_are_whole};
+use panels::laws::{
+    fields_are_on_the_screen, fields_are_written, kept_fields_are_whole, texts_are_written,
+};
 use shadow::laws::{
     painted_fields_are_there, rules_are_not_broken, what_a_note_leaves,
     what_is_believed_has_a_size, what_is_exact_is_so, what_is_in_doubt_is_allowed,
@@ -141,6 +143,7 @@ pub fn what_is_answered_is_shown()
     panels_are_shown();
     painted_fields_are_there();
     fields_are_written();
+    texts_are_written();
     kept_fields_are_whole();
     fields_are_on_the_screen();
 }

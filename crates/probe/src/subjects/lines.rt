@@ -31,7 +31,7 @@ fn put_words(alloc: Global, answer: &mut Answer, text: &str) -> Done {
 
 fn put_report(alloc: Global, answer: &mut Answer, text: &str) -> Done {
     let report = check(alloc, text)?;
-    answer.line(&(report.faults(), report.has_words))?;
+    answer.line(&report.faults())?;
     answer.page(report.page(alloc, "text"))?;
     match application_of(alloc, text) {
         Ok(_) => answer.said(&"readers accept"),

@@ -63,6 +63,10 @@ fn put_panel(answer: &mut Answer, panel: &Panel) -> Done {
         let extent = (field.extent.attr(), field.extent.length);
         answer.line(&(field.number, extent, field.required))?;
     }
+    for value in panel.values() {
+        let extent = (value.extent.attr(), value.extent.length);
+        answer.line(&("value", value.number, extent))?;
+    }
     Ok(())
 }
 

@@ -29,6 +29,7 @@ abbrev pub name_field : Field
 name_field = record {
   number = 0;
   name = codes "name";
+  title = coded (codes "name");
   extent = record { first = 6; length = 3; after_attribute = lit≤ tt; has_cells = lit≤ tt; on_screen = lit≤ tt };
   numeric = false;
   hidden = false;
@@ -42,6 +43,7 @@ abbrev pub letter_field : Field
 letter_field = record {
   number = 1;
   name = codes "letter";
+  title = coded (codes "letter");
   extent = record { first = 11; length = 1; after_attribute = lit≤ tt; has_cells = lit≤ tt; on_screen = lit≤ tt };
   numeric = false;
   hidden = false;
@@ -151,6 +153,7 @@ example = record {
   has_panel = λ panel. nat_lt panel 3;
   shown = shown_to;
   fields = fields_of;
+  values = λ panel. [];
   next = led_to;
   screen = screen_of;
 }

@@ -10,7 +10,7 @@ use Rattle.panels.specs.Screen.{Values}
 use Rattle.panels.specs.declared.message.Message.{Message}
 use Rattle.tn3270e_msg.specs.Talk.{Talk}
 use Rattle.tn3270e_msg.specs.declared.host_talk.HostState.{HostState}
-use Rattle.host_core.specs.Acts.{Act, Decision, decision_on, is_settled_fact, wanted_by, when_shown}
+use Rattle.host_core.specs.Acts.{Act, Decision, decision_on, is_settled_fact, values_shown, wanted_by, when_shown}
 use Rattle.host_core.specs.Application.{Application}
 use Rattle.host_core.specs.Questions.{act_by, is_ask, panel_for}
 use Rattle.host_core.specs.Session.{Session, model_in}
@@ -45,17 +45,20 @@ pub record KnowsItsFields (app : Application) (conn : Session) : Type 0 where
   pub read : IsKnownIfRead conn.turn_reason conn.shadow
 
 -- Holds if `wanted` is a screen of the panel with these values and this message. Some connection in this state of
--- negotiation decides to show it; `over` is its belief at that time, with input in doubt if the host doesn't rely on
--- the wait. With `keep`, fields keep what the operator left in them, if it fits.
+-- negotiation decides to show it, with the values `given`, of which a fresh panel's own are dropped; `over` is its
+-- belief at that time, with input in doubt if the host doesn't rely on the wait. With `keep`, fields keep what the
+-- operator left in them, if it fits.
 pub record IsWantedFor (app : Application) (talk : Talk HostState) (panel : ℕ) (values : Values) (message : Message)
     (over : Shadow) (wanted : WantedScreen) : Type 0 where
   pub conn : Session
   pub same_talk : conn.talk ≡ talk
   pub asked : ℕ
   pub keep : Bool
-  pub is_decided : IsDecided app conn (Act.Show asked message keep values)
+  pub given : Values
+  pub is_decided : IsDecided app conn (Act.Show asked message keep given)
   pub knows : keep ≡ true → KnowsItsFields app conn
   pub panel_is : panel ≡ app.shown (model_in conn) asked
+  pub values_are : values ≡ values_shown app panel message given
   pub over_is : over ≡ (when_shown conn).shadow
   pub wanted_is : wanted ≡ wanted_by app (when_shown conn) panel message keep values
 

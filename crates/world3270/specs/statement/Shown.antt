@@ -13,7 +13,7 @@ use Rattle.world3270.specs.statement.Observation.{TerminalSeen, seen_link}
 use Rattle.world3270.specs.statement.ByteObservation.{seen_connection}
 use Rattle.world3270.specs.model.World.{World}
 use Rattle.world3270.specs.statement.Showing.{ShowsItsPanel}
-use Rattle.world3270.specs.statement.ShownFields.{AreShown, WantsItsFields}
+use Rattle.world3270.specs.statement.ShownFields.{AreShown, ValuesAreShown, WantsItsFields}
 
 -- whether a paint waits for its answer
 abbrev pub is_painting : Pending → Bool
@@ -29,10 +29,12 @@ pub record HasShown (host : Session) : Type 0 where
   pub not_first : host.turn ≡ whose.Host → host.turn_reason ≡ Agreement → ⊥
 
 -- Holds if the screen shows the connection's panel, with the connection's values and message; so it shows each field of
--- the panel, with its value or as it was on the screen before. The cursor is where the panel and the message want it.
+-- the panel, with its value or as it was on the screen before, and each value of the panel. The cursor is where the
+-- panel and the message want it.
 pub record IsPanelShown (app : Application) (waits : Bool) (host : Session) (before screen : Screen) : Type 0 where
   pub shown : ShowsItsPanel app waits host before screen
   pub fields : AreShown waits (app.fields host.panel) host.values host.message before screen
+  pub values : ValuesAreShown (app.values host.panel) host.values screen
   pub cursor : screen.cursor ≡ (app.screen host.panel host.values host.message false).cursor
 
 -- ---- of a world over messages
@@ -45,7 +47,7 @@ PanelIsShown app world = (number : ℕ) (terminal : TerminalSeen) → let link =
     link.host_here ≡ true → (seen_link link).terminal ≡ Some terminal → HasShown link.host
     → ShowsItsPanel app true link.host terminal.before_restored terminal.last_restored
 
--- That screen also shows each field of the panel, if each screen that the application asks for has its panel's fields.
+-- That screen also shows each field and value of the panel, if each screen that the application asks for has them.
 abbrev pub FieldsAreShown : Application → World → Type 0
 FieldsAreShown app world = WantsItsFields app → (number : ℕ) (terminal : TerminalSeen) → let link = world.link number in
     link.host_here ≡ true → (seen_link link).terminal ≡ Some terminal → HasShown link.host

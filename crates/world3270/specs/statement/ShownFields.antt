@@ -1,6 +1,7 @@
--- The fields of a panel on the screen that shows it (our profile).
-use Rattle.std.specs.Prelude.{◌≡◌, ◌≢◌, ◌+◌, ◌-◌, ℕ, zero, suc, Bool, true, false, List, [], ◌∷◌, length, Some, slice_get, slice_index_or}
+-- The fields and values of a panel on the screen that shows it (our profile).
+use Rattle.std.specs.Prelude.{◌≡◌, ◌≢◌, ◌+◌, ◌-◌, ℕ, zero, suc, Bool, true, false, List, [], ◌∷◌, length, Some, slice_get, slice_index_or, unwrap_or}
 use Rattle.codes3270.specs.declared.attribute.Attr.{Attr}
+use Rattle.codes3270.specs.declared.attribute.Cell.TheVariants.{Char}
 use Rattle.codes3270.specs.declared.size.Model.{Model}
 use Rattle.datastream.specs.KeptByKeys.{without_mdt}
 use Rattle.datastream.specs.Inbound.{without_nulls}
@@ -14,6 +15,7 @@ use Rattle.panels.specs.Values.{value_of}
 use Rattle.panels.specs.declared.message.Message.{Message}
 use Rattle.panels.specs.declared.message.Message.TheVariants.{Fresh, Plain, KeyNotActive, Required, Told}
 use Rattle.panels.specs.declared.panel.Field.{Field as PanelField}
+use Rattle.panels.specs.declared.panel.Value.{Value as PanelValue}
 use Rattle.host_core.specs.Application.{Application}
 
 -- a text in a field of this length: cut to it, or filled up with nulls
@@ -65,6 +67,17 @@ pub data AreShown (waits : Bool) (panel : List PanelField) (values : Values) (me
       → IsKept waits values message field before screen)
       → AreShown waits panel values message before screen
 
+-- Holds if the screen shows this text as the panel's value: its characters, one in each cell of the value, and nulls
+-- after its end.
+abbrev pub ShowsValue : Screen → PanelValue → List ℕ → Type 0
+ShowsValue screen value text = (cell : ℕ) → IsCharacterOf value.extent cell
+    → slice_get screen.cells cell ≡ Some (Char (slice_index_or text (cell - value.extent.first) 0))
+
+-- The screen shows each of the panel's values: the text that the host has for it, or nulls if it has none.
+abbrev pub ValuesAreShown : List PanelValue → Values → Screen → Type 0
+ValuesAreShown panel values screen = (index : ℕ) (value : PanelValue) → slice_get panel index ≡ Some value
+    → ShowsValue screen value (unwrap_or (value_of values value.number) [])
+
 -- A screen doesn't show the fields if one has another text: neither the value or fill nor the text that was there
 -- before.
 abbrev pub OtherTextsAreNot : Type 0
@@ -77,9 +90,9 @@ OtherTextsAreNot = (waits : Bool) (panel : List PanelField) (values : Values) (m
 -- ---- the applications that this is said of
 
 -- Holds if each screen that the application asks for has each field of its panel: the attribute, then its characters or
--- `Keep`, then another attribute. Only a fresh panel resets MDT elsewhere, and the cursor doesn't depend on what is
--- kept. No two fields of a panel have the same number, and a panel in the form for a model is shown to that model as it
--- is.
+-- `Keep`, then another attribute; and it has each value's characters. Only a fresh panel resets MDT elsewhere, and the
+-- cursor doesn't depend on what is kept. No two fields of a panel have the same number, and a panel in the form for a
+-- model is shown to that model as it is.
 pub record WantsItsFields (app : Application) : Type 0 where
   pub attributes : (panel : ℕ) (values : Values) (message : Message) (keep : Bool) (index : ℕ) (field : PanelField)
       → slice_get (app.fields panel) index ≡ Some field
@@ -95,6 +108,10 @@ pub record WantsItsFields (app : Application) : Type 0 where
   pub ends : (panel : ℕ) (values : Values) (message : Message) (keep : Bool) (index : ℕ) (field : PanelField)
       → slice_get (app.fields panel) index ≡ Some field
       → HasAttributeAt (app.screen panel values message keep) (field.extent.first + field.extent.length)
+  pub values : (panel : ℕ) (values : Values) (message : Message) (keep : Bool) (index : ℕ) (value : PanelValue)
+      (cell : ℕ) → slice_get (app.values panel) index ≡ Some value → IsCharacterOf value.extent cell
+      → slice_get (app.screen panel values message keep).cells cell
+      ≡ Some (want.Char (slice_index_or (unwrap_or (value_of values value.number) []) (cell - value.extent.first) 0))
   pub reset : (panel : ℕ) (values : Values) (message : Message) (keep : Bool)
       → (app.screen panel values message keep).reset ≡ is_fresh message
   pub cursor : (panel : ℕ) (values : Values) (message : Message)

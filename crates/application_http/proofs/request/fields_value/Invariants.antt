@@ -5,4 +5,4 @@ use Rattle.application_http.specs.Requests.{with_texts}
 use Rattle.application_http.proofs.request.fields_value.Given as goal
 
 abbrev pub invariant-loop-field : goal.invariant-loop-field
-invariant-loop-field l = with_texts no_members l.fields ≡ with_texts (members_view l.texts.entries) (drop l.field-index l.fields)
+invariant-loop-field l = with_texts l.fields no_members l.fields ≡ with_texts l.fields (members_view l.texts.entries) (drop l.field-index l.fields)

@@ -27,7 +27,9 @@ loop-field-preserved c =
           (slice_get-get_or c.args.panels.now c.loop-panel.panel c.index-panels-panel.result c.loop-panel-test.true ∙ ap Some (sym c.index-panels-panel.is))
           inside
           (subst (λ (item : DraftItem). (other : List ℕ) → part_named c.note-in-loop-field.new.index other ≡ noted (part_named c.loop-field.of_fields) item.name (Field c.loop-panel.panel c.loop-field.field) other)
-          c.item.view_is c.in_ok-note-2.ensures)
+          c.item.view_is
+          (subst (λ name. (other : List ℕ) → part_named c.note-in-loop-field.new.index other ≡ noted (part_named c.loop-field.of_fields) name (Field c.loop-panel.panel c.loop-field.field) other)
+          c.as_str.ensures.value c.in_ok-note-2.ensures))
           c.loop-field.invariant.1,
     )
 

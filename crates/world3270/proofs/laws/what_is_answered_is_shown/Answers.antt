@@ -18,6 +18,7 @@ returns-clause-bytes c =
       written = c.fields_are_written.ensures.characters;
       kept = c.kept_fields_are_whole.ensures.whole;
       on_screen = c.fields_are_on_the_screen.ensures;
+      texts = c.texts_are_written.ensures;
     })
     (fields_are_shown c.painted_fields_are_there.ensures.written c.painted_fields_are_there.ensures.kept (panel_is_shown c.what_is_given.ensures))
 

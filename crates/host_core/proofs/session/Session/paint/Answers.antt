@@ -7,10 +7,14 @@ use Rattle.codes3270.specs.Size.{ScreenSize, cells_in, most_cells}
 use Rattle.shadow.specs.Paint.{paint_bytes}
 use Rattle.telnet_wire.proofs.Lengths.{ok_with_room}
 use Rattle.telnet_wire.specs.Items.{Record, sent_bytes}
-use Rattle.host_core.proofs.Paintings.{paint_is_kept, shows, paint_believes}
-use Rattle.host_core.specs.Acts.{wanted_by}
+use Rattle.host_core.proofs.Paintings.{paint_is_kept, paint_record, same_wanted, shows, paint_believes}
+use Rattle.host_core.specs.Acts.{values_shown, wanted_by}
+use Rattle.host_core.specs.Session.{Session}
 use Rattle.host_core.specs.Representation.{IsPlainWrite, BelievesTheSize}
-use Rattle.host_core.specs.Application.{application_of, panel_at}
+use Rattle.host_core.specs.Application.{Application, application_of, panel_at}
+use Rattle.host_core.specs.declared.turn.Turn.TheVariants as whose
+use Rattle.host_core.specs.Representation.{pending_in}
+use Rattle.tn3270e_msg.specs.Header.{next_number}
 use Rattle.host_core.specs.declared.pending.Pending.TheVariants as unanswered
 use Rattle.host_core.proofs.session.Session.paint.Goals as goal
 
@@ -48,17 +52,37 @@ invariant_of-self c =
           (paint_believes c.self.inside.next_seq c.self.inside.shadow wanted c.paint.new.out.items encoded record_is),
     )
 
+-- what is left of the values once a panel is shown
+shown_after : {new : Session} (app : Application) (old dropped : Session) (shown asked : Shown) (made : Session → Shown → Session) → new ≡ made dropped shown
+    → dropped ≡ record old { values = values_shown app shown.panel shown.message old.values } → shown ≡ asked
+    → new ≡ made (record old { values = values_shown app asked.panel asked.message old.values }) asked
+shown_after app old dropped shown asked made is left same =
+    is ∙ ap (λ (s : Session). made s shown) left ∙ ap (λ (it : Shown). made (record old { values = values_shown app it.panel it.message old.values }) it) same
+
 pub returns-clause-sent : goal.returns-clause-sent
 returns-clause-sent c =
+    let app = application_of c.args.panels.now in
     let laws = c.what_is_wanted_is_painted.ensures in
     let begun = rw c.unwrap.ensures at c.paint.ensures.painted in
     let wanted = c.put_fitting.new.wanted in
     let same : wanted.size ≡ c.size-size.result = sized wanted c.args.panels.now c.for_model-shown.result.panel c.size-size.result c.panel_in.result.now c.put_fitting.ensures.size c.size-size.ensures c.panel_in.ensures.panel in
-    shows (application_of c.args.panels.now) c.args.self.now _ c.args.asked.panel c.args.asked.message c.args.asked.keep c.args.self.now.values c.put_fitting.new.wanted c.paint.new.out.items c.args.out.now c.send_record.new.out
+    let left = values_shown app c.for_model-shown.result.panel c.for_model-shown.result.message c.args.self.now.values in
+    let record_is : c.paint.new.out.items ≡ paint_record (cells_in wanted.size) c.drop_values.new.self.next_seq c.drop_values.new.self.shadow wanted =
+    rw (← c.self.view_is) (begun ∙ ap (λ (bytes : List ℕ). bytes ++ paint_bytes (cells_in wanted.size) c.self.inside.shadow wanted) c.begin_record.ensures.begun) in
+    shows app c.args.self.now _ c.args.asked.panel c.args.asked.message c.args.asked.keep c.args.self.now.values c.put_fitting.new.wanted c.paint.new.out.items c.args.out.now c.send_record.new.out
     (c.put_fitting.ensures.wanted
-    ∙ ap (wanted_by (application_of c.args.panels.now) c.args.self.now c.for_model-shown.result.panel c.for_model-shown.result.message c.for_model-shown.result.keep) c.values.ensures
-    ∙ ap (λ (s : Shown). wanted_by (application_of c.args.panels.now) c.args.self.now s.panel s.message s.keep c.args.self.now.values) c.for_model-shown.ensures.shown)
+    ∙ ap (wanted_by app c.drop_values.new.self c.for_model-shown.result.panel c.for_model-shown.result.message c.for_model-shown.result.keep) c.values.ensures
+    ∙ ap (λ (s : Session). wanted_by app s c.for_model-shown.result.panel c.for_model-shown.result.message c.for_model-shown.result.keep s.values) c.drop_values.ensures
+    ∙ same_wanted app c.args.self.now left c.for_model-shown.result.panel c.for_model-shown.result.message c.for_model-shown.result.keep left
+    ∙ ap (λ (s : Shown). wanted_by app c.args.self.now s.panel s.message s.keep (values_shown app s.panel s.message c.args.self.now.values)) c.for_model-shown.ensures.shown)
     (laws.encoded wanted.size wanted.size c.args.self.now.shadow wanted c.put_fitting.ensures.screen (inr refl) (λ writes. refl))
-    (rw (← c.self.view_is) (begun ∙ ap (λ (bytes : List ℕ). bytes ++ paint_bytes (cells_in wanted.size) c.self.inside.shadow wanted) c.begin_record.ensures.begun))
-    (rw (same, c.for_model-shown.ensures.shown, ← c.self.view_is, c.next_seq-self-inside.ensures) refl)
+    (record_is ∙ ap (λ (s : Session). paint_record (cells_in wanted.size) s.next_seq s.shadow wanted) c.drop_values.ensures)
+    (shown_after app c.args.self.now c.drop_values.new.self c.for_model-shown.result _ (λ s shown. record s {
+      size = wanted.size;
+      turn = whose.Terminal;
+      pending = pending_in wanted.size (unanswered.Writing s.next_seq) c.paint.new.out.items;
+      next_seq = next_number s.next_seq;
+      panel = shown.panel;
+      message = shown.message;
+    }) (rw (same, ← c.self.view_is, c.next_seq-self-inside.ensures) refl) c.drop_values.ensures c.for_model-shown.ensures.shown)
     (c.send_record.ensures.sent ∙ ap (λ (bytes : List ℕ). c.args.out.now.items ++ sent_bytes (Record bytes ∷ [])) c.as_slice.ensures.value)

@@ -1,8 +1,19 @@
-use Rattle.std.proofs.Common.{sym, ◌∙◌}
-use Rattle.host_core.specs.Application.{application_of}
-use Rattle.host_core.specs.Choices.{values_with}
+use Rattle.std.proofs.Common.{◌≡◌, ◌∙◌, sym, Bool, Option}
+use Rattle.std.specs.Prelude.{Result, Ok, Err, OnErr}
+use Rattle.host_core.specs.Acts.{done}
+use Rattle.host_core.specs.Application.{Application, application_of}
+use Rattle.host_core.specs.Choices.{act_of, values_with}
+use Rattle.host_core.specs.Does.{Grow}
+use Rattle.host_core.specs.Session.{Session, model_in}
+use Rattle.host_core.specs.declared.acting.Shown.{Shown}
+use Rattle.host_core.proofs.Dropping.{AreApart, are_apart, grows_shown}
 use Rattle.host_core.proofs.Doings.{shows_once, shows_without_room, shows_without_values}
 use Rattle.host_core.proofs.session.Session.show_in_turn.Goals as goal
+
+still : {T E : Type 0} (app : Application) (old : Session) (learn : Bool) (shown : Shown) → AreApart (app.fields old.panel) (app.values (app.shown (model_in old) shown.panel)) → (result : Result T E)
+    → OnErr result (Grow old.values (values_with app old learn)) → OnErr result (Grow old.values (done app old (act_of (values_with app old learn) shown)).conn.values)
+still app old learn shown apart (Ok value) grow = tt
+still app old learn shown apart (Err error) grow = grows_shown app old learn (app.shown (model_in old) shown.panel) shown.message apart grow
 
 pub returns-then-is_err-clause-acted : goal.returns-then-is_err-clause-acted
 returns-then-is_err-clause-acted c =
@@ -14,7 +25,7 @@ pub returns-then-is_err-2-clause-acted : goal.returns-then-is_err-2-clause-acted
 returns-then-is_err-2-clause-acted c =
     let app = application_of c.args.panels.now in
     shows_without_values app c.args.self.now c.learn.new.self (values_with app c.args.self.now c.args.learn) c.args.shown c.args.out.now c.reserve.new.self c.learn.result
-    (sym c.is_err-2.ensures.value ∙ c.if-is_err-2.true) c.learn.ensures.memory c.learn.ensures.err c.reserve.ensures.items
+    (sym c.is_err-2.ensures.value ∙ c.if-is_err-2.true) (still app c.args.self.now c.args.learn c.args.shown (are_apart c.args.panels.now c.args.self.now.panel (app.shown (model_in c.args.self.now) c.args.shown.panel) c.panels_are_sound.ensures.values) c.learn.result c.learn.ensures.memory) c.learn.ensures.err c.reserve.ensures.items
 
 pub returns-clause-acted : goal.returns-clause-acted
 returns-clause-acted c =

@@ -1,4 +1,4 @@
-use Rattle.std.proofs.Common.{◌≡◌, ◌+◌, ℕ, ap, sym, subst, rules, None, Some, arith}
+use Rattle.std.proofs.Common.{◌≡◌, ◌∙◌, ◌+◌, ℕ, ap, sym, subst, rules, None, Some, arith}
 use Rattle.std.specs.Prelude.{MatchOption}
 use Rattle.panels.specs.declared.fault.Location.TheVariants as part
 use Rattle.panels.specs.Draft.{DraftItem}
@@ -14,11 +14,11 @@ at_field : (c : goal.After-fields_before) → name_at (part.Field c.unwrap_or-pa
 at_field c =
     let panels = c.args.self.now.panels in
     let (p, i, there) = c.requires.is_text in
-    let show : c.text.inside.show.now ≡ c.args.text.now.show = ap (λ (item : DraftItem). item.show) c.text.view_is in
+    let show : c.as_str.result.now ≡ c.args.text.now.show = c.as_str.ensures.value ∙ ap (λ (item : DraftItem). item.show) c.text.view_is in
     subst (λ (at : ℕ × ℕ). name_at (part.Field at.0 at.1) panels ≡ Some c.args.text.now.show) (sym c.unwrap_or-panel.ensures)
-    (found_or (λ (at : ℕ × ℕ). name_at (part.Field at.0 at.1) panels ≡ Some c.args.text.now.show) (¬ NamesField c.args.text.now.show panels) c.field_named.result (0, 0)
-    (shown_is_there c.args.self.now c.args.text.now p i c.requires.faultless there (no_text c))
-    (subst (λ show. MatchOption c.field_named.result (¬ NamesField show panels) (λ at. name_at (part.Field at.0 at.1) panels ≡ Some show)) show c.field_named.ensures))
+    (found_or (λ (at : ℕ × ℕ). (name_at (part.Field at.0 at.1) panels ≡ Some c.args.text.now.show) × NamesField c.args.text.now.show panels) (¬ NamesField c.args.text.now.show panels)
+    c.field_named.result (0, 0) (shown_is_there c.args.self.now c.args.text.now p i c.requires.faultless there (no_text c))
+    (subst (λ show. MatchOption c.field_named.result (¬ NamesField show panels) (λ at. (name_at (part.Field at.0 at.1) panels ≡ Some show) × NamesField show panels)) show c.field_named.ensures)).0
 
 pub overflow_add-result : goal.overflow_add-result
 overflow_add-result c =

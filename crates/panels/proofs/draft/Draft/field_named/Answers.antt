@@ -1,13 +1,10 @@
-use Rattle.std.proofs.Common.{sym, ap, ◌∙◌}
+use Rattle.std.proofs.Common.{◌∙◌, ap, sym}
 use Rattle.std.specs.Prelude.{option_copied}
-use Rattle.panels.proofs.Naming.{no_field, field_found, finds_field}
+use Rattle.panels.specs.Draft.{DraftItem}
+use Rattle.panels.proofs.Naming.{value_found}
 use Rattle.panels.proofs.draft.Draft.field_named.Goals as goal
 
-pub returns-in_err-panel : goal.returns-in_err-panel
-returns-in_err-panel c = rw (c.from_residual.ensures) (rw (← c.self.view_is) (no_field _ _ c.args.name.now c.self.invariant.fields_are (sym c.get.ensures.value ∙ ap option_copied c.in_err-panel.was)))
-
-pub returns-in-Field : goal.returns-in-Field
-returns-in-Field c = rw (← c.self.view_is) (field_found _ _ c.args.name.now c.in_ok-panel.field-0.now _ _ c.self.invariant.fields_are (sym c.get.ensures.value ∙ ap option_copied c.in_ok-panel.was) c.in-Field.is)
-
-pub returns-in_default : goal.returns-in_default
-returns-in_default c = λ named. finds_field _ _ c.args.name.now c.in_ok-panel.field-0.now c.self.invariant.fields_are (sym c.get.ensures.value ∙ ap option_copied c.in_ok-panel.was) c.in_default.not-Field
+pub returns-then-item : goal.returns-then-item
+returns-then-item c =
+    value_found c.args.self.now.panels c.args.name.now c.in_ok-panel.panel c.in_ok-panel.field c.in_ok-item.item.now c.in_ok-panel.ensures (sym c.item.ensures ∙ ap option_copied c.in_ok-item.was)
+    (sym (ap (λ (item : DraftItem). item.is_value) c.item-2.view_is) ∙ c.if-item.true)

@@ -67,9 +67,8 @@ returns-clause-wanted c =
     ∙ ap (option_map_or (λ field. field.extent.first) (field_spoken panel.fields c.args.message)) (ap (λ (p : PanelParts). p.cursor) c.self.view_is) in
     let whole : length c.put_texts.new.wanted.cells ≡ cells_in (size_of panel) =
     all_there c.cells-whole.result c.put_texts.new.wanted.cells c.put_texts.new.wanted.size (size_of panel) c.cells-whole.ensures.cells c.cells-whole.ensures.size sized in
-    let named : c.as_bytes.result.now ≡ option_map_or (λ field. field.name) (option_copied c.field_of-spoken.result) [] = search rules in
-    let spoken : c.as_bytes.result.now ≡ option_map_or (λ field. field.name) (field_spoken panel.fields c.args.message) [] =
-    named ∙ ap (λ field. option_map_or (λ field. field.name) field []) c.field_of-spoken.ensures in
+    let spoken : c.title_of-title.result.now ≡ option_map_or (λ field. field.title) (field_spoken panel.fields c.args.message) [] =
+    c.title_of-title.ensures.title ∙ ap (λ field. option_map_or (λ field. field.title) field []) c.field_of-spoken.ensures in
     subst (λ screen. IsWantedOf panel c.args.values.now c.args.message c.args.keep screen) (sym c.set_cursor_and_reset.ensures)
     (record {
       size = sized;
@@ -77,7 +76,7 @@ returns-clause-wanted c =
           let fits : cell < length c.put_texts.new.wanted.cells = subst (λ n. cell < n) (sym whole) below in
           slice_get-get_or c.put_texts.new.wanted.cells cell want.Keep fits
           ∙ ap Some
-          (put_all panel c.args.values.now c.args.message c.args.keep c.as_bytes.result.now c.as_slice.result.now c.as_slice-fields.result.now c.args.wanted.now
+          (put_all panel c.args.values.now c.args.message c.args.keep c.title_of-title.result.now c.as_slice.result.now c.as_slice-fields.result.now c.args.wanted.now
           c.put_stoppers.new.wanted c.put_message.new.wanted c.put_fields.new.wanted c.put_texts.new.wanted (c.requires.size) spoken
           (c.as_slice.ensures.value ∙ ap (λ (p : PanelParts). p.texts) c.self.view_is) (c.as_slice-fields.ensures.value ∙ ap (λ (p : PanelParts). p.fields) c.self.view_is)
           c.requires.nulls

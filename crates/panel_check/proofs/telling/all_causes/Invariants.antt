@@ -1,0 +1,10 @@
+use Rattle.std.proofs.Common.{◌≡◌, ◌++◌, map, drop}
+use Rattle.panel_check.specs.Listed.{cause_of}
+use Rattle.panel_check.specs.declared.finding.Cause.TheVariants as cause
+use Rattle.panel_check.proofs.telling.all_causes.Given as goal
+
+abbrev pub invariant-loop-at : goal.invariant-loop-at
+invariant-loop-at l = map cause_of l.tables ≡ l.causes.items ++ map cause_of (drop l.at-index l.tables)
+
+abbrev pub invariant-loop-fault : goal.invariant-loop-fault
+invariant-loop-fault l = map cause_of l.tables ++ map cause.Lus l.lus ≡ l.causes.items ++ map cause.Lus (drop l.fault-index l.lus)
