@@ -49,6 +49,8 @@ def happened(event: str) -> str:
         return f"dropped {int(found[1]):02X}"
     if found := re.fullmatch(r'\("RuleBroken", RuleBreak { rule: (\w+), cell: (\d+).* }\)', event):
         return f"broken {found[1]} {found[2]}"
+    if found := re.fullmatch(r'\("Closed", (\w+)\)', event):
+        return f"closed {found[1]}"
     return event.strip('"').lower()
 
 
@@ -254,7 +256,8 @@ class Host(Subject):
     lost C [BYTES]        the connection is lost before these were sent
     restart               the host restarts
     event C WHAT          what the host hands out next that happened: rejected [LU] REASON, bound LU,
-                          dropped AID, broken RULE CELL, or shown; none, if there is no more
+                          dropped AID, broken RULE CELL, shown, or closed CAUSE; or none, if there is
+                          no more
     rejected C WHAT       the same of rejections alone; others are left: [LU] REASON, or none
     dropped C AID         of dropped keys
     broken C WHAT         of the rule that the terminal broke, and the cell

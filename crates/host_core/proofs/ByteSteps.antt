@@ -23,7 +23,7 @@ use Rattle.host_core.specs.Sound.{HoldsJust, OthersHold}
 use Rattle.host_core.specs.Session.{Session}
 use Rattle.host_core.specs.State.{Service}
 use Rattle.host_core.specs.Takes.{HostStep, freed_if}
-use Rattle.host_core.specs.Reports.{Reports}
+use Rattle.host_core.specs.Reports.{Reports, with_cause}
 
 -- ---- the pool
 
@@ -73,10 +73,10 @@ byte_completes number pool mid left held after old new before out kept keeps byt
     TakesByte.completes held.rest after.rest old item step refl
     (delivers_item record_limit held after byte item running takes ready) taken.takes
     (ap (λ (p : List Entry). connection_and_pool_of p after new closes out keeps) (freed ∙ ap (freed_if number closes) taken.pool_is)
-    ∙ ap (λ (c : Option Cause). record { pool = freed_if number c (granted_if number step.grants pool); connection = record { service = service_after after.rest new c; out = out.items; reports = keeps } }) taken.ends
-    ∙ ap (λ (conn : Session). record { pool = freed_if number step.closes (granted_if number step.grants pool); connection = record { service = service_after after.rest conn step.closes; out = out.items; reports = keeps } }) taken.conn
-    ∙ ap (λ (bytes : List ℕ). record { pool = freed_if number step.closes (granted_if number step.grants pool); connection = record { service = service_after after.rest step.conn step.closes; out = bytes; reports = keeps } }) taken.sent
-    ∙ ap (λ (reports : Reports). record { pool = freed_if number step.closes (granted_if number step.grants pool); connection = record { service = service_after after.rest step.conn step.closes; out = before.items ++ sent_bytes (map item_sent step.sends); reports = reports } }) taken.reports)
+    ∙ ap (λ (c : Option Cause). record { pool = freed_if number c (granted_if number step.grants pool); connection = record { service = service_after after.rest new c; out = out.items; reports = with_cause c keeps } }) taken.ends
+    ∙ ap (λ (conn : Session). record { pool = freed_if number step.closes (granted_if number step.grants pool); connection = record { service = service_after after.rest conn step.closes; out = out.items; reports = with_cause step.closes keeps } }) taken.conn
+    ∙ ap (λ (bytes : List ℕ). record { pool = freed_if number step.closes (granted_if number step.grants pool); connection = record { service = service_after after.rest step.conn step.closes; out = bytes; reports = with_cause step.closes keeps } }) taken.sent
+    ∙ ap (λ (reports : Reports). record { pool = freed_if number step.closes (granted_if number step.grants pool); connection = record { service = service_after after.rest step.conn step.closes; out = before.items ++ sent_bytes (map item_sent step.sends); reports = with_cause step.closes reports } }) taken.reports)
 
 -- ---- bytes
 

@@ -21,7 +21,7 @@ use Rattle.host_core.specs.declared.acted.Acted.TheVariants as answer
 use Rattle.host_core.specs.declared.connection.HostEnd.{HostEnd}
 use Rattle.host_core.specs.declared.question.Answer.{Answer}
 use Rattle.host_core.specs.declared.question.Ticket.{Ticket}
-use Rattle.host_core.specs.Reports.{Reports, with_shown}
+use Rattle.host_core.specs.Reports.{Reports, with_sent}
 use Rattle.host_core.specs.declared.connection.Service.{Service as ServiceValue}
 use Rattle.host_core.specs.declared.connection.Service.TheVariants as kept
 use Rattle.std.proofs.Common.{Box}
@@ -59,8 +59,8 @@ none_shown : (answered : Acted) (new : Session) (reports kept : Reports) → ans
 none_shown answered new reports kept nothing keeps = keeps ∙ ap (λ a. shown_by a new reports) nothing
 
 sent_shown : (sent : Sent) (new : Session) (reports kept : Reports) → new ≡ sent.conn → kept ≡ shown_by answer.Sent new reports
-    → kept ≡ with_shown (is_paint sent.conn.pending) reports
-sent_shown sent new reports kept is keeps = keeps ∙ ap (λ (conn : Session). with_shown (is_paint conn.pending) reports) is
+    → kept ≡ with_sent (is_paint sent.conn.pending) reports
+sent_shown sent new reports kept is keeps = keeps ∙ ap (λ (conn : Session). with_sent (is_paint conn.pending) reports) is
 
 on_connection : (what : Option Sent) (rest : Rest) (old new : Session) (before after : Vec ℕ Global) (answered : Acted) (reports kept : Reports) → out_room ≤ vec_capacity before → DoesOn what old before answered new after
     → kept ≡ shown_by answered new reports → Does what (open_connection rest old before.items reports) answered (open_connection rest new after.items kept)

@@ -28,7 +28,7 @@ use Rattle.tn3270e_msg.specs.declared.host_talk.HostState.{HostState}
 use Rattle.tn3270e_msg.specs.declared.host_talk.HostState.TheVariants as at
 use Rattle.host_core.specs.Acts.{Sent, decision_on, may_act}
 use Rattle.host_core.specs.Application.{Application, application_of}
-use Rattle.host_core.specs.Does.{Does, DoesAnswer, acted_by, noted_by, sent_on, with_conn}
+use Rattle.host_core.specs.Does.{Does, DoesAnswer, acted_by, noted_by, sent_on, with_conn, question_kept}
 use Rattle.host_core.specs.KeepAlive.{kept_alive}
 use Rattle.host_core.specs.Notes.{may_note}
 use Rattle.host_core.specs.Questions.{act_by, answered_by, has_its_panel, is_asking, is_ticket, panel_for, ticket_of}
@@ -428,8 +428,10 @@ responds_changes : (number : ℕ) (old : Host) (bytes : List ℕ) (sound : Bool)
 responds_changes number old bytes sound new (Responds.unfed fed feeds memory short) = feeds_changes number old bytes fed new feeds
 responds_changes number old bytes sound new (Responds.idle fed mid feeds more acts short) =
     changes_on number old mid new (feeds_changes number old bytes fed mid feeds) (acts_changes number mid _ new acts)
-responds_changes number old bytes sound new (Responds.acts fed mid did feeds more acts done whole) =
-    changes_on number old mid new (feeds_changes number old bytes fed mid feeds) (acts_changes number mid did new acts)
+responds_changes number old bytes sound new (Responds.acts fed mid acted did feeds more acts done asked whole) =
+    changes_on number old acted new
+    (changes_on number old mid acted (feeds_changes number old bytes fed mid feeds) (acts_changes number mid did acted acts))
+    (still number (question_kept (application_of acted.panels) (connection_at number acted)) acted new asked refl)
 
 module _ {L : Type 0} (gave : L → ℕ → ℕ → List ℕ → LinkRead → L → Type 0) (took : L → ℕ → List ℕ → LinkWrite → L → Type 0) where
   sends_changes : (number : ℕ) (old : Host) (links : L) (new : Host) (left : L) → SendsOut gave took number old links new left → ChangesOne number old new

@@ -11,7 +11,7 @@ use Rattle.tn3270e_msg.specs.Header.{record_limit}
 use Rattle.tn3270e_msg.specs.declared.cause.Cause.{Cause}
 use Rattle.tn3270e_msg.specs.declared.cause.Cause.TheVariants.{Wire}
 use Rattle.host_core.specs.Items.{TakesItem}
-use Rattle.host_core.specs.Reports.{newly_bound, reported, with_bound}
+use Rattle.host_core.specs.Reports.{newly_bound, reported, with_bound, with_cause}
 use Rattle.host_core.specs.Says.{item_sent}
 use Rattle.host_core.specs.Session.{Session, agreed_lu}
 use Rattle.host_core.specs.State.{Service, Connection}
@@ -40,8 +40,9 @@ stepped number rest step old = record {
   connection = record {
     service = service_after rest step.conn step.closes;
     out = old.connection.out ++ sent_bytes (map item_sent step.sends);
-    reports = with_bound (newly_bound (bound_lu old.connection.service) (agreed_lu step.conn.talk.state))
-        (reported step.rejects step.drops step.breaks old.connection.reports);
+    reports = with_cause step.closes
+        (with_bound (newly_bound (bound_lu old.connection.service) (agreed_lu step.conn.talk.state))
+        (reported step.rejects step.drops step.breaks old.connection.reports));
   };
 }
 
@@ -59,7 +60,10 @@ pub data TakesByte (number : ℕ) (old : ConnectionAndPool) (byte : ℕ) (new : 
       → GoesWrong record_limit rest (byte ∷ []) fault
       → new ≡ record {
         pool = given_back number old.pool;
-        connection = record old.connection { service = Service.Closed Wire };
+        connection = record old.connection {
+          service = Service.Closed Wire;
+          reports = with_cause (Some Wire) old.connection.reports;
+        };
       }
       → TakesByte number old byte new
 

@@ -4,13 +4,14 @@ use Rattle.panels.specs.Screen.{Values}
 use Rattle.panels.specs.Values.{HasToGrow, value_of}
 use Rattle.telnet_wire.specs.Items.{sent_bytes}
 use Rattle.host_core.specs.Acts.{Sent, acted, learned}
-use Rattle.host_core.specs.Application.{Application}
+use Rattle.host_core.specs.Application.{Application, application_of}
 use Rattle.host_core.specs.Notes.{noted}
+use Rattle.host_core.specs.Questions.{is_asking}
 use Rattle.host_core.specs.Rooms.{out_room, room_for}
 use Rattle.host_core.specs.Says.{item_sent}
-use Rattle.host_core.specs.Reports.{with_shown}
+use Rattle.host_core.specs.Reports.{with_question, with_sent}
 use Rattle.host_core.specs.Session.{Session, Pending}
-use Rattle.host_core.specs.State.{Service, Connection}
+use Rattle.host_core.specs.State.{Service, Connection, Host, connection_at, with_connection}
 use Rattle.host_core.specs.declared.question.Answer.{Answer}
 use Rattle.host_core.specs.declared.acted.Acted.{Acted}
 use Rattle.host_core.specs.declared.acted.Acted.TheVariants.{Sent as IsSent, Nothing, Memory}
@@ -20,6 +21,21 @@ abbrev pub acted_by : Application → Service → Option Sent
 acted_by app Service.Free = None
 acted_by app (Service.Open rest conn) = acted app conn
 acted_by app (Service.Closed cause) = None
+
+-- a question is open on a connection number
+abbrev pub asks : Application → Service → Bool
+asks app Service.Free = false
+asks app (Service.Open rest conn) = is_asking app conn
+asks app (Service.Closed cause) = false
+
+-- the state once it is an event that the host asks, if it does, once a question
+abbrev pub question_kept : Application → Connection → Connection
+question_kept app connection =
+    record connection { reports = with_question (asks app connection.service) connection.reports }
+
+-- the host once that is an event of a connection
+abbrev pub with_asked : ℕ → Host → Host
+with_asked conn host = with_connection conn (question_kept (application_of host.panels) (connection_at conn host)) host
 
 -- the note that is sent, if one is
 abbrev pub noted_by : List ℕ → Service → Option Sent
@@ -45,7 +61,7 @@ abbrev pub sent_on : Sent → Connection → Connection
 sent_on sent connection = record {
   service = with_conn sent.conn connection.service;
   out = connection.out ++ sent_bytes (item_sent sent.message ∷ []);
-  reports = with_shown (is_paint sent.conn.pending) connection.reports;
+  reports = with_sent (is_paint sent.conn.pending) connection.reports;
 }
 
 -- the values of fields on a connection number

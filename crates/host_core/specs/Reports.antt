@@ -1,11 +1,12 @@
 -- The events that a connection keeps until they are reported (our profile).
-use Rattle.std.specs.Prelude.{ℕ, Bool, false, ◌||◌, List, [], ◌∷◌, ◌++◌, map, Option, Some, None, length, ltb, if◌then◌else◌}
+use Rattle.std.specs.Prelude.{ℕ, Bool, false, not, ◌&&◌, ◌||◌, List, [], ◌∷◌, ◌++◌, map, Option, Some, None, length, ltb, if◌then◌else◌}
 use Rattle.std.specs.Option.{option_or}
 use Rattle.shadow.specs.declared.rule_break.RuleBreak.{RuleBreak}
 use Rattle.host_core.specs.declared.dropped_key.DroppedKey.{DroppedKey}
 use Rattle.host_core.specs.declared.event.HostEvent.{HostEvent}
 use Rattle.host_core.specs.declared.event.HostEvent.TheVariants as event
 use Rattle.host_core.specs.declared.rejection.Rejection.{Rejection}
+use Rattle.tn3270e_msg.specs.declared.cause.Cause.{Cause}
 
 -- the unreported events; of each kind the oldest first
 pub record Reports : Type 0 where
@@ -13,11 +14,27 @@ pub record Reports : Type 0 where
   pub bound : Option (List ℕ)
   pub dropped_keys : List DroppedKey
   pub rule_break : Option RuleBreak
+  pub asked : Bool
   pub shown : Bool
+  pub closed : Option Cause
+  pub waits : Bool  -- no event: the host waits for the answer to a question that was reported, or will be
 
 -- no unreported event
+abbrev pub none_left : (waits : Bool) → Reports
+none_left waits = record {
+  rejections = [];
+  bound = None;
+  dropped_keys = [];
+  rule_break = None;
+  asked = false;
+  shown = false;
+  closed = None;
+  waits = waits;
+}
+
+-- no unreported event, and no question
 abbrev pub no_reports : Reports
-no_reports = record { rejections = []; bound = None; dropped_keys = []; rule_break = None; shown = false }
+no_reports = none_left false
 
 -- ---- what is kept
 
@@ -47,9 +64,19 @@ newly_bound (Some lu) after = None
 abbrev pub with_bound : Option (List ℕ) → Reports → Reports
 with_bound lu reports = record reports { bound = option_or lu reports.bound }
 
--- the events after a screen is shown, if one is
-abbrev pub with_shown : Bool → Reports → Reports
-with_shown shown reports = record reports { shown = shown || reports.shown }
+-- The events once the host waits for the answer to a question, if it does: that it asks is an event once.
+abbrev pub with_question : (asks : Bool) → Reports → Reports
+with_question asks reports =
+    record reports { asked = (asks && not reports.waits) || reports.asked; waits = asks || reports.waits }
+
+-- the events after something is sent, a screen if `shown`: no question waits for its answer
+abbrev pub with_sent : (shown : Bool) → Reports → Reports
+with_sent shown reports = record reports { shown = shown || reports.shown; waits = false }
+
+-- the events after the connection is closed, if there is a cause
+abbrev pub with_cause : Option Cause → Reports → Reports
+with_cause None reports = reports
+with_cause (Some cause) reports = record reports { closed = Some cause }
 
 -- ---- what is handed out
 
@@ -58,8 +85,8 @@ abbrev pub event_if : {A : Type 0} → (A → HostEvent) → Option A → List H
 event_if event None = []
 event_if event (Some one) = event one ∷ []
 
-abbrev pub shown_if : Bool → List HostEvent
-shown_if shown = if shown then event.Shown ∷ [] else []
+abbrev pub event_when : HostEvent → Bool → List HostEvent
+event_when event happened = if happened then event ∷ [] else []
 
 -- all unreported events, in the order in which they are handed out
 abbrev pub events_of : Reports → List HostEvent
@@ -68,7 +95,9 @@ events_of reports =
     ++ (event_if event.Bound reports.bound
     ++ (map event.KeyDropped reports.dropped_keys
     ++ (event_if event.RuleBroken reports.rule_break
-    ++ shown_if reports.shown)))
+    ++ (event_when event.Asked reports.asked
+    ++ (event_when event.Shown reports.shown
+    ++ event_if event.Closed reports.closed)))))
 
 -- the first of a list: the event that is handed out next
 abbrev pub oldest : {A : Type 0} → List A → Option A

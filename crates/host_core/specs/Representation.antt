@@ -24,7 +24,7 @@ use Rattle.host_core.specs.Application.{Application}
 use Rattle.host_core.specs.Does.{Grow, ValuesMayWantMemory, is_paint}
 use Rattle.host_core.specs.Bytes.{ConnectionAndPool, service_after}
 use Rattle.host_core.specs.Items.{TakesItem}
-use Rattle.host_core.specs.Reports.{Reports, newly_bound, reported, with_bound, with_shown}
+use Rattle.host_core.specs.Reports.{Reports, newly_bound, reported, with_bound, with_cause, with_sent}
 use Rattle.host_core.specs.Rooms.{room_for}
 use Rattle.host_core.specs.Says.{item_sent}
 use Rattle.host_core.specs.Session.{Session, Pending, agreed_lu}
@@ -129,13 +129,14 @@ abbrev pub IsLeft : Option Cause → DecoderValue → Type 0
 IsLeft None held = IsRunning held
 IsLeft (Some cause) held = ⊤
 
--- the state of these parts; the connection is open unless there is a cause
+-- the state of these parts; the connection is open unless there is a cause, which is an event then
 abbrev pub connection_and_pool_of : List Entry → DecoderValue → Session → Option Cause → Vec ℕ Global → Reports
     → ConnectionAndPool
 connection_and_pool_of pool held conn closes out reports =
     record {
       pool = pool;
-      connection = record { service = service_after held.rest conn closes; out = out.items; reports = reports };
+      connection =
+          record { service = service_after held.rest conn closes; out = out.items; reports = with_cause closes reports };
     }
 
 abbrev pub cause_of : Stop → Option Cause
@@ -152,7 +153,7 @@ pub record IsSentOn (sent : Sent) (before after : Vec ℕ Global) (new : Session
 
 -- the events after an act: a screen that was sent is one
 abbrev pub shown_by : Acted → Session → Reports → Reports
-shown_by IsSent new reports = with_shown (is_paint new.pending) reports
+shown_by IsSent new reports = with_sent (is_paint new.pending) reports
 shown_by Nothing new reports = reports
 shown_by NoMemory new reports = reports
 

@@ -3,7 +3,7 @@ use Rattle.std.specs.Prelude.{◌≡◌, ◌≢◌, ◌<◌, ◌≤◌, ◌+◌,
 use Rattle.tn3270e_msg.specs.declared.cause.Fed.{Fed}
 use Rattle.tn3270e_msg.specs.declared.cause.Stop.TheVariants.{Memory as FeedMemory}
 use Rattle.host_core.specs.Application.{application_of}
-use Rattle.host_core.specs.Does.{Does, acted_by}
+use Rattle.host_core.specs.Does.{Does, acted_by, with_asked}
 use Rattle.host_core.specs.Feeds.{Feeds, connection_and_pool_at, with_connection_and_pool}
 use Rattle.host_core.specs.Sound.{OthersHold}
 use Rattle.host_core.specs.State.{Host, connection_at, state_at, with_connection}
@@ -91,20 +91,20 @@ pub record FeedsHost (conn : ℕ) (old : Host) (bytes : List ℕ) (fed : Fed) (n
 
 -- the host acts on one connection; others don't change
 pub record ActsHost (conn : ℕ) (old : Host) (answer : Acted) (new : Host) : Type 0 where
-  pub does : Does (acted_by (application_of old.panels) (state_at conn old)) (connection_at conn old) answer
-      (connection_at conn new)
+  pub does : Does (acted_by (application_of old.panels) (state_at conn old))
+      (connection_at conn old) answer (connection_at conn new)
   pub others : new ≡ with_connection conn (connection_at conn new) old
 
--- The host is fed bytes, and then acts; `sound` is false if memory was refused for either.
+-- The host is fed bytes, acts, and keeps the event that it asks; `sound` is false if memory was refused.
 pub data Responds (conn : ℕ) (old : Host) (bytes : List ℕ) (sound : Bool) (new : Host) : Type 0 where
   unfed : (fed : Fed) → FeedsHost conn old bytes fed new → fed.stop ≡ FeedMemory → sound ≡ false
       → Responds conn old bytes sound new
   idle : (fed : Fed) (mid : Host) → FeedsHost conn old bytes fed mid → fed.stop ≢ FeedMemory
       → ActsHost conn mid ActMemory new → sound ≡ false
       → Responds conn old bytes sound new
-  acts : (fed : Fed) (mid : Host) (answer : Acted) → FeedsHost conn old bytes fed mid → fed.stop ≢ FeedMemory
-      → ActsHost conn mid answer new
-      → answer ≢ ActMemory → sound ≡ true → Responds conn old bytes sound new
+  acts : (fed : Fed) (mid done : Host) (answer : Acted) → FeedsHost conn old bytes fed mid → fed.stop ≢ FeedMemory
+      → ActsHost conn mid answer done → answer ≢ ActMemory → new ≡ with_asked conn done → sound ≡ true
+      → Responds conn old bytes sound new
 
 -- the host after `count` bytes of a connection's output were sent
 abbrev pub sent_from : ℕ → ℕ → Host → Host

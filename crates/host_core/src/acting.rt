@@ -409,7 +409,7 @@ impl Session {
     }
 
     /// Whether a question is open.
-    fn is_asking(&self, panels: &PanelSet) -> bool
+    pub(crate) fn is_asking(&self, panels: &PanelSet) -> bool
         requires { IsShownOn panels.now self.now }
         ensures asking { result ≡ is_asking (application_of panels.now) self.now }
         ensures fields { result ≡ true → HaveFields self.now.shadow (panel_at panels.now self.now.panel).fields }

@@ -4,7 +4,7 @@ ghost use Rattle.std.specs.Vec.{vec_capacity};
 ghost use Rattle.telnet_wire.specs.Items.{sent_bytes};
 ghost use Rattle.host_core.specs.Application.{application_of};
 ghost use Rattle.tn3270e_msg.specs.HostTable.{granted};
-ghost use Rattle.host_core.specs.Does.{Does, DoesAnswer, acted_by, noted_by};
+ghost use Rattle.host_core.specs.Does.{Does, DoesAnswer, acted_by, noted_by, question_kept};
 ghost use Rattle.host_core.specs.Feeds.{Feeds};
 ghost use Rattle.host_core.specs.KeepAlive.{kept_alive, kept_alive_answer, may_keep_alive, no_operation};
 ghost use Rattle.host_core.specs.Representation.{IsRunning, IsLeft, connection_and_pool_of, cause_of, claim, shown_by};
@@ -106,12 +106,12 @@ fn put_nop(out: &mut Vec<u8>)
     out.extend_from_slice(&IAC_NOP).unwrap();
 }
 
-/// Records that a screen was sent, if the act sent one.
-fn keep_shown(reports: &mut Reports, acted: Acted, session: &Session)
+/// Records what the act sent, if it sent something.
+fn keep_sent(reports: &mut Reports, acted: Acted, session: &Session)
     ensures { reports.new ≡ shown_by acted session.now reports.old }
 {
     match acted {
-        Acted::Sent => reports.keep_shown(session.pending.is_paint()),
+        Acted::Sent => reports.keep_sent(session.pending.is_paint()),
         Acted::Nothing => {}
         Acted::Memory => {}
     }
@@ -196,6 +196,7 @@ impl Connection {
                 match fed.stop {
                     Stop::Closed(cause) => {
                         self.service = Service::Closed(cause);
+                        self.reports.keep_closed(cause);
                         fed
                     }
                     Stop::Going => fed,
@@ -216,9 +217,20 @@ impl Connection {
             Service::Free | Service::Closed(_) => Acted::Nothing,
             Service::Open(end) => {
                 let acted = end.session.act(panels, &mut self.out);
-                keep_shown(&mut self.reports, acted, &end.session);
+                keep_sent(&mut self.reports, acted, &end.session);
                 acted
             }
+        }
+    }
+
+    /// Keeps the event that the host asks, as [`Host::keep_asked`](crate::Host::keep_asked).
+    pub(crate) fn keep_asked(&mut self, panels: &PanelSet)
+        requires { IsShown panels.now self.old.service }
+        ensures { self.new ≡ question_kept (application_of panels.now) self.old }
+    {
+        match &self.service {
+            Service::Free | Service::Closed(_) => {}
+            Service::Open(end) => self.reports.keep_asked(end.session.is_asking(panels)),
         }
     }
 
@@ -259,7 +271,7 @@ impl Connection {
                 let acted = end
                     .session
                     .answer_to(panels, session, ticket, answer, &mut self.out);
-                keep_shown(&mut self.reports, acted, &end.session);
+                keep_sent(&mut self.reports, acted, &end.session);
                 acted
             }
         }
@@ -276,7 +288,7 @@ impl Connection {
             Service::Free | Service::Closed(_) => Acted::Nothing,
             Service::Open(end) => {
                 let acted = end.session.note(text, &mut self.out);
-                keep_shown(&mut self.reports, acted, &end.session);
+                keep_sent(&mut self.reports, acted, &end.session);
                 acted
             }
         }
@@ -325,6 +337,7 @@ impl Connection {
     pub(crate) fn next_event(&mut self) -> Option<HostEvent>
         ensures next { result ≡ oldest (events_of self.old.reports) }
         ensures removed { events_of self.new.reports ≡ without_oldest (events_of self.old.reports) }
+        ensures waits { self.new.reports.waits ≡ self.old.reports.waits }
         ensures others { self.new ≡ record self.old { reports = self.new.reports } }
     {
         self.reports.next_event()

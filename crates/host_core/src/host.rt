@@ -2,7 +2,7 @@
 ghost use Rattle.lu_pool.specs.Pool.{Holds, OneHolder};
 ghost use Rattle.std.specs.Prelude.{◌≡◌, ◌≢◌, ◌≤◌, ◌<◌, ◌↔◌, ◌⊎◌, ℕ, List, length, drop, replicate, IfOk, OnOk, OnErr};
 ghost use Rattle.host_core.specs.Application.{application_of};
-ghost use Rattle.host_core.specs.Does.{Does, DoesAnswer, acted_by, noted_by};
+ghost use Rattle.host_core.specs.Does.{Does, DoesAnswer, acted_by, noted_by, with_asked};
 ghost use Rattle.host_core.specs.Feeds.{Feeds, connection_and_pool_at, with_connection_and_pool};
 ghost use Rattle.host_core.specs.KeepAlive.{kept_alive, kept_alive_answer};
 ghost use Rattle.host_core.specs.Notes.{IsNoteText};
@@ -175,6 +175,14 @@ impl Host {
         self.connections[conn].act(&self.panels)
     }
 
+    /// Keeps the event that the host asks the application, if a question is open on a connection, once a question.
+    pub(crate) fn keep_asked(&mut self, conn: usize)
+        requires number { conn < most_connections }
+        ensures { self.new ≡ with_asked conn self.old }
+    {
+        self.connections[conn].keep_asked(&self.panels);
+    }
+
     /// The question that is open on a connection: the operator has pressed a key that the panel asks the application
     /// about, or both ends have agreed on a session whose first panel asks at connect, and the host waits for the
     /// answer. None if no question is open: then [`act`](Host::act) goes on.
@@ -260,8 +268,8 @@ impl Host {
         self.connections[conn].sent(count);
     }
 
-    /// Removes and returns the next event of a connection; None if there is none. Rejections come first, then the LU
-    /// that the terminal was bound to, dropped keys, the rule that the terminal broke, and that a screen was sent.
+    /// Removes and returns the next event of a connection; None if there is none. Events come in the order of the
+    /// variants of [`HostEvent`], of one kind the oldest first.
     ///
     /// A connection keeps its events until its number is opened again or freed: the first 8 rejections, the first 8
     /// keys, and one of each other kind, so that no kind displaces another.
@@ -269,6 +277,7 @@ impl Host {
         requires number { conn < most_connections }
         ensures next { result ≡ oldest (events_of (reports_at conn self.old)) }
         ensures removed { events_of (reports_at conn self.new) ≡ without_oldest (events_of (reports_at conn self.old)) }
+        ensures waits { (reports_at conn self.new).waits ≡ (reports_at conn self.old).waits }
         ensures others { self.new ≡ with_reports conn (reports_at conn self.new) self.old }
     {
         self.connections[conn].next_event()

@@ -1,6 +1,6 @@
 //! The events that a connection keeps until they are reported.
 ghost use Rattle.std.specs.Prelude.{◌≡◌, None, Some, false};
-ghost use Rattle.host_core.specs.Reports.{events_of, kept_with, newly_bound, no_reports, oldest, reported, with_bound, with_shown, without_oldest};
+ghost use Rattle.host_core.specs.Reports.{events_of, kept_with, newly_bound, no_reports, oldest, reported, with_bound, with_cause, with_question, with_sent, without_oldest};
 
 use crate::dropped_key::DroppedKey;
 use crate::event::HostEvent;
@@ -9,20 +9,24 @@ use arrayvec::ArrayVec;
 use codes3270::Aid;
 use shadow::RuleBreak;
 use std::marker::Model;
-use tn3270e_msg::{Lu, Reason};
+use tn3270e_msg::{Cause, Lu, Reason};
 
 /// The most rejections, and the most dropped keys, that are kept. A negotiation sends no more rejections.
 const MOST_REPORTS: usize = 8;
 
 /// The unreported events of a connection: rejected requests for an LU and dropped keys, each the oldest first; the LU
-/// that the terminal was bound to, the rule that it broke, and whether a screen was shown.
+/// that the terminal was bound to, the rule that it broke, whether a question was asked and a screen shown, and why the
+/// connection was closed. Beside these, whether a question waits for its answer, so that it is asked once.
 #[derive(Drop)]
 pub(crate) struct Reports {
     rejections: ArrayVec<Rejection, MOST_REPORTS>,
     bound: Option<Lu>,
     dropped_keys: ArrayVec<DroppedKey, MOST_REPORTS>,
     rule_break: Option<RuleBreak>,
+    asked: bool,
     shown: bool,
+    closed: Option<Cause>,
+    waits: bool,
 }
 
 impl Model for Reports {
@@ -35,7 +39,10 @@ impl Model for Reports {
       bound = reports.bound;
       dropped_keys = reports.dropped_keys.items;
       rule_break = reports.rule_break;
+      asked = reports.asked;
       shown = reports.shown;
+      closed = reports.closed;
+      waits = reports.waits;
     } };
 }
 
@@ -67,7 +74,10 @@ impl Reports {
             bound: None,
             dropped_keys: ArrayVec::new(),
             rule_break: None,
+            asked: false,
             shown: false,
+            closed: None,
+            waits: false,
         }
     }
 
@@ -101,11 +111,27 @@ impl Reports {
         }
     }
 
-    /// Records that a screen was shown, if `shown` is set.
-    pub(crate) fn keep_shown(&mut self, shown: bool)
-        ensures { self.new ≡ with_shown shown self.old }
+    /// Keeps that the host waits for the answer to a question, if `asks` is set, and it wasn't waiting for it before.
+    pub(crate) fn keep_asked(&mut self, asks: bool)
+        ensures { self.new ≡ with_question asks self.old }
+    {
+        self.asked = (asks && !self.waits) || self.asked;
+        self.waits = asks || self.waits;
+    }
+
+    /// Records that something was sent, a screen if `shown` is set, so that no question waits for its answer.
+    pub(crate) fn keep_sent(&mut self, shown: bool)
+        ensures { self.new ≡ with_sent shown self.old }
     {
         self.shown = shown || self.shown;
+        self.waits = false;
+    }
+
+    /// Keeps the cause for which the connection was closed.
+    pub(crate) fn keep_closed(&mut self, cause: Cause)
+        ensures { self.new ≡ with_cause (Some cause) self.old }
+    {
+        self.closed = Some(cause);
     }
 
     /// Removes and returns the oldest rejection.
@@ -140,6 +166,14 @@ impl Reports {
         std::mem::replace(&mut self.rule_break, None)
     }
 
+    /// Forgets that a question was asked, and answers whether one was.
+    fn next_asked(&mut self) -> bool
+        ensures next { result ≡ self.old.asked }
+        ensures removed { self.new ≡ record self.old { asked = false } }
+    {
+        std::mem::replace(&mut self.asked, false)
+    }
+
     /// Forgets that a screen was shown, and answers whether it was.
     fn next_shown(&mut self) -> bool
         ensures next { result ≡ self.old.shown }
@@ -148,10 +182,19 @@ impl Reports {
         std::mem::replace(&mut self.shown, false)
     }
 
-    /// Removes and returns the next event: rejections come first, then the LU, keys, the rule, the screen.
+    /// Removes and returns the cause for which the connection was closed.
+    fn next_closed(&mut self) -> Option<Cause>
+        ensures next { result ≡ self.old.closed }
+        ensures removed { self.new ≡ record self.old { closed = None } }
+    {
+        std::mem::replace(&mut self.closed, None)
+    }
+
+    /// Removes and returns the next event, in the order of [`HostEvent`].
     pub(crate) fn next_event(&mut self) -> Option<HostEvent>
         ensures next { result ≡ oldest (events_of self.old) }
         ensures removed { events_of self.new ≡ without_oldest (events_of self.old) }
+        ensures waits { self.new.waits ≡ self.old.waits }
     {
         if let Some(rejection) = self.next_rejection() {
             return Some(HostEvent::Rejected(rejection));
@@ -165,10 +208,16 @@ impl Reports {
         if let Some(broken) = self.next_rule_break() {
             return Some(HostEvent::RuleBroken(broken));
         }
+        if self.next_asked() {
+            return Some(HostEvent::Asked);
+        }
         if self.next_shown() {
             return Some(HostEvent::Shown);
         }
-        None
+        match self.next_closed() {
+            Some(cause) => Some(HostEvent::Closed(cause)),
+            None => None,
+        }
     }
 
     /// Drops all events.
@@ -179,6 +228,9 @@ impl Reports {
         self.bound = None;
         self.dropped_keys.clear();
         self.rule_break = None;
+        self.asked = false;
         self.shown = false;
+        self.closed = None;
+        self.waits = false;
     }
 }

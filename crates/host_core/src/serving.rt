@@ -58,7 +58,7 @@ fn receive<L: Links>(links: &mut L, conn: usize, buffer: &mut [u8]) -> Option<us
     }
 }
 
-/// Feeds the host the bytes, and lets it act. Answers false if memory was refused.
+/// Feeds the host the bytes, lets it act, and keeps the event that it asks. Answers false if memory was refused.
 fn respond(host: &mut Host, conn: usize, bytes: &[u8]) -> bool
     requires number { conn < most_connections }
     ensures { Responds conn host.old bytes.now result host.new }
@@ -66,11 +66,11 @@ fn respond(host: &mut Host, conn: usize, bytes: &[u8]) -> bool
     if let Stop::Memory = host.feed(conn, bytes).stop {
         return false;
     }
-    match host.act(conn) {
-        Acted::Memory => false,
-        Acted::Sent => true,
-        Acted::Nothing => true,
+    if let Acted::Memory = host.act(conn) {
+        return false;
     }
+    host.keep_asked(conn);
+    true
 }
 
 /// Serves a connection, whose number must be below 64, for a turn: reads it once, into a buffer of [`READ_ROOM`] bytes,

@@ -257,6 +257,8 @@ impl Hosts {
         ensures next { result ≡ oldest (events_of (reports_at conn (host_at conn self.old))) }
         ensures removed { events_of (reports_at conn (host_at conn self.new))
             ≡ without_oldest (events_of (reports_at conn (host_at conn self.old))) }
+        ensures waits { (reports_at conn (host_at conn self.new)).waits
+            ≡ (reports_at conn (host_at conn self.old)).waits }
         ensures host { host_at conn self.new
             ≡ with_reports conn (reports_at conn (host_at conn self.new)) (host_at conn self.old) }
         ensures others { self.new ≡ with_host conn (host_at conn self.new) self.old }

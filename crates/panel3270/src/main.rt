@@ -1,10 +1,14 @@
 //! The program panel3270: TN3270E hosts, terminals and 3270 screens on the command line. It hands the arguments, the
 //! standard streams and files to other crates: `cli` parses the arguments and has the help; `scripts`, `service`,
-//! `tell`, `selfrun` and `operate` run the jobs.
+//! `operate` and `web` run the jobs, but for `selfrun`, which takes turns of a server and of terminals.
 #![tactic(auto)]
+
+mod selfrun;
+mod socket_terminal;
 
 ghost use Rattle.std.specs.Iterator.{IsFinite};
 
+use crate::selfrun::run_selfrun;
 use cli::{VERSION, WordFault, refuse_words, run_help, run_version, words};
 use job_streams::{
     CountedReader, CountedWriter, Fault, Sink, UntilClosed, refuse_file, report_and_exit_code,
@@ -12,14 +16,12 @@ use job_streams::{
 use jobs::{ApplicationChoice, ControlChoice, Job, Operand, OperateOptions, Service};
 use operate::run_operate;
 use scripts::{run_check, run_script, run_show, run_term};
-use selfrun::run_selfrun;
-use service::{run_host, run_serve};
+use service::{run_host, run_serve, run_tell};
 use std::env;
 use std::fs::File;
 use std::io::{self, ErrorKind, IsTerminal, Stdout};
 use std::process::ExitCode;
 use std::sync::Wait;
-use tell::run_tell;
 use web::run_web;
 
 /// The name of the standard input in reports.

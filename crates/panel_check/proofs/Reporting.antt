@@ -20,9 +20,9 @@ use Rattle.panels.specs.Turns.{IsClearTo, turn_of}
 use Rattle.panels.specs.declared.fault.LocatedFault.{LocatedFault}
 use Rattle.panels.specs.declared.fault.Location.{Location}
 use Rattle.panels.specs.declared.fault.TreeFault.{TreeFault}
-use Rattle.panel_check.specs.declared.finding.Cause.{Cause}
-use Rattle.panel_check.specs.declared.finding.Cause.TheVariants as cause
-use Rattle.panel_check.specs.declared.finding.Finding.{Finding}
+use Rattle.panel_check.specs.declared.report.Cause.{Cause}
+use Rattle.panel_check.specs.declared.report.Cause.TheVariants as cause
+use Rattle.panel_check.specs.declared.report.Finding.{Finding}
 use Rattle.panel_check.specs.Causes.{IsFaultIn, IsFaultOf, IsOfText, IsStated, IsStatedFaultIn, IsStatedFaultOf, in_table}
 use Rattle.panel_check.specs.Listed.{AddsOf, AreCausesOf, AreReported, cause_of, causes_of, warnings}
 use Rattle.panel_check.specs.Report.{HasCause, HasFirstCause, IsFaultlessIfAccepted, IsReportOn, ReportsFaults, fault_count, is_fault}

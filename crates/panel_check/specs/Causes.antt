@@ -8,8 +8,8 @@ use Rattle.lu_pool.specs.declared.fault.PoolFault.TheVariants.{BadCount}
 use Rattle.panels.specs.Draft.{DraftText, draft_of}
 use Rattle.panels.specs.Faults.{IsFaulty, table_of}
 use Rattle.panels.specs.Stated.{IsStated as IsValueStated}
-use Rattle.panel_check.specs.declared.finding.Cause.{Cause}
-use Rattle.panel_check.specs.declared.finding.Cause.TheVariants as cause
+use Rattle.panel_check.specs.declared.report.Cause.{Cause}
+use Rattle.panel_check.specs.declared.report.Cause.TheVariants as cause
 
 -- ---- the faults of a draft, in which each copy of an item is a part
 

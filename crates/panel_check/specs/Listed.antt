@@ -6,9 +6,9 @@ use Rattle.lu_pool.specs.declared.fault.PoolFault.{PoolFault}
 use Rattle.panels.specs.Draft.{DraftText}
 use Rattle.panels.specs.Listing.{AreFaultsOf}
 use Rattle.panels.specs.declared.fault.LocatedFault.{LocatedFault}
-use Rattle.panel_check.specs.declared.finding.Cause.{Cause}
-use Rattle.panel_check.specs.declared.finding.Cause.TheVariants as cause
-use Rattle.panel_check.specs.declared.finding.Finding.{Finding}
+use Rattle.panel_check.specs.declared.report.Cause.{Cause}
+use Rattle.panel_check.specs.declared.report.Cause.TheVariants as cause
+use Rattle.panel_check.specs.declared.report.Finding.{Finding}
 use Rattle.panel_check.specs.Causes.{IsStated, in_table}
 use Rattle.panel_check.specs.Report.{HasCause, is_fault}
 

@@ -1,8 +1,8 @@
 -- The report on a panel text (our profile).
 use Rattle.std.specs.Prelude.{◌≡◌, ◌↔◌, ℕ, List, Bool, true, false, length, filter, All, Contains}
-use Rattle.panel_check.specs.declared.finding.Cause.{Cause}
-use Rattle.panel_check.specs.declared.finding.Cause.TheVariants as cause
-use Rattle.panel_check.specs.declared.finding.Finding.{Finding}
+use Rattle.panel_check.specs.declared.report.Cause.{Cause}
+use Rattle.panel_check.specs.declared.report.Cause.TheVariants as cause
+use Rattle.panel_check.specs.declared.report.Finding.{Finding}
 use Rattle.panel_check.specs.Causes.{IsFaultOf, IsStatedFaultOf}
 use Rattle.panel_check.specs.Verdict.{IsAccepted, IsFirstCause}
 

@@ -8,8 +8,8 @@ use Rattle.panels.specs.Draft.{DraftText, draft_of}
 use Rattle.panels.specs.Faults.{IsFaulty}
 use Rattle.panels.specs.Passes.{IsFaultless}
 use Rattle.panels.specs.Turns.{IsClearTo, turn_of}
-use Rattle.panel_check.specs.declared.finding.Cause.{Cause}
-use Rattle.panel_check.specs.declared.finding.Cause.TheVariants as cause
+use Rattle.panel_check.specs.declared.report.Cause.{Cause}
+use Rattle.panel_check.specs.declared.report.Cause.TheVariants as cause
 use Rattle.panel_check.specs.Causes.{IsOfText}
 
 -- the panel reader accepts the text, since its tables have no fault, and the LU pool its LUs

@@ -1,5 +1,5 @@
 //! Where texts and fields are on the screens of their panels.
-use crate::finding::Cause;
+use crate::report::Cause;
 use crate::wording::Place;
 use crate::words::{Done, Words, say};
 use panels::{Extent, ItemDraft, Location};
@@ -8,10 +8,9 @@ use std::alloc::AllocError;
 impl<'s, 'a> Words<'s, 'a> {
     /// The cells of a text or a field, if it lies above the last row of its panel's screen.
     fn extent(&self, part: Location) -> Option<Extent> {
-        if !self.draft.is_placed(part) {
-            return None;
-        }
-        self.draft.extent(self.draft.size(part), part)
+        let is_placed = self.draft.is_placed(part);
+        let extent = self.draft.extent(self.draft.size(part), part);
+        extent.filter(|_| is_placed)
     }
 
     /// Says why a text or a field is out of place.
@@ -44,14 +43,11 @@ impl<'s, 'a> Words<'s, 'a> {
 
     /// The texts of a panel, then its fields, and then its values.
     fn items(&self, panel: usize) -> Result<Vec<Location>, AllocError> {
-        let counts = self
-            .draft
-            .panel(panel)
-            .map(|panel| (panel.texts.len(), panel.fields.len()));
-        let (texts, fields) = counts.unwrap_or((0, 0));
+        let draft = self.draft.panel(panel);
+        let (texts, fields) = draft.map_or((0, 0), |it| (it.texts.len(), it.fields.len()));
         let texts = (0..texts).map(|text| Location::Text(panel, text));
         let fields = (0..fields).map(|field| Location::Field(panel, field));
-        texts.chain(fields).collect(self.alloc)
+        texts.chain(fields).collect(self.lines.alloc)
     }
 
     /// Says with which earlier item of its panel a text or a field shares a cell, and that item's line.
@@ -101,6 +97,6 @@ impl<'s, 'a> Words<'s, 'a> {
 
 /// Whether a terminal accepts all these characters in a numeric field.
 fn is_numeric(fill: &str) -> bool {
-    fill.bytes()
-        .all(|letter| matches!(letter, b'0'..=b'9' | b'.' | b'-'))
+    let mut letters = fill.bytes();
+    letters.all(|letter| matches!(letter, b'0'..=b'9' | b'.' | b'-'))
 }

@@ -12,12 +12,10 @@
 //! let page = report.page(alloc, "panels.toml")?;
 //! ```
 //!
-//! `panels::Draft` lists the faults of a text's tables, `lu_pool::faults` those of its LUs; this crate finds words for
-//! them, and their lines in the text. `specs/Report` says what a report promises: it has each of these faults, and no
-//! other. That lines, words and warnings are right is only tested.
+//! `panels::Draft` lists the faults of a text's tables, `lu_pool::faults` those of its LUs; this crate finds their words
+//! and lines. `specs/Report`: a report has each of these faults, and no other. Lines, words and warnings are only tested.
 #![tactic(auto)]
 
-mod finding;
 mod layout;
 mod lines;
 mod report;
@@ -26,5 +24,4 @@ mod telling;
 mod wording;
 mod words;
 
-pub use finding::{Cause, Finding};
-pub use report::{Report, Sizes, check};
+pub use report::{Cause, Finding, Report, Sizes, check};

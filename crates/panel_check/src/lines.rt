@@ -38,10 +38,11 @@ fn path_of(alloc: Global, part: Location) -> Result<String, AllocError> {
 impl Lines {
     /// The lines of a text, up to the first place at which it isn't TOML.
     pub(crate) fn of_text(alloc: Global, text: &str) -> Result<Lines, AllocError> {
+        let (noted, counts) = (BTreeMap::new(alloc), BTreeMap::new(alloc));
         let mut lines = Lines {
             alloc,
-            noted: BTreeMap::new(alloc),
-            counts: BTreeMap::new(alloc),
+            noted,
+            counts,
             open: Vec::new(alloc),
             line: 1,
         };
@@ -61,25 +62,21 @@ impl Lines {
 
     fn walk(&mut self, text: &str) -> Result<(), ParseError> {
         self.open.push((String::new(self.alloc), false))?;
-        let mut rest = text.strip_prefix('\u{feff}').unwrap_or(text);
+        let (mut passed, mut rest) = (text, text.strip_prefix('\u{feff}').unwrap_or(text));
         for _ in 0..=text.len() {
             let start = skip_blank(rest, true);
             if start.is_empty() {
                 break;
             }
-            self.pass(rest, start);
+            let letters = passed
+                .bytes()
+                .take(passed.len().saturating_sub(start.len()));
+            let ends = letters.filter(|letter| *letter == b'\n').count();
+            self.line = self.line.saturating_add(ends);
+            passed = start;
             rest = self.step(start)?;
-            self.pass(start, rest);
         }
         Ok(())
-    }
-
-    /// Counts the line ends between two places of the text.
-    fn pass(&mut self, from: &str, to: &str) {
-        let count = from.len().saturating_sub(to.len());
-        let passed = from.as_bytes().get(..count).unwrap_or(&[]);
-        let ends = passed.iter().filter(|byte| **byte == b'\n').count();
-        self.line = self.line.saturating_add(ends);
     }
 
     /// Walks over a header, a comma, the end of an array or a table, the beginning of one, or any other value.
@@ -109,27 +106,20 @@ impl Lines {
         self.value(path, skip_ws(after.strip_prefix('=').unwrap_or(after)))
     }
 
-    /// Notes the line of a path, unless it has one, and returns the path.
-    fn note(&mut self, path: String) -> Result<String, AllocError> {
-        if !self.noted.contains_key(path.as_str()) {
-            let line = self.line;
-            self.noted.insert(path.clone()?, line)?;
-        }
-        Ok(path)
-    }
-
     /// Notes the line of each part of a key, and returns the key's path. An array on the way means its last table.
     fn along(&mut self, table: String, key: &Key) -> Result<String, AllocError> {
         let mut path = table;
         for part in &key.path {
-            path = self.note(format!(in self.alloc; "{path}.{part}")?)?;
+            path = format!(in self.alloc; "{path}.{part}")?;
+            self.noted.entry(path.clone()?)?.or_insert(self.line);
             let tables = format!(in self.alloc; "{path}#")?;
             if let Some(count) = self.counts.get(tables.as_str()) {
                 path = format!(in self.alloc; "{tables}{}", count.saturating_sub(1))?;
             }
         }
-        let last = &key.last;
-        self.note(format!(in self.alloc; "{path}.{last}")?)
+        let path = format!(in self.alloc; "{path}.{}", key.last)?;
+        self.noted.entry(path.clone()?)?.or_insert(self.line);
+        Ok(path)
     }
 
     /// Notes the line of the next value of an array, and returns the value's path.
@@ -140,10 +130,11 @@ impl Lines {
             _ => '?',
         };
         let kind = format!(in self.alloc; "{array}{mark}")?;
-        let count = self.counts.get(kind.as_str()).copied().unwrap_or(0);
+        let count = self.counts.entry(kind.clone()?)?.or_insert(0);
         let path = format!(in self.alloc; "{kind}{count}")?;
-        self.counts.insert(kind, count.saturating_add(1))?;
-        self.note(path)
+        *count = count.saturating_add(1);
+        self.noted.entry(path.clone()?)?.or_insert(self.line);
+        Ok(path)
     }
 
     /// Walks over a header, from after its first bracket on.

@@ -1,16 +1,67 @@
-//! The report on a panel text.
-ghost use Rattle.std.specs.Prelude.{◌≡◌, ◌++◌, IfOk, OnOk, string_bytes};
-ghost use Rattle.panel_check.specs.Pages.{count_text, findings_text, outcome_text, page_text, plural, sizes_text, summary_text, warnings_text};
-ghost use Rattle.panel_check.specs.Report.{HasFirstCause, IsFaultlessIfAccepted, ReportsFaults, fault_count};
+//! The report on a panel text, and its findings: faults and warnings.
+ghost use Rattle.std.specs.Prelude.{◌≡◌, IfOk};
+ghost use Rattle.panel_check.specs.Report.{HasFirstCause, IsFaultlessIfAccepted, ReportsFaults, fault_count, is_fault};
 ghost use Rattle.panels.specs.PanelText.{panel_text};
 
-use crate::finding::Finding;
 use crate::telling::report_on;
-use panels::{Draft, split_input};
+use lu_pool::PoolFault;
+use panels::{Draft, Location, TreeFault, split_input};
 use std::alloc::{AllocError, Global};
+use std::fmt;
+
+/// The kind of a finding. `TextWraps`, `FillNotNumeric` and `NoKeyLeads` are warnings, all others are faults.
+#[derive(Clone, Copy, Debug, PartialEq, Eq)]
+pub enum Cause {
+    /// The text isn't TOML.
+    NotToml,
+    /// A table has a fault. One fault may have several findings: one of keys has one for each key that is wrong.
+    Tree(TreeFault, Location),
+    /// The list of the LUs has a fault.
+    Lus(PoolFault),
+    /// A text is longer than the rest of its row, and goes on in the next row.
+    TextWraps,
+    /// A numeric field has a fill with characters that a terminal doesn't accept in it.
+    FillNotNumeric,
+    /// No keys lead from the first panel to this one, or to a panel that is shown as this one in some sessions.
+    NoKeyLeads,
+}
+
+impl Cause {
+    /// Whether it is a fault, for which the panel reader or the LU pool refuses the text, and no warning.
+    pub fn is_fault(&self) -> bool
+        ensures { result ≡ is_fault self.now }
+    {
+        match self {
+            Cause::NotToml | Cause::Tree(_, _) | Cause::Lus(_) => true,
+            Cause::TextWraps | Cause::FillNotNumeric | Cause::NoKeyLeads => false,
+        }
+    }
+}
+
+/// A fault of a panel text, or a warning. Prints as `33: panel MENU, field option: unknown key 'requird'`.
+#[derive(Debug, Drop)]
+pub struct Finding {
+    /// What it is that was found.
+    pub cause: Cause,
+    /// The line of the text, from 1 on.
+    pub line: usize,
+    /// The names of the table, as `panel MENU, field option`, unless it is the text's own; and what is wrong, in words.
+    pub words: String,
+}
+
+impl fmt::Display for Finding {
+    fn fmt<W: fmt::Write>(&self, f: &mut fmt::Formatter<W>) -> fmt::Result {
+        let kind = if self.cause.is_fault() {
+            ""
+        } else {
+            "warning: "
+        };
+        write!(f, "{}: {kind}{}", self.line, self.words)
+    }
+}
 
 /// The numbers of panels, of fields of all panels, with all copies, and of LUs in a text.
-#[derive(Clone, Copy, Debug, PartialEq, Eq)]
+#[derive(Clone, Copy, Debug)]
 pub struct Sizes {
     pub panels: usize,
     pub fields: usize,
@@ -32,18 +83,8 @@ pub(crate) fn sizes_of(draft: &Draft) -> Sizes {
 pub struct Report {
     /// The faults and warnings.
     pub findings: Vec<Finding>,
-    /// How many panels, fields and LUs the text has; `None` if it has a fault.
+    /// How many panels, fields and LUs the text has; `None` if it isn't TOML.
     pub sizes: Option<Sizes>,
-}
-
-/// The number of findings that are faults.
-pub(crate) fn count_faults(findings: &[Finding]) -> usize
-    ensures { result ≡ fault_count findings.now }
-{
-    findings
-        .iter()
-        .filter(|finding| finding.cause.is_fault())
-        .count()
 }
 
 /// The report on the panel text of an input. It has each fault that `panels` and `lu_pool` find in the text, once for
@@ -62,61 +103,15 @@ pub fn check(alloc: Global, text: &str) -> Result<Report, AllocError>
     Ok(report)
 }
 
-fn plural(count: usize) -> &'static str
-    ensures { result.now ≡ plural count }
-{
-    if count == 1 { "" } else { "s" }
-}
+/// A number and a noun, which is in the plural unless the number is 1.
+#[derive(Clone, Copy)]
+struct Count(usize, &'static str);
 
-/// Adds a number and a noun, in the plural unless the number is 1.
-fn put_count(page: &mut String, count: usize, thing: &str) -> Result<(), AllocError>
-    ensures { OnOk result (string_bytes page.new ≡ string_bytes page.old ++ count_text count thing.now) }
-{
-    let ending = plural(count);
-    write!(page, "{count} {thing}{ending}")
-}
-
-/// Adds the numbers of panels, fields and LUs.
-fn put_sizes(page: &mut String, sizes: Sizes) -> Result<(), AllocError>
-    ensures { OnOk result (string_bytes page.new ≡ string_bytes page.old ++ sizes_text sizes) }
-{
-    page.push_str("ok: ")?;
-    put_count(page, sizes.panels, "panel")?;
-    page.push_str(", ")?;
-    put_count(page, sizes.fields, "field")?;
-    page.push_str(", ")?;
-    put_count(page, sizes.lus, "LU")
-}
-
-/// Adds the sizes of a text without fault, or the number of faults.
-fn put_outcome(page: &mut String, sizes: Option<Sizes>, faults: usize) -> Result<(), AllocError>
-    ensures { OnOk result (string_bytes page.new ≡ string_bytes page.old ++ outcome_text sizes faults) }
-{
-    match sizes {
-        Some(sizes) => put_sizes(page, sizes),
-        None => put_count(page, faults, "fault"),
+impl fmt::Display for Count {
+    fn fmt<W: fmt::Write>(&self, f: &mut fmt::Formatter<W>) -> fmt::Result {
+        let ending = if self.0 == 1 { "" } else { "s" };
+        write!(f, "{} {}{ending}", self.0, self.1)
     }
-}
-
-/// Adds the number of warnings, if there are any.
-fn put_warnings(page: &mut String, count: usize) -> Result<(), AllocError>
-    ensures { OnOk result (string_bytes page.new ≡ string_bytes page.old ++ warnings_text count) }
-{
-    if count == 0 {
-        return Ok(());
-    }
-    page.push_str(", ")?;
-    put_count(page, count, "warning")
-}
-
-/// Adds a line for each finding, which begins with the name of the file.
-fn put_findings(page: &mut String, name: &str, findings: &[Finding]) -> Result<(), AllocError>
-    ensures { OnOk result (string_bytes page.new ≡ string_bytes page.old ++ findings_text name.now findings.now) }
-{
-    for finding in findings {
-        writeln!(page, "{name}:{finding}")?;
-    }
-    Ok(())
 }
 
 impl Report {
@@ -124,28 +119,30 @@ impl Report {
     pub fn faults(&self) -> usize
         ensures { result ≡ fault_count self.now.findings.items }
     {
-        count_faults(&self.findings)
-    }
-
-    /// Adds the last line: the sizes or the number of faults, and the number of warnings.
-    fn put_summary(&self, page: &mut String) -> Result<(), AllocError>
-        ensures { OnOk result (string_bytes page.new ≡ string_bytes page.old ++ summary_text self.now) }
-    {
-        let faults = self.faults();
-        put_outcome(page, self.sizes, faults)?;
-        put_warnings(page, self.findings.len().saturating_sub(faults))?;
-        page.push('\n')
+        let faults = self.findings.iter().filter(|it| it.cause.is_fault());
+        faults.count()
     }
 
     /// The report as text: a line for each finding, which begins with the file's `name`, and a line with the totals.
     ///
     /// Err only if memory is refused.
-    pub fn page(&self, alloc: Global, name: &str) -> Result<String, AllocError>
-        ensures { IfOk result (λ page. string_bytes page ≡ page_text name.now self.now) }
-    {
+    pub fn page(&self, alloc: Global, name: &str) -> Result<String, AllocError> {
         let mut page = String::new(alloc);
-        put_findings(&mut page, name, &self.findings)?;
-        self.put_summary(&mut page)?;
+        for finding in &self.findings {
+            writeln!(page, "{name}:{finding}")?;
+        }
+        let faults = self.faults();
+        match self.sizes {
+            Some(sizes) if faults == 0 => {
+                let (panels, fields) = (Count(sizes.panels, "panel"), Count(sizes.fields, "field"));
+                write!(page, "ok: {panels}, {fields}, {}", Count(sizes.lus, "LU"))?;
+            }
+            _ => write!(page, "{}", Count(faults, "fault"))?,
+        }
+        match self.findings.len().saturating_sub(faults) {
+            0 => page.push('\n')?,
+            warnings => writeln!(page, ", {}", Count(warnings, "warning"))?,
+        }
         Ok(page)
     }
 }

@@ -1,5 +1,5 @@
 //! Names that must be those of a panel or a field, and panels that no keys lead to.
-use crate::wording::{Cut, Guess, text_at};
+use crate::wording::{Cut, text_at};
 use crate::words::{Done, Words, say};
 use panels::Location;
 use std::alloc::AllocError;
@@ -7,29 +7,33 @@ use std::alloc::AllocError;
 impl<'s, 'a> Words<'s, 'a> {
     /// Says which names in the part's table are of no panel or field although they must be.
     pub(crate) fn no_target(&mut self) -> Done {
-        let draft = self.draft;
-        match (self.part, self.panel()) {
+        let (draft, part) = (self.draft, self.part);
+        // The panel of a session of another model must be of model 2.
+        let is_base = matches!(part, Location::Panel(_));
+        let names = draft
+            .panels
+            .iter()
+            .filter(|panel| panel.model == 2 || !is_base);
+        let names: Vec<&str> = names.map(|panel| panel.name).collect(self.lines.alloc)?;
+        match (part, self.panel()) {
+            (Location::Text(_, _), _) => self.lost_shown(),
             (Location::Panel(_), Some(panel)) => {
                 let fields = panel.fields.iter().filter(|item| !item.is_value);
                 let fields = fields.map(|field| field.name.as_str());
-                let fields: Vec<&str> = fields.collect(self.alloc)?;
+                let fields: Vec<&str> = fields.collect(self.lines.alloc)?;
                 self.lost("cursor", "field of this panel", &fields)?;
                 if panel.model == 2 {
                     return Ok(());
                 }
-                let base = draft.panels.iter().filter(|panel| panel.model == 2);
-                let base: Vec<&str> = base.map(|panel| panel.name).collect(self.alloc)?;
-                self.lost("otherwise", "panel", &base)
+                self.lost("otherwise", "panel", &names)
             }
-            (Location::Text(_, _), _) => self.lost_shown(),
             (_, Some(panel)) => {
-                let known = self.panel_names()?;
                 for key in &panel.keys {
-                    self.lost(key.0, "panel", &known)?;
+                    self.lost(key.0, "panel", &names)?;
                 }
                 Ok(())
             }
-            (_, None) => self.lost("start", "panel", &self.panel_names()?),
+            (_, None) => self.lost("start", "panel", &names),
         }
     }
 
@@ -39,58 +43,48 @@ impl<'s, 'a> Words<'s, 'a> {
         let Some(item) = draft.item(self.part) else {
             return Ok(());
         };
+        let (name, is_copy) = (Cut(item.show.as_str()), item.copy.is_some());
         let items = draft.panels.iter().flat_map(|panel| panel.fields.iter());
         let fields = items.filter(|item| !item.is_value);
-        let known: Vec<&str> = match item.copy {
-            Some(_) => fields.map(|field| field.stem).collect(self.alloc)?,
-            None => fields.map(|field| field.name.as_str()).collect(self.alloc)?,
-        };
-        let guess = Guess::of(self.alloc, self.text("show"), &known)?;
-        say!(self, "show"; "'show' names no field: '{}'{guess}", Cut(item.show.as_str()))
-    }
-
-    fn panel_names(&self) -> Result<Vec<&'a str>, AllocError> {
-        let draft = self.draft;
-        draft
-            .panels
-            .iter()
-            .map(|panel| panel.name)
-            .collect(self.alloc)
+        let known = fields.map(|it| if is_copy { it.stem } else { it.name.as_str() });
+        let known: Vec<&str> = known.collect(self.lines.alloc)?;
+        let message = format_args!("'show' names no field: '{name}'");
+        self.say_near("show", self.text("show"), &known, message)
     }
 
     /// Says that the name at a key is none of these, which are of panels or fields, if that is so.
     fn lost(&mut self, key: &str, kind: &str, known: &[&str]) -> Done {
-        let Some(text) = text_at(self.draft, self.part, key) else {
+        let text = text_at(self.draft, self.part, key);
+        let Some(text) = text.filter(|text| !(&*known).contains(text)) else {
             return Ok(());
         };
-        if (&*known).contains(&text) {
-            return Ok(());
-        }
         let name = Cut(text);
         if key == "otherwise" && self.draft.panel_named(text).is_some() {
             return say!(self, key;
                 "'otherwise' must name a panel of model 2, and '{name}' is of another model");
         }
-        let guess = Guess::of(self.alloc, text, known)?;
-        say!(self, key; "'{key}' names no {kind}: '{name}'{guess}")
+        let message = format_args!("'{key}' names no {kind}: '{name}'");
+        self.say_near(key, text, known, message)
     }
 
     /// The panels that keys lead to from the first one, and those that are shown instead of them in some sessions, each
     /// once; none if there is no first panel.
     fn reached(&self) -> Result<Vec<usize>, AllocError> {
         let draft = self.draft;
-        let mut found = Vec::new(self.alloc);
+        let mut found = Vec::new(self.lines.alloc);
         let start = text_at(draft, Location::Top, "start");
-        reach(&mut found, start.and_then(|name| draft.panel_named(name)))?;
+        found.extend(start.and_then(|name| draft.panel_named(name)))?;
         for place in 0..draft.panels.len() {
             let Some(panel) = found.get(place).and_then(|panel| draft.panel(*panel)) else {
                 break;
             };
             let other = panel.table.get("otherwise").filter(|_| panel.model != 2);
             let other = other.and_then(|name| draft.base_panel_named(name.as_str()?));
-            reach(&mut found, other)?;
-            for key in &panel.keys {
-                reach(&mut found, draft.panel_named(key.1))?;
+            let next = panel.keys.iter().filter_map(|key| draft.panel_named(key.1));
+            for panel in other.into_iter().chain(next) {
+                if !found.contains(&panel) {
+                    found.push(panel)?;
+                }
             }
         }
         Ok(found)
@@ -111,14 +105,4 @@ impl<'s, 'a> Words<'s, 'a> {
         }
         Ok(())
     }
-}
-
-/// Adds a panel, unless it is there.
-fn reach(found: &mut Vec<usize>, panel: Option<usize>) -> Done {
-    if let Some(panel) = panel
-        && !found.contains(&panel)
-    {
-        found.push(panel)?;
-    }
-    Ok(())
 }

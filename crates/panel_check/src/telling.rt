@@ -6,15 +6,21 @@ ghost use Rattle.panel_check.specs.Causes.{IsStated, in_table};
 ghost use Rattle.panel_check.specs.Listed.{AddsOf, AreCausesOf, AreReported, causes_of};
 ghost use Rattle.panel_check.specs.Report.{HasCause, IsReportOn, is_fault};
 
-use crate::finding::{Cause, Finding};
 use crate::lines::Lines;
-use crate::report::{Report, count_faults, sizes_of};
-use crate::words::{PanelText, findings_on};
+use crate::report::{Cause, Finding, Report, sizes_of};
+use crate::words::{Done, Said, words_on};
 use lu_pool::PoolFault;
 use panels::{Draft, LocatedFault, Location, TreeFault};
 use std::alloc::{AllocError, Global};
 use toml::Table;
 use toml::de::Error;
+
+/// What the tables of a panel text say, and their lines.
+#[derive(Drop)]
+struct PanelText<'a> {
+    draft: Draft<'a>,
+    lines: Lines,
+}
 
 /// The causes for these faults of tables and of LUs, and those of warnings.
 fn all_causes(
@@ -105,25 +111,14 @@ fn is_reported(findings: &[Finding], cause: Cause) -> bool
     false
 }
 
-/// A finding as it is, with a cause.
-fn finding(cause: Cause, found: &Finding) -> Result<Finding, AllocError>
-    ensures { IfOk result (λ finding. finding.cause ≡ cause) }
-{
-    Ok(Finding {
-        cause,
-        line: found.line,
-        place: found.place.clone()?,
-        message: found.message.clone()?,
-    })
-}
-
-/// Adds these findings, with a cause.
-fn add_all(findings: &mut Vec<Finding>, cause: Cause, found: &[Finding]) -> Result<(), AllocError>
+/// Adds findings for a cause, each with its line and its words.
+fn add_all(findings: &mut Vec<Finding>, cause: Cause, found: &[Said]) -> Done
     ensures added { OnOk result (AddsOf cause findings.old.items findings.new.items) }
     ensures told { OnOk result (1 ≤ length found.now → HasCause cause findings.new.items) }
 {
-    for one in found {
-        findings.push(finding(cause, one)?)?;
+    for said in found {
+        let (line, words) = (said.0, said.1.clone()?);
+        findings.push(Finding { cause, line, words })?;
     }
     Ok(())
 }
@@ -143,7 +138,7 @@ fn tell(findings: &mut Vec<Finding>, text: &PanelText, cause: Cause) -> Result<(
     if !findings.is_empty() && !is_stated(&text.draft, cause) {
         return Ok(());
     }
-    let found = findings_on(text, cause)?;
+    let found = words_on(&text.draft, &text.lines, cause)?;
     add_all(findings, reported, &found)?;
     Ok(())
 }
@@ -169,7 +164,7 @@ fn report_on_tree(alloc: Global, text: &str, top: &Table) -> Result<Report, Allo
     let causes = causes_in(alloc, &text.draft)?;
     let mut findings = findings_for(&text, &causes)?;
     findings.sort_by_key(|finding| finding.line)?;
-    let sizes = (count_faults(&findings) == 0).then_some(sizes_of(&text.draft));
+    let sizes = Some(sizes_of(&text.draft));
     Ok(Report { findings, sizes })
 }
 
@@ -178,19 +173,13 @@ fn report_no_toml(alloc: Global, text: &str, error: &Error) -> Result<Report, Al
     ensures { parse_document text.now ≡ None → IfOk result (λ report. IsReportOn text.now report.findings.items) }
 {
     let start = error.span().map_or(0, |span| span.start);
-    let before = text.as_bytes().get(..start).unwrap_or(&[]);
-    let ends = before.iter().filter(|byte| **byte == b'\n').count();
+    let ends = text.bytes().take(start).filter(|byte| *byte == b'\n');
+    let line = ends.count().saturating_add(1);
+    let words = String::from_str(alloc, error.message())?;
+    let (cause, sizes) = (Cause::NotToml, None);
     let mut findings = Vec::new(alloc);
-    findings.push(Finding {
-        cause: Cause::NotToml,
-        line: ends.saturating_add(1),
-        place: String::new(alloc),
-        message: String::from_str(alloc, error.message())?,
-    })?;
-    Ok(Report {
-        findings,
-        sizes: None,
-    })
+    findings.push(Finding { cause, line, words })?;
+    Ok(Report { findings, sizes })
 }
 
 /// The report on a panel text.

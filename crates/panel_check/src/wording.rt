@@ -1,15 +1,10 @@
-//! How messages print names, and the known name that was probably meant.
+//! How messages print names.
 use panels::{Draft, Location};
-use std::alloc::{AllocError, Global};
 use std::fmt;
-use strsim::osa_distance;
 use toml::Table;
 
 /// The most characters of a text that a message prints, and the most bytes of a word that is compared with others.
-const MOST_PRINTED: usize = 40;
-
-/// The most known words with which an unknown one is compared.
-const MOST_COMPARED: usize = 500;
+pub(crate) const MOST_PRINTED: usize = 40;
 
 /// Prints a text on one line: each control character as `?`, and only the first 40 characters, with `..` after them.
 #[derive(Clone, Copy)]
@@ -27,48 +22,13 @@ impl fmt::Display for Cut<'_> {
     }
 }
 
-/// The known word that was probably meant. Prints as ` (did you mean 'WORD'?)`, or as nothing if there is none.
-#[derive(Clone, Copy)]
-pub(crate) struct Guess<'a>(Option<&'a str>);
-
-impl<'a> Guess<'a> {
-    /// The word that is most similar to an unknown one, among the first 500 known ones of at most 40 bytes.
-    pub(crate) fn of(alloc: Global, word: &str, all: &[&'a str]) -> Result<Guess<'a>, AllocError> {
-        // One edit in three letters. A word of more than 40 bytes is similar to none.
-        let (mut guess, mut most) = (None, word.len() / 3 + 1);
-        if MOST_PRINTED < word.len() || (&*all).contains(&word) {
-            return Ok(Guess(guess));
-        }
-        let short = all.iter().filter(|known| known.len() <= MOST_PRINTED);
-        for known in short.take(MOST_COMPARED) {
-            let distance = osa_distance(alloc, word, *known)?;
-            if distance <= most && distance < known.len() {
-                guess = Some(*known);
-                most = distance.saturating_sub(1);
-            }
-        }
-        Ok(Guess(guess))
-    }
-}
-
-impl fmt::Display for Guess<'_> {
-    fn fmt<W: fmt::Write>(&self, f: &mut fmt::Formatter<W>) -> fmt::Result {
-        match self.0 {
-            Some(known) => write!(f, " (did you mean '{}'?)", Cut(known)),
-            None => Ok(()),
-        }
-    }
-}
-
 /// The table of a part, if there is one.
 pub(crate) fn table_at<'a>(draft: &Draft<'a>, part: Location) -> Option<&'a Table> {
     match part {
         Location::Top => Some(draft.table),
         Location::Panel(panel) => Some(draft.panel(panel)?.table),
         Location::Keys(panel) => draft.panel(panel)?.table.get("keys")?.as_table(),
-        Location::Text(_, _) | Location::Field(_, _) | Location::Value(_, _) => {
-            Some(draft.item(part)?.table)
-        }
+        _ => Some(draft.item(part)?.table),
     }
 }
 
@@ -100,12 +60,8 @@ impl fmt::Display for Place<'_, '_> {
         let (text, show) = (text_at(draft, part, "text"), text_at(draft, part, "show"));
         let name = text_at(draft, part, "name");
         if let Some(panel) = part.panel() {
-            put_named(
-                f,
-                "panel",
-                text_at(draft, Location::Panel(panel), "name"),
-                panel,
-            )?;
+            let name = text_at(draft, Location::Panel(panel), "name");
+            put_named(f, "panel", name, panel)?;
         }
         match (draft.table(part), text) {
             (Location::Text(_, _), Some(text)) => write!(f, ", text '{}'", Cut(text)),

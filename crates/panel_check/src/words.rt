@@ -2,39 +2,33 @@
 ghost use Rattle.std.specs.Prelude.{◌≡◌, ◌≤◌, true, length, IfOk, OnOk};
 ghost use Rattle.panel_check.specs.Report.{is_fault};
 
-use crate::finding::{Cause, Finding};
 use crate::lines::Lines;
-use crate::wording::{Cut, Guess, Place, table_at, text_at};
+use crate::report::Cause;
+use crate::wording::{Cut, MOST_PRINTED, Place, table_at, text_at};
 use codes3270::from_latin1;
 use lu_pool::PoolFault;
 use panels::TreeFault::*;
 use panels::rules::{KeyKind, KeyRule, knows_key, table_rules};
-use panels::{
-    Draft, Location, MOST_FIELDS, MOST_PANELS, MOST_TEXTS, PanelDraft, TreeFault, key_names,
-};
-use std::alloc::{AllocError, Global};
+use panels::{Draft, Location, MOST_FIELDS, MOST_PANELS, MOST_TEXTS, PanelDraft, key_names};
+use std::alloc::AllocError;
 use std::fmt;
+use strsim::osa_distance;
 use tn3270e_msg::Lu;
 use toml::{Table, Value};
 
 pub(crate) type Done = Result<(), AllocError>;
 
-/// What the tables of a panel text say, and their lines.
-#[derive(Drop)]
-pub(crate) struct PanelText<'a> {
-    pub draft: Draft<'a>,
-    pub lines: Lines,
-}
+/// A line, and what is wrong there, in words.
+pub(crate) type Said = (usize, String);
 
-/// The findings for a fault so far, and the part of the text that further ones are on.
+/// The findings for a cause so far, each with its line, and the part of the text that further ones are on.
 #[derive(Drop)]
 pub(crate) struct Words<'s, 'a> {
-    pub alloc: Global,
     pub draft: &'s Draft<'a>,
     pub lines: &'s Lines,
     pub part: Location,
     pub cause: Cause,
-    findings: Vec<Finding>,
+    found: Vec<Said>,
 }
 
 /// Adds a finding on the part, at the line of one of its keys; at the part's own line if it hasn't this key.
@@ -46,40 +40,66 @@ macro_rules! say {
 
 pub(crate) use say;
 
-/// The findings for a fault, or those of a warning. A fault without words has its name.
-pub(crate) fn findings_on(text: &PanelText, cause: Cause) -> Result<Vec<Finding>, AllocError>
-    ensures { IfOk result (λ findings. is_fault cause ≡ true → 1 ≤ length findings.items) }
+/// The findings for a cause, each with its line. A fault without words has its name.
+pub(crate) fn words_on(draft: &Draft, lines: &Lines, cause: Cause) -> Result<Vec<Said>, AllocError>
+    ensures { IfOk result (λ found. is_fault cause ≡ true → 1 ≤ length found.items) }
 {
-    let PanelText { draft, lines } = text;
+    let part = match cause {
+        Cause::Tree(_, part) => part,
+        _ => Location::Top,
+    };
     let mut words = Words {
-        alloc: lines.alloc,
         draft,
         lines,
-        part: Location::Top,
+        part,
         cause,
-        findings: Vec::new(lines.alloc),
+        found: Vec::new(lines.alloc),
     };
     words.tell()?;
-    if words.findings.is_empty() && cause.is_fault() {
+    if words.found.is_empty() && cause.is_fault() {
         say!(words, ""; "{cause:?}")?;
     }
-    let Words { findings, .. } = words;
-    Ok(findings)
+    let Words { found, .. } = words;
+    Ok(found)
 }
 
 impl<'s, 'a> Words<'s, 'a> {
     pub(crate) fn say<M: fmt::Display + Drop>(&mut self, key: &str, message: M) -> Done
-        ensures { OnOk result (1 ≤ length self.new.findings.items) }
+        ensures { OnOk result (1 ≤ length self.new.found.items) }
     {
-        let line = self.line(self.part, key)?;
-        let place = Place(self.draft, self.part);
-        self.findings.push(Finding {
-            cause: self.cause,
-            line,
-            place: format!(in self.alloc; "{place}")?,
-            message: format!(in self.alloc; "{message}")?,
-        })?;
+        let (line, place) = (self.line(self.part, key)?, Place(self.draft, self.part));
+        let behind = if self.part == Location::Top { "" } else { ": " };
+        let words = format!(in self.lines.alloc; "{place}{behind}{message}")?;
+        self.found.push((line, words))?;
         Ok(())
+    }
+
+    /// Says this of a word, and which of the known words was probably meant: the most similar one, among the first 500
+    /// of at most 40 bytes.
+    pub(crate) fn say_near<M: fmt::Display + Drop>(
+        &mut self,
+        key: &str,
+        word: &str,
+        known: &[&str],
+        message: M,
+    ) -> Done {
+        // One edit in three letters. A word of more than 40 bytes is similar to none.
+        let (mut guess, mut most) = (None, word.len() / 3 + 1);
+        let is_short = word.len() <= MOST_PRINTED && !(&*known).contains(&word);
+        let short = known
+            .iter()
+            .filter(|it| is_short && it.len() <= MOST_PRINTED);
+        for it in short.take(500) {
+            let distance = osa_distance(self.lines.alloc, word, *it)?;
+            if distance <= most && distance < it.len() {
+                guess = Some(*it);
+                most = distance.saturating_sub(1);
+            }
+        }
+        match guess {
+            Some(meant) => say!(self, key; "{message} (did you mean '{}'?)", Cut(meant)),
+            None => self.say(key, message),
+        }
     }
 
     /// The line of a key in a part's table; the table's own line if it has no such key.
@@ -98,41 +118,28 @@ impl<'s, 'a> Words<'s, 'a> {
     }
 
     fn tell(&mut self) -> Done {
+        let name = Cut(self.text("name"));
+        let model = self.panel().map_or(2, |panel| panel.model);
         match self.cause {
             Cause::NotToml => Ok(()),
-            Cause::Tree(fault, part) => {
-                self.part = part;
-                self.fault(fault)
-            }
             Cause::Lus(fault) => self.lu_fault(fault),
             Cause::TextWraps | Cause::FillNotNumeric => self.warn_of_items(),
             Cause::NoKeyLeads => self.unreached(),
-        }
-    }
-
-    fn fault(&mut self, fault: TreeFault) -> Done {
-        let name = Cut(self.text("name"));
-        let model = self.panel().map_or(2, |panel| panel.model);
-        match (fault, self.part) {
-            (UnknownKey | Missing | BadKind, Location::Keys(_)) => self.key_values(),
-            (UnknownKey | Missing | BadKind, _) => self.keys(),
-            (TooMany, _) => self.excess(),
-            (BadName, Location::Panel(_)) => say!(self, "name";
+            Cause::Tree(UnknownKey | Missing | BadKind, _) => self.keys(),
+            Cause::Tree(TooMany, _) => self.excess(),
+            Cause::Tree(BadName, Location::Panel(_)) => say!(self, "name";
                 "bad name '{name}': a name has 1 to 16 of A-Z and 0-9"),
-            (BadName, _) => say!(self, "name";
+            Cause::Tree(BadName, _) => say!(self, "name";
                 "bad name '{name}': a name has 1 to 16 of a-z, 0-9 and _"),
-            (BadKey, _) => self.bad_keys(),
-            (TwiceNamed, Location::Keys(_)) => self.asked_twice(),
-            (TwiceNamed, _) => self.named_twice(),
-            (BadModel, _) => say!(self, "model"; "'model' must be 2, 3, 4 or 5, not {model}"),
-            (OutOfPlace, _) => self.misplaced(),
-            (Overlap, _) => self.overlap(),
-            (NoCode, _) => {
-                self.no_code("text")?;
-                self.no_code("label")?;
-                self.no_code("fill")
-            }
-            (NoTarget, _) => self.no_target(),
+            Cause::Tree(BadKey, _) => self.bad_keys(),
+            Cause::Tree(TwiceNamed, Location::Keys(_)) => self.asked_twice(),
+            Cause::Tree(TwiceNamed, _) => self.named_twice(),
+            Cause::Tree(BadModel, _) =>
+                say!(self, "model"; "'model' must be 2, 3, 4 or 5, not {model}"),
+            Cause::Tree(OutOfPlace, _) => self.misplaced(),
+            Cause::Tree(Overlap, _) => self.overlap(),
+            Cause::Tree(NoCode, _) => self.no_code(),
+            Cause::Tree(NoTarget, _) => self.no_target(),
         }
     }
 
@@ -142,17 +149,18 @@ impl<'s, 'a> Words<'s, 'a> {
             return Ok(());
         };
         let rules = table_rules(self.draft.table(self.part), table);
-        for key in table.keys() {
-            if !knows_key(rules, key.as_str()) {
-                self.unknown(key.as_str(), rules)?;
-            }
+        for (key, value) in table.iter() {
+            let key = key.as_str();
+            match self.part {
+                Location::Keys(_) if value.is_str() => Ok(()),
+                Location::Keys(_) => say!(self, key;
+                    "a key must have the name of a panel, not {}", value.type_str()),
+                _ if knows_key(rules, key) => Ok(()),
+                _ => self.unknown(key, rules),
+            }?;
         }
         for rule in rules {
-            match table.get(rule.key()) {
-                Some(value) => self.misfit(rule, value, rule.is_missing_in(table))?,
-                None if rule.is_missing_in(table) => self.missing(rule.key(), table)?,
-                None => {}
-            }
+            self.breach(rule, table)?;
         }
         Ok(())
     }
@@ -165,95 +173,73 @@ impl<'s, 'a> Words<'s, 'a> {
             (Location::Panel(_), "otherwise") =>
                 say!(self, key; "key '{name}' can be used only with 'model' 3, 4 or 5"),
             _ => {
-                let known: Vec<&str> = rules.iter().map(|rule| rule.key()).collect(self.alloc)?;
-                let guess = Guess::of(self.alloc, key, &known)?;
-                say!(self, key; "unknown key '{name}'{guess}")
+                let known = rules.iter().map(|rule| rule.key());
+                let known: Vec<&str> = known.collect(self.lines.alloc)?;
+                self.say_near(key, key, &known, format_args!("unknown key '{name}'"))
             }
         }
     }
 
-    fn missing(&mut self, key: &str, table: &Table) -> Done {
-        match (self.part, key) {
-            (Location::Text(_, _), "show") =>
+    /// Says that a key that must be there is absent, or that its value has another type than the rule says, if it is so.
+    fn breach(&mut self, rule: &KeyRule, table: &Table) -> Done {
+        let (key, kind, is_missing) = (rule.key(), rule.kind(), rule.is_missing_in(table));
+        match (self.part, key, table.get(key)) {
+            (_, _, Some(Value::Array(_))) if is_missing =>
+                say!(self, key; "array '{key}' is empty"),
+            (_, _, Some(value)) if kind.fits(value) => Ok(()),
+            (_, _, Some(Value::Array(_))) => say!(self, key; "'{key}' must be {kind}"),
+            (_, _, Some(Value::Integer(number))) if kind == KeyKind::Count =>
+                say!(self, key; "'{key}' must be {kind}, not {number}"),
+            (_, _, Some(value)) =>
+                say!(self, key; "'{key}' must be {kind}, not {}", value.type_str()),
+            _ if !is_missing => Ok(()),
+            (Location::Text(_, _), "show", _) =>
                 say!(self, key; "missing key 'text', or 'show' with 'length'"),
             // The finding for `show` says this, too.
-            (Location::Text(_, _), "length") if !table.contains_key("show") => Ok(()),
-            (Location::Panel(_), "otherwise") => say!(self, key;
+            (Location::Text(_, _), "length", _) if !table.contains_key("show") => Ok(()),
+            (Location::Panel(_), "otherwise", _) => say!(self, key;
                 "missing key 'otherwise': the panel of model 2 for terminals of other models"),
             _ => say!(self, key; "missing key '{key}'"),
         }
     }
 
-    /// Says that a value is an empty array that mustn't be, or has another type than the rule says, if it is so.
-    fn misfit(&mut self, rule: &KeyRule, value: &Value, is_missing: bool) -> Done {
-        let (key, kind, found) = (rule.key(), rule.kind(), value.type_str());
-        match value {
-            Value::Array(_) if is_missing => say!(self, key; "array '{key}' is empty"),
-            _ if kind.fits(value) => Ok(()),
-            Value::Array(_) => say!(self, key; "'{key}' must be {kind}"),
-            Value::Integer(number) if kind == KeyKind::Count =>
-                say!(self, key; "'{key}' must be {kind}, not {number}"),
-            _ => say!(self, key; "'{key}' must be {kind}, not {found}"),
-        }
-    }
-
-    /// Says which values in a panel's table of keys aren't strings.
-    fn key_values(&mut self) -> Done {
-        let Some(keys) = table_at(self.draft, self.part) else {
-            return Ok(());
-        };
-        for (key, value) in keys.iter().filter(|pair| !pair.1.is_str()) {
-            let found = value.type_str();
-            say!(self, key.as_str(); "a key must have the name of a panel, not {found}")?;
-        }
-        Ok(())
-    }
-
     /// Says which arrays have more tables than they may.
     fn excess(&mut self) -> Done {
         let draft = self.draft;
-        let Some(panel) = self.panel() else {
-            return self.most("panel", draft.panels.len(), MOST_PANELS);
-        };
-        self.most("text", panel.texts.len(), MOST_TEXTS)?;
-        self.most("field", panel.fields.len(), MOST_FIELDS)
+        match self.panel() {
+            None => self.most("panel", draft.panels.len(), MOST_PANELS),
+            Some(panel) => {
+                self.most("text", panel.texts.len(), MOST_TEXTS)?;
+                self.most("field", panel.fields.len(), MOST_FIELDS)
+            }
+        }
     }
 
     /// Says that a panel has more items than it may, or the text more panels, if it is so.
     fn most(&mut self, key: &str, count: usize, most: usize) -> Done {
+        if count <= most {
+            return Ok(());
+        }
         let table = table_at(self.draft, self.part);
         let tables = table.and_then(|table| table.get(key)?.as_array());
-        if count <= most {
-            Ok(())
-        } else if tables.map_or(0, |tables| tables.len()) == count {
-            say!(self, key; "{count} tables in '{key}': at most {most} are allowed")
-        } else {
-            let all = if key == "field" {
-                "copies and values"
-            } else {
-                "copies"
-            };
-            say!(self, key; "{count} items in '{key}' with all {all}: at most {most} are allowed")
-        }
+        let (items, all) = match key {
+            _ if tables.map_or(0, |tables| tables.len()) == count => ("tables", ""),
+            "field" => ("items", " with all copies and values"),
+            _ => ("items", " with all copies"),
+        };
+        say!(self, key; "{count} {items} in '{key}'{all}: at most {most} are allowed")
     }
 
     fn named_twice(&mut self) -> Done {
         let (draft, name, part) = (self.draft, self.text("name"), self.part);
         let copy = draft.item(part).map_or(name, |item| item.name.as_str());
+        let field = |name: &str| draft.item_named(name).map(|at| Location::Field(at.0, at.1));
         let first = match part {
             Location::Panel(_) => draft.panel_named(name).map(|at| Location::Panel(at)),
-            _ => self
-                .item_named(copy)
-                .filter(|at| *at != part)
-                .or(self.item_named(name)),
+            _ => field(copy).filter(|at| *at != part).or(field(name)),
         };
         let line = self.line(first.unwrap_or(part), "name")?;
         say!(self, "name"; "name '{}' is already used in line {line}", Cut(name))
-    }
-
-    fn item_named(&self, name: &str) -> Option<Location> {
-        let at = self.draft.item_named(name)?;
-        Some(Location::Field(at.0, at.1))
     }
 
     /// Says which names in a panel's `keys` and `asks` aren't those of keys; `asks` may have `connect`, too.
@@ -263,86 +249,78 @@ impl<'s, 'a> Words<'s, 'a> {
                 self.no_key(key.as_str(), key.as_str())?;
             }
         }
-        let Some(panel) = self.at_panel() else {
-            return Ok(());
-        };
-        for name in &panel.asks {
-            if *name != "connect" {
+        if let (Some(index), Some(panel)) = (self.part.panel(), self.panel()) {
+            self.part = Location::Panel(index);
+            for name in &panel.asks {
                 self.no_key("asks", *name)?;
             }
         }
         Ok(())
     }
 
-    /// The panel that has the part. Further findings are on the panel.
-    fn at_panel(&mut self) -> Option<&'s PanelDraft<'a>> {
-        let index = self.part.panel()?;
-        self.part = Location::Panel(index);
-        self.draft.panel(index)
-    }
-
     /// Says, at the line of a key of the table, that a name isn't that of a terminal's key, if it isn't.
     fn no_key(&mut self, key: &str, name: &str) -> Done {
-        if key_names().contains(&name) {
-            return Ok(());
-        }
-        let mut known = Vec::new(self.alloc);
+        let mut known = Vec::new(self.lines.alloc);
         known.extend_from_slice(key_names())?;
         if key == "asks" {
             known.push("connect")?;
         }
-        let (name, guess) = (Cut(name), Guess::of(self.alloc, name, &known)?);
-        say!(self, key; "no key is named '{name}'{guess}")
+        if known.contains(&name) {
+            return Ok(());
+        }
+        let message = format_args!("no key is named '{}'", Cut(name));
+        self.say_near(key, name, &known, message)
     }
 
     /// Says which keys a panel's `asks` have twice, or have although its `keys` have them.
     fn asked_twice(&mut self) -> Done {
-        let keys = table_at(self.draft, self.part);
-        let Some(panel) = self.at_panel() else {
+        let (Some(index), Some(panel)) = (self.part.panel(), self.panel()) else {
             return Ok(());
         };
+        self.part = Location::Panel(index);
         for (index, name) in panel.asks.iter().enumerate() {
             let key = Cut(*name);
             if panel.asks.iter().take(index).any(|earlier| earlier == name) {
                 say!(self, "asks"; "key '{key}' is named twice")?;
             }
-            if keys.is_some_and(|keys| keys.get(*name).is_some_and(|target| target.is_str())) {
+            if panel.keys.iter().any(|pair| pair.0 == *name) {
                 say!(self, "asks"; "key '{key}' leads to a panel in 'keys', too")?;
             }
         }
         Ok(())
     }
 
-    /// Says which character of a text is the first without a code in code page 037, if one has none.
-    fn no_code(&mut self, key: &str) -> Done {
-        let mut letters = self.text(key).chars();
-        let Some(letter) = letters.find(|letter| from_latin1(*letter).is_none()) else {
-            return Ok(());
-        };
-        let number = u32::from(letter);
-        if letter < '\u{a0}' {
-            say!(self, key; "code page 037 has no character U+{number:04X}")
-        } else {
-            say!(self, key; "code page 037 has no character '{letter}', U+{number:04X}")
+    /// Says which character of a text, a label or a fill is the first without a code in code page 037.
+    fn no_code(&mut self) -> Done {
+        for key in ["text", "label", "fill"] {
+            let mut letters = self.text(key).chars();
+            match letters.find(|letter| from_latin1(*letter).is_none()) {
+                None => Ok(()),
+                Some(letter) if letter < '\u{a0}' => say!(self, key;
+                    "code page 037 has no character U+{:04X}", u32::from(letter)),
+                Some(letter) => say!(self, key;
+                    "code page 037 has no character '{letter}', U+{:04X}", u32::from(letter)),
+            }?;
         }
+        Ok(())
     }
 
     fn lu_fault(&mut self, fault: PoolFault) -> Done {
-        let (draft, lines) = (self.draft, self.lines);
+        let draft = self.draft;
         let lus = draft.lus.as_slice();
         let (PoolFault::BadName(index) | PoolFault::Twice(index)) = fault else {
             return say!(self, "lus"; "{} LUs: there must be 1 to 64", lus.len());
         };
         let text = lus.get(index).copied().unwrap_or("");
-        let (key, name) = (format!(in self.alloc; "lus'{index}")?, Cut(text));
-        let lu = Lu::read(text.as_bytes());
-        let first = lus.iter().position(|name| Lu::read(name.as_bytes()) == lu);
-        let first = format!(in self.alloc; "lus'{}", first.unwrap_or(index))?;
-        let line = lines.of_key(Location::Top, first.as_str())?;
-        match lu {
-            Some(_) => say!(self, key.as_str(); "LU '{name}' is already listed in line {line}"),
-            None => say!(self, key.as_str();
-                "bad LU name '{name}': 1 to 8 of A-Z, 0-9, @, # and $, the first no digit"),
-        }
+        let (key, name) = (format!(in self.lines.alloc; "lus'{index}")?, Cut(text));
+        let Some(lu) = Lu::read(text.as_bytes()) else {
+            return say!(self, key.as_str();
+                "bad LU name '{name}': 1 to 8 of A-Z, 0-9, @, # and $, the first no digit");
+        };
+        let mut names = lus.iter();
+        let first = names.position(|name| Lu::read(name.as_bytes()) == Some(lu));
+        let first = format!(in self.lines.alloc; "lus'{}", first.unwrap_or(index))?;
+        let line = self.line(Location::Top, first.as_str())?;
+        say!(self, key.as_str(); "LU '{name}' is already listed in line {line}")
     }
 }

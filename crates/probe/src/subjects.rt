@@ -18,8 +18,6 @@ use crate::subjects::belief::Painter;
 use crate::talk::{Answer, Done, Fault, Put, Words};
 use codes3270::Model;
 use host_core::Host;
-use reference::{ReferenceBelief, ReferenceScreen};
-use shadow::Shadow;
 use std::alloc::AllocError;
 use std::io::{self, BufRead, BufReader, Write};
 use telnet_wire::Decoder;
@@ -76,32 +74,56 @@ fn put_answer<S: Subject>(subject: &mut S, mut words: Words<'_>, answer: &mut An
     answer.text.push_str(".\n")
 }
 
-/// Answers each line of standard input. A command after `! ` is executed between the lines `begin` and `end` on
-/// standard error, so that a preloaded library can find its allocations.
+/// Answers a line. A command after `! ` is executed between the lines `begin` and `end` on standard error, so that a
+/// preloaded library can find its allocations.
+fn answer_line<S: Subject>(
+    rt: &HostRuntime,
+    subject: &mut S,
+    line: &str,
+    room: &mut Vec<u8>,
+    answer: &mut Answer,
+) -> io::Result<()> {
+    let (alloc, marked) = (rt.alloc(), line.strip_prefix("! "));
+    if marked.is_some() {
+        eprintln!(rt; "begin")?;
+    }
+    let rest = marked.unwrap_or(line);
+    put_answer(subject, Words { alloc, rest, room }, answer)?;
+    if marked.is_some() {
+        eprintln!(rt; "end")?;
+    }
+    rt.stdout().write_all(answer.text.as_bytes())
+}
+
+fn answer_all<S: Subject>(
+    rt: &HostRuntime,
+    subject: &mut S,
+    room: &mut Vec<u8>,
+    answer: &mut Answer,
+) -> io::Result<bool> {
+    for line in BufReader::new(rt.alloc(), rt.reader())?.lines(rt.alloc()) {
+        answer_line(rt, subject, line?.as_str(), room, answer)?;
+    }
+    Ok(true)
+}
+
+/// Answers each line of standard input.
 fn serve<S: Subject + Drop>(rt: &HostRuntime, mut subject: S) -> io::Result<bool> {
     let alloc = rt.alloc();
     // Room for answers is reserved, so that only the calls themselves can lack memory.
     let text = String::with_capacity(alloc, 1 << 16)?;
     let out = Vec::new(alloc);
-    let mut answer = Answer { text, out };
-    for line in BufReader::new(alloc, rt.reader())?.lines(alloc) {
-        let line = line?;
-        let rest = line.as_str();
-        if let Some(rest) = rest.strip_prefix("! ") {
-            eprintln!(rt; "begin")?;
-            put_answer(&mut subject, Words { alloc, rest }, &mut answer)?;
-            eprintln!(rt; "end")?;
-        } else {
-            put_answer(&mut subject, Words { alloc, rest }, &mut answer)?;
-        }
-        rt.stdout().write_all(answer.text.as_bytes())?;
-    }
-    Ok(true)
+    answer_all(
+        rt,
+        &mut subject,
+        &mut Vec::new(alloc),
+        &mut Answer { text, out },
+    )
 }
 
 pub(crate) fn run(rt: &HostRuntime, name: &str) -> io::Result<bool> {
     match name {
-        "belief" => serve(rt, Painter::new(Shadow::blank())),
+        "belief" => serve(rt, Painter::new()),
         "codes" => serve(rt, codes::Codes),
         "commands" => serve(rt, commands::Commands),
         "host" => serve(rt, None::<Host>),
@@ -109,8 +131,6 @@ pub(crate) fn run(rt: &HostRuntime, name: &str) -> io::Result<bool> {
         "messages" => serve(rt, messages::Messages::new()),
         "panel" => serve(rt, panel::Panels::new(rt.alloc())),
         "pool" => serve(rt, pool::Pools { pool: None }),
-        "reference-belief" => serve(rt, Painter::new(ReferenceBelief::Nothing)),
-        "reference-screen" => serve(rt, ReferenceScreen::blank()),
         "screen" => serve(rt, screen::Display::blank(Model::M2)),
         "terminal" => serve(rt, None::<Terminal>),
         "wire" => match Decoder::new(rt.alloc(), 0) {

@@ -27,11 +27,12 @@ pub(crate) type Done = Result<(), Fault>;
 /// Whether a call got the memory that it needed.
 pub(crate) type Put = Result<(), AllocError>;
 
-/// The words of a line that haven't been read yet.
+/// The words of a line that haven't been read yet, and room for the bytes that they encode.
 #[derive(Drop)]
 pub(crate) struct Words<'a> {
     pub(crate) alloc: Global,
     pub(crate) rest: &'a str,
+    pub(crate) room: &'a mut Vec<u8>,
 }
 
 impl<'a> Words<'a> {
@@ -58,8 +59,7 @@ impl<'a> Words<'a> {
     where
         T::Err: Drop,
     {
-        let number = self.word()?.parse::<T>();
-        number.map_err(|_| Fault::Line)
+        self.word()?.parse::<T>().ok().ok_or(Fault::Line)
     }
 
     /// The next word as a number below `count`.
@@ -87,12 +87,18 @@ impl<'a> Words<'a> {
     }
 
     /// The bytes of all remaining words, one after the other.
-    pub(crate) fn bytes(&mut self) -> Result<Vec<u8>, Fault> {
-        let mut bytes = Vec::new(self.alloc);
+    pub(crate) fn bytes(&mut self) -> Result<&[u8], Fault> {
+        self.room.clear();
         for word in self.rest().split_whitespace() {
-            bytes.extend_from_slice(bytes_of(self.alloc, word)?.as_slice())?;
+            self.room
+                .extend_from_slice(bytes_of(self.alloc, word)?.as_slice())?;
         }
-        Ok(bytes)
+        Ok(self.room.as_slice())
+    }
+
+    /// The text that the bytes of all remaining words are.
+    pub(crate) fn text(&mut self) -> Result<&str, Fault> {
+        str::from_utf8(self.bytes()?).ok().ok_or(Fault::Line)
     }
 }
 
@@ -110,7 +116,7 @@ impl Answer {
         match words.word()? {
             "vector" => {
                 self.out = Vec::with_capacity(words.alloc, words.number()?)?;
-                self.out.extend_from_slice(words.bytes()?.as_slice())?;
+                self.out.extend_from_slice(words.bytes()?)?;
             }
             "appended" => put_bytes(&mut self.text, "appended", self.out.as_slice())?,
             "capacity" => writeln!(self.text, "{}", self.out.capacity())?,
@@ -200,11 +206,7 @@ pub(crate) fn named<T: Copy + Debug>(alloc: Global, values: &[T], name: &str) ->
 }
 
 pub(crate) fn byte_of(digits: &str) -> Result<u8, Fault> {
-    u8::from_str_radix(digits, 16).map_err(|_| Fault::Line)
-}
-
-pub(crate) fn text_of(bytes: &[u8]) -> Result<&str, Fault> {
-    str::from_utf8(bytes).map_err(|_| Fault::Line)
+    u8::from_str_radix(digits, 16).ok().ok_or(Fault::Line)
 }
 
 /// The bytes that a word encodes: pairs of hexadecimal digits, or `-` for none.

@@ -1,7 +1,6 @@
 -- How a run of `check` ends: what it read, what it printed, and its fault and exit status (our profile).
 use Rattle.std.specs.Prelude.{◌≡◌, ◌==◌, ℕ, Bool, true, false, List, Option, Some, None, Result, Ok, Err}
 use Rattle.panels.specs.PanelText.{panel_text}
-use Rattle.panel_check.specs.Pages.{page_text}
 use Rattle.panel_check.specs.Report.{HasFirstCause, IsFaultlessIfAccepted, fault_count}
 use Rattle.panel_check.specs.declared.report.Report.{Report}
 use Rattle.job_streams.specs.Counting.{Input, Output, Untouched, Written, CutShort}
@@ -16,35 +15,33 @@ pub record IsReportOf (input : List ℕ) (report : Report) (clean : Bool) : Type
   pub reason : HasFirstCause (panel_text input) report.findings.items
   pub clean_is : clean ≡ (fault_count report.findings.items == 0)
 
--- holds if the whole report was written
-pub record WritesReport (name input : List ℕ) (clean : Bool) (old new : Output) : Type 0 where
+-- holds if the whole page of a report was written
+pub record WritesReport (input : List ℕ) (clean : Bool) (old new : Output) : Type 0 where
   pub report : Report
   pub is_report : IsReportOf input report clean
-  pub written : Written old new (page_text name report)
+  pub page : List ℕ
+  pub written : Written old new page
 
--- holds if the first bytes of the report were written, and then the write failed
-pub record WritesReportInPart (name input : List ℕ) (old new : Output) : Type 0 where
-  pub report : Report
-  pub clean : Bool
-  pub is_report : IsReportOf input report clean
-  pub cut_short : CutShort old new (page_text name report)
+-- holds if the first bytes of a page were written, and then the write failed
+abbrev pub WritesInPart : (old new : Output) → Type 0
+WritesInPart old new = (page : List ℕ) × CutShort old new page
 
 -- holds for the effect of printing the report: it ends well, or by a fault
-abbrev pub EndsReporting : Result Bool Fault → (name input : List ℕ) → (old new : Output) → Type 0
-EndsReporting (Ok clean) name input old new = WritesReport name input clean old new
-EndsReporting (Err NoMemory) name input old new = Untouched old new
-EndsReporting (Err OutputFailed) name input old new = WritesReportInPart name input old new
-EndsReporting (Err _) name input old new = ⊥
+abbrev pub EndsReporting : Result Bool Fault → (input : List ℕ) → (old new : Output) → Type 0
+EndsReporting (Ok clean) input old new = WritesReport input clean old new
+EndsReporting (Err NoMemory) input old new = Untouched old new
+EndsReporting (Err OutputFailed) input old new = WritesInPart old new
+EndsReporting (Err _) input old new = ⊥
 
 -- Holds for the effect of a run that ends well, or by a fault. `Came bytes` holds if the reads gave these bytes.
-abbrev pub HasCheckCause : (Came : List ℕ → Type 0) → Result Bool Fault → (name : List ℕ)
-    → (in_old in_new : Input) (out_old out_new : Output) → Type 0
-HasCheckCause Came (Err InputNotRead) name in_old in_new out_old out_new = NotRead in_old in_new
+abbrev pub HasCheckCause : (Came : List ℕ → Type 0) → Result Bool Fault → (in_old in_new : Input)
+    (out_old out_new : Output) → Type 0
+HasCheckCause Came (Err InputNotRead) in_old in_new out_old out_new = NotRead in_old in_new
     × ((bytes : List ℕ) × Came bytes) × Untouched out_old out_new
-HasCheckCause Came (Err NoMemory) name in_old in_new out_old out_new = ((bytes : List ℕ) × Came bytes)
+HasCheckCause Came (Err NoMemory) in_old in_new out_old out_new = ((bytes : List ℕ) × Came bytes)
     × Untouched out_old out_new
-HasCheckCause Came ending name in_old in_new out_old out_new =
-    OnInput Came in_old in_new (λ input. EndsReporting ending name input out_old out_new)
+HasCheckCause Came ending in_old in_new out_old out_new =
+    OnInput Came in_old in_new (λ input. EndsReporting ending input out_old out_new)
 
 -- the fault that ends a run; None if it ends well
 abbrev pub check_fault : Result Bool Fault → Option Fault
@@ -58,9 +55,9 @@ check_status (Ok false) = 1
 check_status (Err fault) = status_of fault
 
 -- holds for the end of a run
-pub record IsCheckEnd (Came : List ℕ → Type 0) (name : List ℕ) (in_old in_new : Input)
+pub record IsCheckEnd (Came : List ℕ → Type 0) (in_old in_new : Input)
     (out_old out_new faults_old faults_new : Output) (status : ℕ) : Type 0 where
   pub ending : Result Bool Fault
-  pub has_cause : HasCheckCause Came ending name in_old in_new out_old out_new
+  pub has_cause : HasCheckCause Came ending in_old in_new out_old out_new
   pub is_silent : IsSilent (check_fault ending) faults_old faults_new
   pub status_is : status ≡ check_status ending

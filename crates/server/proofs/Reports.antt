@@ -1,7 +1,7 @@
 -- How what a connection has to report is handed to the watcher, one after another.
-use Rattle.std.proofs.Common.{◌≡◌, ◌<◌, ◌∙◌, arith, ℕ, Bool, true, false, List, [], ◌∷◌, ◌++◌, Option, Some, None, Result, Ok, Err, map, length, set, refl, ap, sym, subst, inl, inr}
+use Rattle.std.proofs.Common.{◌≡◌, ◌<◌, ◌∙◌, arith, ℕ, Bool, true, false, List, [], ◌∷◌, ◌++◌, Option, Some, None, Result, Ok, Err, length, set, refl, ap, sym, subst, inl, inr}
 use Rattle.std.proofs.lemmas.List.{get_or-set_same, length-set, set-set, set-get_or}
-use Rattle.host_core.specs.Reports.{Reports, events_of, no_reports, oldest, without_oldest}
+use Rattle.host_core.specs.Reports.{Reports, events_of, oldest, without_oldest}
 use Rattle.host_core.specs.State.{Host, connection_at, reports_at, unused, with_reports}
 use Rattle.host_core.specs.declared.dropped_key.DroppedKey.{DroppedKey}
 use Rattle.host_core.specs.declared.event.HostEvent.{HostEvent}
@@ -14,8 +14,9 @@ use Rattle.job_streams.specs.declared.fault.Fault.{Fault}
 use Rattle.service_events.specs.declared.notice.Client.{Client}
 use Rattle.service_events.specs.declared.notice.Notice.{Notice}
 use Rattle.server.specs.ConnectionInfos.{with_event, with_events}
-use Rattle.server.specs.NumberTurns.{info_after, reported, reports_of, told_of}
+use Rattle.server.specs.NumberTurns.{info_after, left_by, reported, reports_of, told_each, told_of, with_left}
 use Rattle.server.specs.Watching.{Event, FailsAmong, Hears, HearsEach, Showed, Told}
+use Rattle.tn3270e_msg.specs.declared.cause.Cause.{Cause}
 use Rattle.server.specs.declared.connection_info.ConnectionInfo.{ConnectionInfo}
 
 -- ---- what a connection has to report
@@ -28,9 +29,9 @@ oldest_first : {A : Type 0} (items : List A) (one : A) → Some one ≡ oldest i
 oldest_first [] one e = cc
 oldest_first (first ∷ others) one e = let same : first ≡ one = cc in ap (λ it. it ∷ others) same
 
-none_left : {A : Type 0} (items : List A) → None ≡ oldest items → items ≡ []
-none_left [] e = refl
-none_left (first ∷ others) e = cc
+none_more : {A : Type 0} (items : List A) → None ≡ oldest items → items ≡ []
+none_more [] e = refl
+none_more (first ∷ others) e = cc
 
 none_behind : {A : Type 0} (items : List A) → items ≡ [] → without_oldest items ≡ []
 none_behind items e = ap without_oldest e
@@ -39,39 +40,58 @@ pub fewer : {A : Type 0} (items others : List A) (one : A) → Some one ≡ olde
 fewer [] others one first rest = cc
 fewer (head ∷ tail) others one first rest = let same : length others ≡ length tail = ap length rest in omega (arith, same)
 
-abbrev all_of : List Rejection → Option (List ℕ) → List DroppedKey → Option RuleBreak → Bool → Reports
-all_of rejections lu keys broken shown = record { rejections = rejections; bound = lu; dropped_keys = keys; rule_break = broken; shown = shown }
+abbrev all_of : List Rejection → Option (List ℕ) → List DroppedKey → Option RuleBreak → (asked shown : Bool) → Option Cause → (waits : Bool) → Reports
+all_of rejections lu keys broken asked shown closed waits =
+    record { rejections = rejections; bound = lu; dropped_keys = keys; rule_break = broken; asked = asked; shown = shown; closed = closed; waits = waits }
 
--- that a screen was shown is told last
-shown_last : (rejections : List Rejection) (lu : Option (List ℕ)) (keys : List DroppedKey) (broken : Option RuleBreak) (shown : Bool)
-    → Some event.Shown ≡ oldest (events_of (all_of rejections lu keys broken shown)) → without_oldest (events_of (all_of rejections lu keys broken shown)) ≡ []
-shown_last (one ∷ rejections) lu keys broken shown e = cc
-shown_last [] (Some lu) keys broken shown e = cc
-shown_last [] None (key ∷ keys) broken shown e = cc
-shown_last [] None [] (Some broken) shown e = cc
-shown_last [] None [] None true e = refl
-shown_last [] None [] None false e = cc
+-- nothing is left, or the end
+abbrev is_end : List HostEvent → Bool
+is_end [] = true
+is_end (event.Closed cause ∷ events) = true
+is_end _ = false
 
-nothing_kept : (rejections : List Rejection) (lu : Option (List ℕ)) (keys : List DroppedKey) (broken : Option RuleBreak) (shown : Bool)
-    → events_of (all_of rejections lu keys broken shown) ≡ [] → all_of rejections lu keys broken shown ≡ no_reports
-nothing_kept (one ∷ rejections) lu keys broken shown e = cc
-nothing_kept [] (Some lu) keys broken shown e = cc
-nothing_kept [] None (key ∷ keys) broken shown e = cc
-nothing_kept [] None [] (Some broken) shown e = cc
-nothing_kept [] None [] None true e = cc
-nothing_kept [] None [] None false e = refl
+-- behind a screen that was shown only the end is told
+shown_late : (rejections : List Rejection) (lu : Option (List ℕ)) (keys : List DroppedKey) (broken : Option RuleBreak) (asked shown : Bool) (closed : Option Cause) (waits : Bool)
+    → Some event.Shown ≡ oldest (events_of (all_of rejections lu keys broken asked shown closed waits)) → is_end (without_oldest (events_of (all_of rejections lu keys broken asked shown closed waits))) ≡ true
+shown_late (one ∷ rejections) lu keys broken asked shown closed waits e = cc
+shown_late [] (Some lu) keys broken asked shown closed waits e = cc
+shown_late [] None (key ∷ keys) broken asked shown closed waits e = cc
+shown_late [] None [] (Some broken) asked shown closed waits e = cc
+shown_late [] None [] None true shown closed waits e = cc
+shown_late [] None [] None false true None waits e = refl
+shown_late [] None [] None false true (Some cause) waits e = refl
+shown_late [] None [] None false false None waits e = cc
+shown_late [] None [] None false false (Some cause) waits e = cc
 
-nothing_left : (reports : Reports) → events_of reports ≡ [] → reports ≡ no_reports
-nothing_left reports e = nothing_kept reports.rejections reports.bound reports.dropped_keys reports.rule_break reports.shown e
+end_kept : (rejections : List Rejection) (lu : Option (List ℕ)) (keys : List DroppedKey) (broken : Option RuleBreak) (asked shown : Bool) (closed : Option Cause) (waits : Bool)
+    → is_end (events_of (all_of rejections lu keys broken asked shown closed waits)) ≡ true
+    → all_of rejections lu keys broken asked shown closed waits ≡ left_by (events_of (all_of rejections lu keys broken asked shown closed waits)) waits
+end_kept (one ∷ rejections) lu keys broken asked shown closed waits e = cc
+end_kept [] (Some lu) keys broken asked shown closed waits e = cc
+end_kept [] None (key ∷ keys) broken asked shown closed waits e = cc
+end_kept [] None [] (Some broken) asked shown closed waits e = cc
+end_kept [] None [] None true shown closed waits e = cc
+end_kept [] None [] None false true closed waits e = cc
+end_kept [] None [] None false false None waits e = refl
+end_kept [] None [] None false false (Some cause) waits e = refl
 
--- all but the last is told of a connection whatever the watcher sees of the host
+only_the_end : (reports : Reports) → Some event.Shown ≡ oldest (events_of reports) → is_end (without_oldest (events_of reports)) ≡ true
+only_the_end reports e = shown_late reports.rejections reports.bound reports.dropped_keys reports.rule_break reports.asked reports.shown reports.closed reports.waits e
+
+-- the reports of which nothing is left but the end
+just_the_end : (reports : Reports) → is_end (events_of reports) ≡ true → reports ≡ left_by (events_of reports) reports.waits
+just_the_end reports e = end_kept reports.rejections reports.bound reports.dropped_keys reports.rule_break reports.asked reports.shown reports.closed reports.waits e
+
+-- all but a screen that was shown is told of a connection whatever the watcher sees of the host
 told_same : (client : Client) (conn : ℕ) (one other : Host) (happened : HostEvent) → (happened ≡ event.Shown → one ≡ other)
     → told_of client conn one happened ≡ told_of client conn other happened
 told_same client conn one other (event.Rejected rejection) same = refl
 told_same client conn one other (event.Bound lu) same = refl
 told_same client conn one other (event.KeyDropped key) same = refl
 told_same client conn one other (event.RuleBroken broken) same = refl
-told_same client conn one other event.Shown same = ap (λ (host : Host). Showed host conn) (same refl)
+told_same client conn one other event.Asked same = refl
+told_same client conn one other event.Shown same = ap (λ (host : Host). Showed host conn ∷ []) (same refl)
+told_same client conn one other (event.Closed cause) same = refl
 
 -- ---- hosts
 
@@ -144,63 +164,68 @@ module _ {W : Type 0} (noticed : W → Notice → Result Unit Fault → W → Ty
   pub record IsReporting (conn : ℕ) (start : Host) (known : ConnectionInfo) (hearing : W) (host : Host) (info : ConnectionInfo) (watcher : W) : Type 0 where
     pub there : conn < length start.connections
     pub just_reports : host ≡ with_reports conn (reports_at conn host) start
+    pub waits : (reports_at conn host).waits ≡ (reports_at conn start).waits
     pub counts : with_events (events_of (reports_at conn host)) info ≡ info_after conn start known
-    pub goes_on : GoesOn (map (told_of known.client conn (reported conn start)) (events_of (reports_at conn host))) watcher (reports_of known.client conn start) hearing
+    pub goes_on : GoesOn (told_each known.client conn start (events_of (reports_at conn host))) watcher (reports_of known.client conn start) hearing
 
   module _ (conn : ℕ) (start : Host) (known : ConnectionInfo) (hearing : W) where
     pub begins : conn < length start.connections → IsReporting conn start known hearing start known hearing
-    begins there = record { there = there; just_reports = reports_same conn start; counts = refl; goes_on = λ answer new it. it }
+    begins there = record { there = there; just_reports = reports_same conn start; waits = refl; counts = refl; goes_on = λ answer new it. it }
 
     module _ (host taken : Host) (info : ConnectionInfo) (watcher : W) (so_far : IsReporting conn start known hearing host info watcher)
         (takes : taken ≡ with_reports conn (reports_at conn taken) host)
-        (removed : events_of (reports_at conn taken) ≡ without_oldest (events_of (reports_at conn host))) where
+        (removed : events_of (reports_at conn taken) ≡ without_oldest (events_of (reports_at conn host)))
+        (waits : (reports_at conn taken).waits ≡ (reports_at conn host).waits) where
       pub just_taken : taken ≡ with_reports conn (reports_at conn taken) start
       just_taken = just_reports_still conn (reports_at conn taken) start host taken so_far.there so_far.just_reports takes
 
-      all_gone : without_oldest (events_of (reports_at conn host)) ≡ [] → taken ≡ reported conn start
-      all_gone none = just_taken ∙ ap (λ reports. with_reports conn reports start) (nothing_left (reports_at conn taken) (removed ∙ none))
+      -- nothing is left of it but the end
+      just_left : is_end (without_oldest (events_of (reports_at conn host))) ≡ true → taken ≡ with_left (events_of (reports_at conn taken)) conn start
+      just_left ends = just_taken
+          ∙ ap (λ reports. with_reports conn reports start) (just_the_end (reports_at conn taken) (ap is_end removed ∙ ends))
+          ∙ ap (λ asks. with_reports conn (left_by (events_of (reports_at conn taken)) asks) start) (waits ∙ so_far.waits)
 
       module _ (happened : HostEvent) (next : Some happened ≡ oldest (events_of (reports_at conn host))) where
-        told_now : told_of known.client conn taken happened ≡ told_of known.client conn (reported conn start) happened
-        told_now = told_same known.client conn taken (reported conn start) happened
-            (λ is. all_gone (shown_last _ _ _ _ _ (ap (λ (it : HostEvent). Some it) (sym is) ∙ next)))
+        told_now : told_of known.client conn taken happened ≡ told_of known.client conn (with_left (events_of (reports_at conn taken)) conn start) happened
+        told_now = told_same known.client conn taken (with_left (events_of (reports_at conn taken)) conn start) happened
+            (λ is. just_left (only_the_end (reports_at conn host) (ap (λ (it : HostEvent). Some it) (sym is) ∙ next)))
 
         is_next : events_of (reports_at conn host) ≡ happened ∷ events_of (reports_at conn taken)
         is_next = oldest_first (events_of (reports_at conn host)) happened next ∙ ap (λ events. happened ∷ events) (sym removed)
 
         goes_on_from : (answer : Result Unit Fault) (new : W)
-            → Told noticed showed (told_of known.client conn taken happened ∷ map (told_of known.client conn (reported conn start)) (events_of (reports_at conn taken))) watcher answer new
+            → Told noticed showed (told_of known.client conn taken happened ++ told_each known.client conn start (events_of (reports_at conn taken))) watcher answer new
             → Told noticed showed (reports_of known.client conn start) hearing answer new
         goes_on_from answer new told = so_far.goes_on answer new
-            (subst (λ events. Told noticed showed (map (told_of known.client conn (reported conn start)) events) watcher answer new) (sym is_next)
-            (subst (λ first. Told noticed showed (first ∷ map (told_of known.client conn (reported conn start)) (events_of (reports_at conn taken))) watcher answer new) told_now told))
+            (subst (λ events. Told noticed showed (told_each known.client conn start events) watcher answer new) (sym is_next)
+            (subst (λ first. Told noticed showed (first ++ told_each known.client conn start (events_of (reports_at conn taken))) watcher answer new) told_now told))
 
-        pub one_told : (after : W) → Hears noticed showed (told_of known.client conn taken happened) watcher (Ok tt) after
+        pub one_told : (after : W) → HearsEach noticed showed (told_of known.client conn taken happened) watcher after
             → IsReporting conn start known hearing taken (with_event happened info) after
         one_told after hears = record {
           there = so_far.there;
           just_reports = just_taken;
+          waits = waits ∙ so_far.waits;
           counts = ap (λ events. with_events events info) (sym is_next) ∙ so_far.counts;
-          goes_on = λ answer new it. goes_on_from answer new (told_one answer new it);
+          goes_on = λ answer new it. goes_on_from answer new
+              (told_after (told_of known.client conn taken happened) (told_each known.client conn start (events_of (reports_at conn taken))) watcher after new answer hears it);
         }
-          where
-            told_one : (answer : Result Unit Fault) (new : W)
-                → Told noticed showed (map (told_of known.client conn (reported conn start)) (events_of (reports_at conn taken))) after answer new
-                → Told noticed showed (told_of known.client conn taken happened ∷ map (told_of known.client conn (reported conn start)) (events_of (reports_at conn taken))) watcher answer new
-            told_one (Ok done) new it = (after, hears, it)
-            told_one (Err why) new it = inr (after, hears, it)
 
-        pub one_failed : (why : Fault) (after : W) → Hears noticed showed (told_of known.client conn taken happened) watcher (Err why) after
+        pub one_failed : (why : Fault) (after : W) → FailsAmong noticed showed (told_of known.client conn taken happened) watcher why after
             → FailsAmong noticed showed (reports_of known.client conn start) hearing why after
-        one_failed why after hears = goes_on_from (Err why) after (inl hears)
+        one_failed why after fails = goes_on_from (Err why) after
+            (fails_within (told_of known.client conn taken happened) (told_each known.client conn start (events_of (reports_at conn taken))) watcher after why fails)
 
       module _ (none : None ≡ oldest (events_of (reports_at conn host))) where
         pub all_told : HearsEach noticed showed (reports_of known.client conn start) hearing watcher
         all_told = so_far.goes_on (Ok tt) watcher
-            (subst (λ events. HearsEach noticed showed (map (told_of known.client conn (reported conn start)) events) watcher watcher) (sym (none_left (events_of (reports_at conn host)) none)) refl)
+            (subst (λ events. HearsEach noticed showed (told_each known.client conn start events) watcher watcher) (sym (none_more (events_of (reports_at conn host)) none)) refl)
 
         pub all_taken : taken ≡ reported conn start
-        all_taken = all_gone (none_behind (events_of (reports_at conn host)) (none_left (events_of (reports_at conn host)) none))
+        all_taken = just_left (ap is_end nothing) ∙ ap (λ events. with_left events conn start) (removed ∙ nothing)
+          where
+            nothing : without_oldest (events_of (reports_at conn host)) ≡ []
+            nothing = none_behind (events_of (reports_at conn host)) (none_more (events_of (reports_at conn host)) none)
 
         pub all_known : info ≡ info_after conn start known
-        all_known = ap (λ events. with_events events info) (sym (none_left (events_of (reports_at conn host)) none)) ∙ so_far.counts
+        all_known = ap (λ events. with_events events info) (sym (none_more (events_of (reports_at conn host)) none)) ∙ so_far.counts

@@ -1,7 +1,6 @@
 -- What a turn of a connection computes, by the calls that it makes.
 use Rattle.std.proofs.Common.{◌≡◌, ◌∙◌, ℕ, List, [], ◌∷◌, Option, Some, None, Result, length, ap, refl, subst, sym}
-use Rattle.host_core.specs.State.{Host, connection_at, phase_of, state_at}
-use Rattle.host_core.specs.declared.phase.Phase.{Phase}
+use Rattle.host_core.specs.State.{Host, connection_at}
 use Rattle.host_core.specs.declared.serving.Served.{Served}
 use Rattle.hosts.specs.Hosts.{Hosts, host_at, with_host}
 use Rattle.hosts.proofs.Lookups.{put_again}
@@ -15,9 +14,9 @@ use Rattle.server.specs.Watching.{Event, HearsEach, if_any}
 use Rattle.server.specs.declared.connection_info.ConnectionInfo.{ConnectionInfo}
 use Rattle.server.specs.declared.server_core.ServerCore.{ServerCore}
 
-pub ending_is : (conn : ℕ) (new : Host) (answer : Served) (phase : Phase) (ending : Option Ending) → ending ≡ ending_of phase answer
-    → phase ≡ phase_of (state_at conn new) → ending ≡ ending_after conn answer new
-ending_is conn new answer phase ending e is = e ∙ ap (λ it. ending_of it answer) is
+pub ending_is : (conn : ℕ) (info : ConnectionInfo) (answer : Served) (host : Host) (after : ConnectionInfo) (ending : Option Ending) → ending ≡ ending_of after.ending answer
+    → after ≡ info_after conn host info → ending ≡ ending_after conn info answer host
+ending_is conn info answer host after ending e is = e ∙ ap (λ (it : ConnectionInfo). ending_of it.ending answer) is
 
 pub any_is : {A : Type 0} (event : A → Event) (found : Option A) (one : A) → found ≡ Some one → if_any event found ≡ event one ∷ []
 any_is event found one e = ap (if_any event) e
@@ -45,18 +44,18 @@ module _ {S : Type 0} where
   -- that the connection is over is told, if it is
   pub end_events : (conn : ℕ) (info : ConnectionInfo) (old : ServerCore S) (answer : Served) (host : Host) (sockets : Sockets S)
       (after : ConnectionInfo) (core : ServerCore S) (ending : Ending) → after ≡ info_after conn host info
-      → core ≡ core_reported conn info old host sockets → ending_after conn answer host ≡ Some ending
+      → core ≡ core_reported conn info old host sockets → ending_after conn info answer host ≡ Some ending
       → ended conn after core ending ∷ [] ≡ end_in_turn conn info old answer host sockets
   end_events conn info old answer host sockets after core ending is leaves ends =
       ap (λ it. ended conn it core ending ∷ []) is
       ∙ ap (λ it. ended conn (info_after conn host info) it ending ∷ []) leaves
-      ∙ sym (any_is (ended conn (info_after conn host info) (core_reported conn info old host sockets)) (ending_after conn answer host) ending ends)
+      ∙ sym (any_is (ended conn (info_after conn host info) (core_reported conn info old host sockets)) (ending_after conn info answer host) ending ends)
 
   -- the server after the end
   pub given_back_is : (conn : ℕ) (info : ConnectionInfo) (old : ServerCore S) (answer : Served) (host : Host) (sockets : Sockets S)
       (after : ConnectionInfo) (core new : ServerCore S) (ending : Ending) → after ≡ info_after conn host info
-      → core ≡ core_reported conn info old host sockets → ending_after conn answer host ≡ Some ending → new ≡ given_back conn after ending core
-      → new ≡ given_back_if (ending_after conn answer host) conn (info_after conn host info) (core_reported conn info old host sockets)
+      → core ≡ core_reported conn info old host sockets → ending_after conn info answer host ≡ Some ending → new ≡ given_back conn after ending core
+      → new ≡ given_back_if (ending_after conn info answer host) conn (info_after conn host info) (core_reported conn info old host sockets)
   given_back_is conn info old answer host sockets after core new ending is leaves ends gives =
       gives
       ∙ ap (λ it. given_back conn it ending core) is
@@ -65,8 +64,8 @@ module _ {S : Type 0} where
 
 module _ {S W : Type 0} (noticed : W → Notice → Result Unit Fault → W → Type 0) (showed : W → Host → ℕ → Result Unit Fault → W → Type 0) where
   pub no_end : (conn : ℕ) (info : ConnectionInfo) (old : ServerCore S) (answer : Served) (host : Host) (sockets : Sockets S) (watcher : W)
-      → ending_after conn answer host ≡ None → HearsEach noticed showed (end_in_turn conn info old answer host sockets) watcher watcher
+      → ending_after conn info answer host ≡ None → HearsEach noticed showed (end_in_turn conn info old answer host sockets) watcher watcher
   no_end conn info old answer host sockets watcher goes_on =
       subst (λ events. HearsEach noticed showed events watcher watcher)
-      (sym (none_is (ended conn (info_after conn host info) (core_reported conn info old host sockets)) (ending_after conn answer host) goes_on))
+      (sym (none_is (ended conn (info_after conn host info) (core_reported conn info old host sockets)) (ending_after conn info answer host) goes_on))
       refl

@@ -7,6 +7,7 @@ use Rattle.service_events.specs.Metrics.{raised}
 use Rattle.service_events.specs.Timing.{new_activity}
 use Rattle.service_events.specs.declared.notice.Client.{Client}
 use Rattle.service_events.specs.declared.notice.Ending.{Ending}
+use Rattle.service_events.specs.declared.notice.Ending.TheVariants as ending
 use Rattle.service_events.specs.declared.notice.Usage.{Usage}
 use Rattle.server.specs.declared.connection_info.ConnectionInfo.{ConnectionInfo}
 use Rattle.server.specs.declared.connection_info.SessionEnd.{SessionEnd}
@@ -29,19 +30,16 @@ with_event (event.Rejected rejection) info = info
 with_event (event.Bound lu) info = record info { lu = Some lu }
 with_event (event.KeyDropped key) info = info
 with_event (event.RuleBroken broken) info = info
+with_event event.Asked info = record info { asked = true }
 with_event event.Shown info = record info { screens = raised info.screens 1 }
+with_event (event.Closed cause) info = record info { ending = Some (ending.Closed cause) }
 
 -- the record after these events, one after another
 abbrev pub with_events : List HostEvent → ConnectionInfo → ConnectionInfo
 with_events [] info = info
 with_events (one ∷ events) info = with_events events (with_event one info)
 
--- the record once the application was asked in its session, once a reply was shown that may end the session, and once
--- the
--- application was told of its end
-abbrev pub with_asked : ConnectionInfo → ConnectionInfo
-with_asked info = record info { asked = true }
-
+-- the record once a reply was shown that may end the session, and once the application was told of its end
 abbrev pub with_end : (end : Bool) → ConnectionInfo → ConnectionInfo
 with_end end info = record info { ends = info.ends || end }
 

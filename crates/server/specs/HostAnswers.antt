@@ -29,7 +29,7 @@ use Rattle.service_events.specs.declared.notice.Client.{Client}
 use Rattle.service_events.specs.declared.notice.Notice.{Notice}
 use Rattle.service_events.specs.declared.notice.Usage.{Usage}
 use Rattle.socket_links.specs.Sockets.{slot_at}
-use Rattle.server.specs.ConnectionInfos.{session_end, usage_of, with_asked, with_end, with_told}
+use Rattle.server.specs.ConnectionInfos.{session_end, usage_of, with_end, with_told}
 use Rattle.server.specs.NumberTurns.{info_after, open_at, reported, reports_of}
 use Rattle.server.specs.Watching.{FailsAmong, HearsEach}
 use Rattle.server.specs.declared.connection_info.ConnectionInfo.{ConnectionInfo}
@@ -62,10 +62,6 @@ module _ {S : Type 0} where
   abbrev pub with_info : Option ConnectionInfo → ℕ → ServerCore S → ServerCore S
   with_info None conn core = core
   with_info (Some info) conn core = record core { infos = slice_set core.infos conn (Some info) }
-
-  -- the server once the application was asked in the session of a number's last connection
-  abbrev pub asked_in : ℕ → ServerCore S → ServerCore S
-  asked_in conn core = with_info (option_map with_asked (slice_index_or core.infos conn None)) conn core
 
   -- the server once a reply was shown there; `end`: the application ends the session
   abbrev pub ended_if : (end : Bool) → ℕ → ServerCore S → ServerCore S

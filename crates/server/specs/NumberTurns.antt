@@ -1,9 +1,9 @@
 -- A turn of one connection (our profile): it is served, what happened is reported, and it is ended if it is over.
-use Rattle.std.specs.Prelude.{◌≡◌, ◌≢◌, ◌==◌, not, ℕ, Bool, false, List, ◌++◌, length, map, slice_index_or, slice_set, Option, Some, None, Result, Ok, Err, if◌then◌else◌}
+use Rattle.std.specs.Prelude.{◌≡◌, ◌≢◌, ◌==◌, not, ℕ, Bool, false, List, [], ◌∷◌, ◌++◌, length, slice_index_or, slice_set, Option, Some, None, Result, Ok, Err, if◌then◌else◌}
 use Rattle.std.specs.declared.io.Error.{Error}
-use Rattle.host_core.specs.Reports.{Reports, events_of, no_reports}
+use Rattle.host_core.specs.Reports.{Reports, events_of, none_left}
 use Rattle.host_core.specs.Serves.{Serves}
-use Rattle.host_core.specs.State.{Host, connection_at, phase_of, reports_at, state_at, with_reports}
+use Rattle.host_core.specs.State.{Host, connection_at, reports_at, with_reports}
 use Rattle.host_core.specs.declared.event.HostEvent.{HostEvent}
 use Rattle.host_core.specs.declared.event.HostEvent.TheVariants as event
 use Rattle.host_core.specs.declared.serving.Served.{Served}
@@ -24,21 +24,38 @@ use Rattle.server.specs.declared.server_core.ServerCore.{ServerCore}
 
 -- ---- reports
 
--- the host with nothing left to report of a connection; all else is unchanged
-abbrev pub reported : ℕ → Host → Host
-reported conn host = with_reports conn no_reports host
+-- the reports once only these events are left: none, or the end
+abbrev pub left_by : List HostEvent → (waits : Bool) → Reports
+left_by (event.Closed cause ∷ events) waits = record (none_left waits) { closed = Some cause }
+left_by _ waits = none_left waits
 
--- What the watcher receives for an event on a connection. `host` is the host that it sees.
-abbrev pub told_of : Client → ℕ → Host → HostEvent → Event
-told_of client conn host (event.Rejected rejection) = Noticed (notice.Rejected client rejection)
-told_of client conn host (event.Bound lu) = Noticed (notice.Bound client lu)
-told_of client conn host (event.KeyDropped key) = Noticed (notice.KeyDropped client key)
-told_of client conn host (event.RuleBroken broken) = Noticed (notice.RuleBroken client broken)
-told_of client conn host event.Shown = Showed host conn
+-- the host with only these events left of a connection; all else is unchanged
+abbrev pub with_left : List HostEvent → ℕ → Host → Host
+with_left events conn host = with_reports conn (left_by events (reports_at conn host).waits) host
+
+-- the host with nothing left to report of a connection
+abbrev pub reported : ℕ → Host → Host
+reported = with_left []
+
+-- What the watcher receives for an event on a connection, if it does. `host` is the host that it sees.
+abbrev pub told_of : Client → ℕ → Host → HostEvent → List Event
+told_of client conn host (event.Rejected rejection) = Noticed (notice.Rejected client rejection) ∷ []
+told_of client conn host (event.Bound lu) = Noticed (notice.Bound client lu) ∷ []
+told_of client conn host (event.KeyDropped key) = Noticed (notice.KeyDropped client key) ∷ []
+told_of client conn host (event.RuleBroken broken) = Noticed (notice.RuleBroken client broken) ∷ []
+told_of client conn host event.Asked = []
+told_of client conn host event.Shown = Showed host conn ∷ []
+told_of client conn host (event.Closed cause) = []
+
+-- what the watcher receives for these events, one after another
+abbrev pub told_each : Client → ℕ → Host → List HostEvent → List Event
+told_each client conn host [] = []
+told_each client conn host (one ∷ events) =
+    told_of client conn (with_left events conn host) one ++ told_each client conn host events
 
 -- what the watcher receives for a connection: each event that the host kept, in its order
 abbrev pub reports_of : Client → ℕ → Host → List Event
-reports_of client conn host = map (told_of client conn (reported conn host)) (events_of (reports_at conn host))
+reports_of client conn host = told_each client conn host (events_of (reports_at conn host))
 
 -- the connection's record after these events
 abbrev pub info_after : ℕ → Host → ConnectionInfo → ConnectionInfo
@@ -81,8 +98,8 @@ module _ {S : Type 0} where
 -- ---- a turn of one connection
 
 -- why the connection is over after the turn; None if it continues
-abbrev pub ending_after : ℕ → Served → (after : Host) → Option Ending
-ending_after conn answer after = ending_of (phase_of (state_at conn after)) answer
+abbrev pub ending_after : ℕ → ConnectionInfo → Served → (after : Host) → Option Ending
+ending_after conn info answer after = ending_of (info_after conn after info).ending answer
 
 module _ {S : Type 0} where
   -- the server once the host has served a connection, and all of it was reported
@@ -98,7 +115,7 @@ module _ {S : Type 0} where
   abbrev pub end_in_turn : ℕ → ConnectionInfo → (old : ServerCore S) → Served → Host → Sockets S → List Event
   end_in_turn conn info old answer host sockets =
       if_any (ended conn (info_after conn host info) (core_reported conn info old host sockets))
-      (ending_after conn answer host)
+      (ending_after conn info answer host)
 
 module _ {S W : Type 0} (gave : S → ℕ → List ℕ → Result ℕ Error → S → Type 0)
     (took : S → List ℕ → Result ℕ Error → S → Type 0)
@@ -123,7 +140,7 @@ module _ {S W : Type 0} (gave : S → ℕ → List ℕ → Result ℕ Error → 
         (length (connection_at conn host).out == length (connection_at conn (host_at conn old.hosts)).out)
     pub hears : HearsEach noticed showed
         (reports_of info.client conn host ++ end_in_turn conn info old answer host sockets) watcher after
-    pub becomes : new ≡ given_back_if (ending_after conn answer host) conn (info_after conn host info)
+    pub becomes : new ≡ given_back_if (ending_after conn info answer host) conn (info_after conn host info)
         (core_reported conn info old host sockets)
 
   -- Holds if such a turn fails: either memory was refused while the host served the connection, and the watcher
@@ -142,7 +159,7 @@ module _ {S W : Type 0} (gave : S → ℕ → List ℕ → Result ℕ Error → 
         → IsServed conn old answer host sockets → answer ≢ served.Memory
         → HearsEach noticed showed (reports_of info.client conn host) watcher told
         → FailsAmong noticed showed (end_in_turn conn info old answer host sockets) told why after
-        → new ≡ given_back_if (ending_after conn answer host) conn (info_after conn host info)
+        → new ≡ given_back_if (ending_after conn info answer host) conn (info_after conn host info)
         (core_reported conn info old host sockets)
         → BreaksOffAt conn info old watcher why new after
 

@@ -32,7 +32,7 @@ pub struct ConnectionInfo {
     pub lu: Option<Lu>,
     /// How many screens were shown on it.
     pub screens: u64,
-    /// Whether the application was asked in its session and hasn't been told its end.
+    /// Whether the host asked the application in its session, and the application hasn't been told its end.
     pub asked: bool,
     /// Whether the application ends its session: the connection is closed once it waits for the operator.
     pub ends: bool,
@@ -62,7 +62,9 @@ impl ConnectionInfo {
     {
         match event {
             HostEvent::Bound(lu) => self.lu = Some(*lu),
+            HostEvent::Asked => self.asked = true,
             HostEvent::Shown => self.screens = self.screens.saturating_add(1),
+            HostEvent::Closed(cause) => self.ending = Some(Ending::Closed(*cause)),
             HostEvent::Rejected(_) => {}
             HostEvent::KeyDropped(_) => {}
             HostEvent::RuleBroken(_) => {}

@@ -3,7 +3,7 @@ ghost use Rattle.std.specs.Prelude.{◌≡◌, ◌<◌, OnOk};
 ghost use Rattle.host_core.specs.State.{most_connections, reports_at, with_reports};
 ghost use Rattle.hosts.specs.Hosts.{host_at, with_host};
 ghost use Rattle.server.specs.NumberTurns.{info_after, reported, reports_of, told_of};
-ghost use Rattle.server.specs.Watching.{Hears, Told};
+ghost use Rattle.server.specs.Watching.{Told};
 
 use crate::connection_info::ConnectionInfo;
 use crate::watcher::Watcher;
@@ -12,7 +12,8 @@ use hosts::Hosts;
 use job_streams::Fault;
 use service_events::{Client, Notice};
 
-/// Hands the watcher one event of a connection.
+/// Hands the watcher one event of a connection, except a question, which the exchange with the application reports, and
+/// a close, which is reported when the connection is ended.
 fn tell<W: Watcher>(
     event: HostEvent,
     host: &Host,
@@ -21,7 +22,7 @@ fn tell<W: Watcher>(
     watcher: &mut W,
 ) -> Result<(), Fault>
     requires number { conn < most_connections }
-    ensures { Hears W.noticed W.showed (told_of client.now conn host.now event) watcher.old result watcher.new }
+    ensures { Told W.noticed W.showed (told_of client.now conn host.now event) watcher.old result watcher.new }
 {
     match event {
         HostEvent::Rejected(rejection) => watcher.notice(&Notice::Rejected(*client, rejection)),
@@ -29,6 +30,7 @@ fn tell<W: Watcher>(
         HostEvent::KeyDropped(key) => watcher.notice(&Notice::KeyDropped(*client, key)),
         HostEvent::RuleBroken(broken) => watcher.notice(&Notice::RuleBroken(*client, broken)),
         HostEvent::Shown => watcher.shown(host, conn),
+        HostEvent::Asked | HostEvent::Closed(_) => Ok(()),
     }
 }
 

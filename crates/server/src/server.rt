@@ -4,7 +4,7 @@ ghost use Rattle.host_core.specs.State.{most_connections};
 ghost use Rattle.hosts.specs.Hosts.{host_at};
 ghost use Rattle.socket_links.specs.Sockets.{is_connected, slot_at};
 ghost use Rattle.server.specs.Control.{DeliversBelow, Reloads, StopsAt};
-ghost use Rattle.server.specs.HostAnswers.{AsksHost, HandsAnswer, HearsFault, HearsReplaced, TakesEnd, asked_in, client_at, ended_if, usage_at};
+ghost use Rattle.server.specs.HostAnswers.{AsksHost, HandsAnswer, HearsFault, HearsReplaced, TakesEnd, client_at, ended_if, usage_at};
 ghost use Rattle.server.specs.ServerTurns.{AcceptsWaiting, PollsAndServes, new_core};
 ghost use Rattle.server.specs.TimeTurns.{KeepsTime};
 ghost use Rattle.server.specs.Visits.{VisitsEach};
@@ -270,14 +270,6 @@ impl Server {
             Ok(None) => Ok(None),
             Err(_) => Err(Fault::NoMemory),
         }
-    }
-
-    /// Records that the application was asked in the session of a number's last connection.
-    pub fn set_asked(&mut self, conn: usize)
-        requires { conn < most_connections }
-        ensures { self.new ≡ asked_in conn self.old }
-    {
-        self.core.set_asked(conn);
     }
 
     /// Records whether a reply that was shown ends the session of a number's last connection: then the connection is

@@ -6,7 +6,7 @@ ghost use Rattle.hosts.specs.Apart.{NobodyTalks, service_at};
 ghost use Rattle.hosts.specs.Hosts.{host_at};
 ghost use Rattle.server.specs.Accepting.{Admits, AdmitsAll, AreTaken, IsLeastFree, Receives, door, most_accepted};
 ghost use Rattle.server.specs.Control.{EndsTalkingAt, Reloads, SendsNote, StopsAt, is_open_below, is_talking};
-ghost use Rattle.server.specs.HostAnswers.{HandsAnswer, ReportsOf, asked_in, end_at, end_told, ended_if, usage_at};
+ghost use Rattle.server.specs.HostAnswers.{HandsAnswer, ReportsOf, end_at, end_told, ended_if, usage_at};
 ghost use Rattle.server.specs.NumberTurns.{ServesAt, ServesIfOpen, ended, given_back, open_at};
 ghost use Rattle.server.specs.ServerTurns.{TakesTurn, new_core};
 ghost use Rattle.server.specs.TimeTurns.{AppliesAt, AppliesUnless, DoesDue, KeepsTime, due_at, is_finished, nop_sent, sends_nop};
@@ -203,10 +203,10 @@ impl<S: RawRead + RawWrite + Drop> ServerCore<S> {
             return Err(Fault::NoMemory);
         }
         let acted = self.hosts.at(conn).out(conn).len() != waiting;
-        let ending = ending_of(&self.hosts.at(conn).phase(conn), served);
         let mut after = *info;
         report(&mut self.hosts, conn, &mut after, watcher)?;
         self.infos.set(conn, after);
+        let ending = ending_of(after.ending, served);
         if let Some(ending) = ending {
             self.end(conn, &after, ending, watcher)?;
         }
@@ -282,22 +282,6 @@ impl<S: RawRead + RawWrite + Drop> ServerCore<S> {
         let acted = self.hosts.answer(conn, ticket, answer);
         self.report_on(conn, watcher)?;
         Ok(acted)
-    }
-
-    /// Records that the application was asked in the session of a number's last connection.
-    pub(crate) fn set_asked(&mut self, conn: usize)
-        requires { conn < most_connections }
-        ensures { self.new ≡ asked_in conn self.old }
-    {
-        if let Some(info) = self.infos.at(conn) {
-            self.infos.set(
-                conn,
-                ConnectionInfo {
-                    asked: true,
-                    ..info
-                },
-            );
-        }
     }
 
     /// Records whether a reply that was shown ends the session of a number's last connection.

@@ -204,9 +204,6 @@ impl Application {
         let did = self
             .exchanges
             .turn(asking, &mut watched, conn, has_operator)?;
-        if self.asked[conn].is_none() && (did || watched.outcome != Outcome::Open) {
-            watched.server.set_asked(conn);
-        }
         let told = self.notifications.turn(asking, &mut watched, conn);
         let outcome = watched.outcome;
         report(&mut self.asked[conn], did, outcome, now, watcher)?;

@@ -1,4 +1,5 @@
-//! The jobs `host` and `serve`: a host over sockets, with its log, its metrics and its application.
+//! The jobs `host` and `serve`: a host over sockets, with its log, its metrics and its application. Also the job `tell`,
+//! which sends a command to `serve`.
 //!
 //! The connections are those of crate `server`. In each turn `serve` also applies time limits, asks the application
 //! and obeys the control socket, and serves clients of the metrics port.
@@ -16,7 +17,9 @@ mod reply;
 mod service_turn;
 mod serving;
 mod session_page;
+mod tell;
 mod uptime;
 
 pub use log::Log;
 pub use serving::{run_host, run_serve, server_of};
+pub use tell::run_tell;

@@ -1,23 +1,17 @@
 -- Why a connection is over (our profile).
-use Rattle.std.specs.Prelude.{ℕ, List, codes, Option, None, Some}
-use Rattle.host_core.specs.declared.phase.Phase.{Phase}
-use Rattle.host_core.specs.declared.phase.Phase.TheVariants as phase
+use Rattle.std.specs.Prelude.{ℕ, List, codes, Option, None, Some, unwrap_or}
 use Rattle.host_core.specs.declared.serving.Served.{Served}
 use Rattle.host_core.specs.declared.serving.Served.TheVariants as served
 use Rattle.service_events.specs.declared.limits.Overdue.TheVariants as overdue
 use Rattle.service_events.specs.declared.notice.Ending.{Ending}
 use Rattle.service_events.specs.declared.notice.Ending.TheVariants as ending
 
--- why a connection is over after a turn of serving in which it ended: the host closed it, or it was lost
-abbrev pub ending_by : Phase → Ending
-ending_by (phase.Closed why) = ending.Closed why
-ending_by _ = ending.Lost
-
--- why a connection is over after a turn of serving; None if it continues. Refused memory ends the program instead
-abbrev pub ending_of : Phase → Served → Option Ending
-ending_of after served.Going = None
-ending_of after served.Lost = Some (ending_by after)
-ending_of after served.Memory = None
+-- why a connection is over after a turn of serving: the host closed it, for this reason, or it was lost; None if it
+-- continues. Refused memory ends the program instead
+abbrev pub ending_of : (closed : Option Ending) → Served → Option Ending
+ending_of closed served.Going = None
+ending_of closed served.Lost = Some (unwrap_or closed ending.Lost)
+ending_of closed served.Memory = None
 
 -- the event of the log, which is also the reason that an application gets
 abbrev pub ending_word : Ending → List ℕ

@@ -4,7 +4,7 @@ ghost use Rattle.service_events.specs.Notices.{ending_of, ending_word};
 
 use crate::limits::Overdue;
 use applications::{KeyName, SessionName};
-use host_core::{DroppedKey, Phase, Rejection, Rule, RuleBreak, Served};
+use host_core::{DroppedKey, Rejection, Rule, RuleBreak, Served};
 use proxy_protocol::HeaderFault;
 use std::fmt;
 use std::net::SocketAddr;
@@ -258,16 +258,13 @@ fn rule_word(rule: Rule) -> &'static str {
     }
 }
 
-/// Why a connection is over after a turn of serving, given its phase after the turn; None if it continues.
-pub fn ending_of(after: &Phase, served: Served) -> Option<Ending>
-    ensures { result ≡ ending_of after.now served }
+/// Why a connection is over after a turn of serving, given why the host closed it, if it did; None if it continues.
+pub fn ending_of(closed: Option<Ending>, served: Served) -> Option<Ending>
+    ensures { result ≡ ending_of closed served }
 {
     match served {
         Served::Going => None,
-        Served::Lost => match after {
-            Phase::Closed(cause) => Some(Ending::Closed(*cause)),
-            Phase::Free | Phase::Talking | Phase::Bound(_) => Some(Ending::Lost),
-        },
+        Served::Lost => Some(closed.unwrap_or(Ending::Lost)),
         Served::Memory => None,
     }
 }

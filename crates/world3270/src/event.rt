@@ -1,11 +1,13 @@
 //! The events that may happen to a world, and the answers to them.
+ghost use Rattle.std.specs.Prelude.{◌≡◌};
 ghost use Rattle.tn3270e_msg.specs.Talk.{IsLuIfSome};
+ghost use Rattle.world3270.specs.model.ByteSteps.{answer_pressed};
 ghost use Rattle.world3270.specs.refinement.Refines.{AreValidEvents, IsValidEvent};
 
 use crate::note_text::NoteText;
 use host_core::{Answer, Ticket};
 use keyboard::laws::keys_are_real;
-use keyboard::{Key, Refusal};
+use keyboard::{Key, Pressed, Refusal};
 use tn3270e_msg::Lu;
 
 /// An event at a terminal (by its number, from 0) or on a connection (`0..64`).
@@ -52,6 +54,18 @@ pub enum Stepped {
     Part(usize),
     /// Memory was refused; nothing has changed.
     Memory,
+}
+
+impl Stepped {
+    /// The outcome of a key at a terminal, from the keyboard's answer.
+    pub fn of_key(pressed: Pressed) -> Stepped
+        ensures { result ≡ answer_pressed pressed }
+    {
+        match pressed {
+            Pressed::Done | Pressed::Send(_) => Stepped::Done,
+            Pressed::Refused(why) => Stepped::Refused(why),
+        }
+    }
 }
 
 /// How far a list of events went.

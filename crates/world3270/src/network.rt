@@ -2,7 +2,7 @@
 ghost use Rattle.std.specs.Prelude.{◌≡◌, ◌<◌, ◌≤◌, None, Some, true, false, is_some, length, IfOk, IfSome, map, replicate, take};
 ghost use Rattle.host_core.specs.Feeds.{Feeds, connection_and_pool_at, with_connection_and_pool};
 ghost use Rattle.host_core.specs.State.{most_connections};
-ghost use Rattle.world3270.specs.model.ByteSteps.{Connects, TrackedFeeds, Steps, answer_acted, answer_fed, answer_pressed, down_came, free_number, is_enabled, host_gone, host_gone_below, host_gone_if, host_gone_if_there, host_told, is_held, is_link, is_up, lost_transits, terminal_gone, terminal_gone_if, terminal_told, up_came};
+ghost use Rattle.world3270.specs.model.ByteSteps.{Connects, TrackedFeeds, Steps, answer_acted, answer_fed, down_came, free_number, is_enabled, host_gone, host_gone_below, host_gone_if, host_gone_if_there, host_told, is_held, is_link, is_up, lost_transits, terminal_gone, terminal_gone_if, terminal_told, up_came};
 ghost use Rattle.world3270.specs.model.ByteWorld.{alone, down_of, host_out, host_there, is_senders, model_at, transits_at, new_byte_world, new_slot, slot_at, terminal_at, terminal_out, terminal_there, unused_transits, up_of, with_host, with_slot, with_transits};
 ghost use Rattle.world3270.specs.model.InFlight.{out_among};
 ghost use Rattle.world3270.specs.model.Enabled.{is_queued};
@@ -14,7 +14,7 @@ use crate::note_text::NoteText;
 use crate::terminal_slot::TerminalSlot;
 use codes3270::Model;
 use host_core::{Acted, Answer, Host, MOST_CONNECTIONS, Phase, Terminals, Ticket};
-use keyboard::{Key, Pressed};
+use keyboard::Key;
 use lu_pool::Pool;
 use panels::PanelSet;
 use presentation::Screen;
@@ -83,17 +83,6 @@ fn out_at(slots: &[TerminalSlot], conn: usize) -> &[u8]
     match terminal_at(slots, conn) {
         Some(terminal) => slots[terminal].out(),
         None => &[],
-    }
-}
-
-/// The outcome of a key event, from the keyboard's answer.
-fn pressed_as(pressed: Pressed) -> Stepped
-    ensures { result ≡ answer_pressed pressed }
-{
-    match pressed {
-        Pressed::Done => Stepped::Done,
-        Pressed::Refused(why) => Stepped::Refused(why),
-        Pressed::Send(_) => Stepped::Done,
     }
 }
 
@@ -300,7 +289,7 @@ impl Network {
     {
         if terminal < self.slots.len() {
             match self.slots[terminal].press(key) {
-                Ok(pressed) => pressed_as(pressed),
+                Ok(pressed) => Stepped::of_key(pressed),
                 Err(_) => Stepped::Memory,
             }
         } else {

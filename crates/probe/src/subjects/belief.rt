@@ -18,20 +18,12 @@ use codes3270::{Model, Size};
 use datastream::{
     CommandCode, CommandFault, Form, InboundFault, Want, Wanted, read_command, read_inbound,
 };
-use reference::ReferenceBelief;
 use shadow::{HeardFault, Shadow, any_keep, plain};
 
 #[derive(Drop)]
-pub(crate) struct Painter<B> {
-    belief: B,
+pub(crate) struct Painter {
+    belief: Shadow,
     wanted: Wanted,
-}
-
-impl<B> Painter<B> {
-    pub(crate) fn new(belief: B) -> Painter<B> {
-        let wanted = Wanted::filled(Want::Keep, Size::base());
-        Painter { belief, wanted }
-    }
 }
 
 fn has_size(shadow: &Shadow, size: Size) -> bool
@@ -46,7 +38,14 @@ fn put_place(answer: &mut Answer, shadow: &Shadow, place: u16) -> Done {
     answer.each("text", shadow.text(cell_at(shadow, place)))
 }
 
-impl Painter<Shadow> {
+impl Painter {
+    pub(crate) fn new() -> Painter {
+        Painter {
+            belief: Shadow::blank(),
+            wanted: Wanted::filled(Want::Keep, Size::base()),
+        }
+    }
+
     fn sent(&mut self, model: Model, bytes: &[u8]) -> Result<bool, CommandFault> {
         let command = read_command(bytes, size_of(&self.belief), model.alternate())?;
         let is_sized = command.code() != CommandCode::Write
@@ -76,18 +75,12 @@ impl Painter<Shadow> {
     }
 }
 
-impl Subject for Painter<Shadow> {
+impl Subject for Painter {
     fn take(&mut self, words: &mut Words<'_>, answer: &mut Answer) -> Done {
         match words.word()? {
             "new" => Ok(self.belief = Shadow::blank()),
-            "take" => {
-                let (model, bytes) = (words.model()?, words.bytes()?);
-                answer.line(&self.sent(model, bytes.as_slice()))
-            }
-            "hear" => {
-                let (form, bytes) = (words.named(&FORMS)?, words.bytes()?);
-                answer.line(&self.hear(form, bytes.as_slice()))
-            }
+            "take" => answer.line(&self.sent(words.model()?, words.bytes()?)),
+            "hear" => answer.line(&self.hear(words.named(&FORMS)?, words.bytes()?)),
             "show" => put_belief(answer, &self.belief),
             "fits" => answer.line(&self.belief.fits(&self.wanted)),
             "paint" => self.paint(answer),
@@ -95,29 +88,6 @@ impl Subject for Painter<Shadow> {
             "size" => answer.line(&self.belief.size()),
             "at" => put_place(answer, &self.belief, words.number()?),
             "wanted" => put_wanted(answer, &self.wanted),
-            word => change(words, &mut self.wanted, word),
-        }
-    }
-}
-
-/// The commands of this file, on the belief of the crate reference, for a screen of 24 by 80.
-impl Subject for Painter<ReferenceBelief> {
-    fn take(&mut self, words: &mut Words<'_>, answer: &mut Answer) -> Done {
-        match words.word()? {
-            "take" => {
-                let _model = words.model()?;
-                answer.line(&self.belief.take(words.bytes()?.as_slice()))
-            }
-            "hear" => {
-                let (form, bytes) = (words.named(&FORMS)?, words.bytes()?);
-                answer.line(&self.belief.hear(form, bytes.as_slice()))
-            }
-            "show" => Ok(self.belief.put(&mut answer.text)?),
-            "fits" => answer.line(&self.belief.fits(&self.wanted)),
-            "paint" => match self.belief.paint(&mut answer.out, &self.wanted) {
-                Some(called) => answer.done(called),
-                None => Ok(()),
-            },
             word => change(words, &mut self.wanted, word),
         }
     }

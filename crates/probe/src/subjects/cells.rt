@@ -13,12 +13,11 @@ ghost use Rattle.codes3270.specs.Storable.{is_storable};
 ghost use Rattle.datastream.specs.Wanted.{IsProper};
 ghost use Rattle.shadow.specs.Belief.{HasCell, IsOfSize};
 
-use crate::talk::{Answer, Done, Fault, Words, byte_of};
-use codes3270::{Addr, Aid, Attr, Size, aid_from_byte, storable};
+use crate::talk::{Answer, Done, Fault, Put, Words, byte_of};
+use codes3270::{Addr, Aid, Attr, Cell, Size, aid_from_byte, attr_code, storable};
 use datastream::{Form, Want, Wanted};
 use keyboard::Key;
 use presentation::Screen;
-use reference::put_cell;
 use shadow::Shadow;
 
 pub(crate) static FORMS: [Form; 3] = [Form::Modified, Form::All, Form::Buffer];
@@ -63,6 +62,14 @@ pub(crate) fn are_storable(bytes: &[u8]) -> bool
     ensures { result ≡ true → All (λ byte. is_storable byte ≡ true) bytes.now }
 {
     bytes.iter().all(|byte| storable(*byte))
+}
+
+fn put_cell(answer: &mut String, cell: Option<Cell>) -> Put {
+    match cell {
+        Some(Cell::Char(code)) => write!(answer, "{code:02X}"),
+        Some(Cell::Attr(attr)) => write!(answer, "1D{:02X}", attr_code(attr)),
+        None => answer.push_str("??"),
+    }
 }
 
 pub(crate) fn put_cells(answer: &mut Answer, screen: &Screen) -> Done {
@@ -124,28 +131,31 @@ fn want_of(word: &str) -> Result<Want, Fault>
     }
 }
 
-pub(crate) fn change(words: &mut Words<'_>, wanted: &mut Wanted, word: &str) -> Done {
-    match word {
-        "want" => {
-            let size = words.size()?;
-            *wanted = Wanted::filled(want_of(words.word()?)?, size);
+fn fill(words: &mut Words<'_>, wanted: &mut Wanted) -> Done {
+    let size = words.size()?;
+    Ok(*wanted = Wanted::filled(want_of(words.word()?)?, size))
+}
+
+fn put(wanted: &mut Wanted, first: usize, texts: &str) -> Done {
+    for (place, word) in (first..).zip(texts.split_whitespace()) {
+        let want = want_of(word)?;
+        if place < usize::from(wanted.size().cells()) {
+            wanted.put(place, want);
         }
-        "put" => {
-            let first = words.number::<usize>()?;
-            for (place, word) in (first..).zip(words.rest().split_whitespace()) {
-                let want = want_of(word)?;
-                if place < usize::from(wanted.size().cells()) {
-                    wanted.put(place, want);
-                }
-            }
-        }
-        "aim" => {
-            let cursor = at(place_on(words, wanted.size())?, wanted.size());
-            wanted.set_cursor_and_reset(cursor, words.number()?);
-        }
-        _ => return Err(Fault::Line),
     }
     Ok(())
+}
+
+pub(crate) fn change(words: &mut Words<'_>, wanted: &mut Wanted, word: &str) -> Done {
+    match word {
+        "want" => fill(words, wanted),
+        "put" => put(wanted, words.number()?, words.rest()),
+        "aim" => {
+            let cursor = at(place_on(words, wanted.size())?, wanted.size());
+            Ok(wanted.set_cursor_and_reset(cursor, words.number()?))
+        }
+        _ => Err(Fault::Line),
+    }
 }
 
 pub(crate) fn put_wanted(answer: &mut Answer, wanted: &Wanted) -> Done {

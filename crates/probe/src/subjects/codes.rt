@@ -39,7 +39,7 @@ fn put_attr(answer: &mut Answer, attr: Attr) -> Done {
 
 fn put_read(words: &mut Words<'_>, answer: &mut Answer) -> Done {
     let (size, bytes) = (words.size()?, words.bytes()?);
-    for pair in bytes.as_slice().as_chunks::<2>().0 {
+    for pair in bytes.as_chunks::<2>().0 {
         answer.called(&addr_from_bytes(*pair, size))?;
     }
     Ok(())

@@ -12,7 +12,7 @@ use codes3270::{Attr, Size, Wcc, aid_byte};
 use datastream::{
     Cells, Command, CommandCode, CommandWriter, Form, Inbound, read_command, read_inbound,
 };
-use std::fmt::Debug;
+use std::fmt::{Debug, Display};
 
 #[derive(Drop)]
 pub(crate) struct Commands;
@@ -75,41 +75,49 @@ fn put_inbound(answer: &mut Answer, inbound: &Inbound<'_>) -> Done {
     }
 }
 
+fn put_fault<F: Debug + Display>(answer: &mut Answer, fault: &F) -> Done {
+    Ok(writeln!(answer.text, "fault {fault:?}: {fault}")?)
+}
+
+fn read(answer: &mut Answer, now: Size, alternate: Size, bytes: &[u8]) -> Done {
+    match read_command(bytes, now, alternate) {
+        Ok(command) => put_command(answer, &command),
+        Err(fault) => put_fault(answer, &fault),
+    }
+}
+
+fn read_data(answer: &mut Answer, form: Form, size: Size, bytes: &[u8]) -> Done {
+    match read_inbound(bytes, form, size) {
+        Ok(inbound) => put_inbound(answer, &inbound),
+        Err(fault) => put_fault(answer, &fault),
+    }
+}
+
+fn put_text(to: &mut CommandWriter<'_>, text: &[u8]) -> Result<Put, Fault> {
+    if are_storable(text) {
+        Ok(to.chars(text))
+    } else {
+        Err(Fault::Line)
+    }
+}
+
 fn write(words: &mut Words<'_>, mut to: CommandWriter<'_>, word: &str) -> Result<Put, Fault> {
-    Ok(match word {
-        "begin" => to.begin(words.named(&CODES)?, Wcc::from_byte(words.byte()?)),
-        "sba" => to.sba(at(words.number()?, Size::base())),
-        "sf" => to.sf(Attr::from_code(words.byte()?)),
-        "ra" => to.ra(at(words.number()?, Size::base()), character(words.word()?)?),
-        "ic" => to.ic(),
-        "chars" => {
-            let text = words.bytes()?;
-            if !are_storable(text.as_slice()) {
-                return Err(Fault::Line);
-            }
-            to.chars(text.as_slice())
-        }
-        _ => return Err(Fault::Line),
-    })
+    match word {
+        "begin" => Ok(to.begin(words.named(&CODES)?, Wcc::from_byte(words.byte()?))),
+        "sba" => Ok(to.sba(at(words.number()?, Size::base()))),
+        "sf" => Ok(to.sf(Attr::from_code(words.byte()?))),
+        "ra" => Ok(to.ra(at(words.number()?, Size::base()), character(words.word()?)?)),
+        "ic" => Ok(to.ic()),
+        "chars" => put_text(&mut to, words.bytes()?),
+        _ => Err(Fault::Line),
+    }
 }
 
 impl Subject for Commands {
     fn take(&mut self, words: &mut Words<'_>, answer: &mut Answer) -> Done {
         match words.word()? {
-            "read" => {
-                let (now, alternate, bytes) = (words.size()?, words.size()?, words.bytes()?);
-                match read_command(bytes.as_slice(), now, alternate) {
-                    Ok(command) => put_command(answer, &command),
-                    Err(fault) => Ok(writeln!(answer.text, "fault {fault:?}: {fault}")?),
-                }
-            }
-            "inbound" => {
-                let (form, size, bytes) = (words.named(&FORMS)?, words.size()?, words.bytes()?);
-                match read_inbound(bytes.as_slice(), form, size) {
-                    Ok(inbound) => put_inbound(answer, &inbound),
-                    Err(fault) => Ok(writeln!(answer.text, "fault {fault:?}: {fault}")?),
-                }
-            }
+            "read" => read(answer, words.size()?, words.size()?, words.bytes()?),
+            "inbound" => read_data(answer, words.named(&FORMS)?, words.size()?, words.bytes()?),
             word => {
                 let called = write(words, CommandWriter::new(&mut answer.out), word)?;
                 answer.done(called)

@@ -12,7 +12,7 @@ use crate::subjects::Made;
 use crate::subjects::cells::put_belief;
 use crate::subjects::links::Link;
 use crate::subjects::panel::set_value;
-use crate::talk::{Answer, Done, Fault, Words, bytes_of, named, text_of};
+use crate::talk::{Answer, Done, Fault, Words, bytes_of};
 use applications::application_of;
 use codes3270::aid_byte;
 use host_core::{
@@ -26,9 +26,8 @@ static TERMINALS: [Terminals; 3] = [Terminals::Waiting, Terminals::Any, Terminal
 
 /// What a host serves: the kind of terminals, and the panels of a text, which is one word of bytes.
 pub(crate) fn read_service(words: &mut Words<'_>) -> Result<(Terminals, PanelSet, Pool), Fault> {
-    let (name, text) = (words.word()?, words.bytes()?);
-    let terminals = named(words.alloc, &TERMINALS, name)?;
-    match application_of(words.alloc, text_of(text.as_slice())?) {
+    let (alloc, terminals) = (words.alloc, words.named(&TERMINALS)?);
+    match application_of(alloc, words.text()?) {
         Ok((panels, pool)) => Ok((terminals, panels, pool)),
         Err(job_streams::Fault::NoMemory) => Err(Fault::NoMemory(AllocError)),
         Err(_) => Err(Fault::Line),
@@ -92,9 +91,9 @@ fn take_on(
 {
     match word {
         "open" if host.phase(conn) == Phase::Free => answer.done(host.open(conn)),
-        "feed" => answer.line(&host.feed(conn, words.bytes()?.as_slice())),
+        "feed" => answer.line(&host.feed(conn, words.bytes()?)),
         "act" => answer.line(&host.act(conn)),
-        "note" => match NoteText::new(words.bytes()?.as_slice()) {
+        "note" => match NoteText::new(words.bytes()?) {
             Some(note) => answer.line(&host.note(conn, note.text())),
             None => Err(Fault::Line),
         },
@@ -121,7 +120,9 @@ fn put_event(answer: &mut Answer, event: HostEvent) -> Done {
         HostEvent::Bound(lu) => answer.line(&("Bound", lu)),
         HostEvent::KeyDropped(it) => answer.line(&("KeyDropped", aid_byte(it.aid))),
         HostEvent::RuleBroken(it) => answer.line(&("RuleBroken", it)),
+        HostEvent::Asked => answer.line(&"Asked"),
         HostEvent::Shown => answer.line(&"Shown"),
+        HostEvent::Closed(cause) => answer.line(&("Closed", cause)),
     }
 }
 

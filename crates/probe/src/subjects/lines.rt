@@ -6,7 +6,7 @@
 //! faults           faults of which the system gives few
 //! ```
 use crate::subjects::Subject;
-use crate::talk::{Answer, Done, Fault, Put, Words, text_of};
+use crate::talk::{Answer, Done, Fault, Put, Words};
 use applications::{Absence, AnswerFault, ApplicationFault, application_of};
 use cli::words;
 use job_streams::{FileFault, LiveFault};
@@ -98,15 +98,14 @@ fn put_faults(alloc: Global, answer: &mut Answer) -> Done {
 
 impl Subject for Lines {
     fn take(&mut self, words: &mut Words<'_>, answer: &mut Answer) -> Done {
-        let (kind, bytes) = (words.word()?, words.bytes()?);
-        let text = text_of(bytes.as_slice())?;
+        let (alloc, kind, text) = (words.alloc, words.word()?, words.text()?);
         match kind {
-            "words" => put_words(words.alloc, answer, text),
+            "words" => put_words(alloc, answer, text),
             "script" => Ok(put_script(&mut answer.text, text)?),
             "terminal" => answer.line(&TerminalCommand::read(text)),
             "typed" => answer.said(&typed_text(text)),
-            "check" => put_report(words.alloc, answer, text),
-            "faults" => put_faults(words.alloc, answer),
+            "check" => put_report(alloc, answer, text),
+            "faults" => put_faults(alloc, answer),
             _ => Err(Fault::Line),
         }
     }

@@ -56,8 +56,8 @@ fn item_of<'a>(alloc: Global, word: &str, bytes: &'a [u8]) -> Result<Item<'a>, F
     }
 }
 
-fn put_after<S: Debug>(words: &Words<'_>, answer: &mut Answer, reply: &Reply, state: &S) -> Done {
-    let mut out = Vec::with_capacity(words.alloc, REPLY_ROOM)?;
+fn put_after<S: Debug>(alloc: Global, answer: &mut Answer, reply: &Reply, state: &S) -> Done {
+    let mut out = Vec::with_capacity(alloc, REPLY_ROOM)?;
     let cause = put_reply(&mut out, reply);
     let sent = out.as_slice();
     Ok(writeln!(answer.text, "({sent:?}, {reply:?}, {cause:?}, {state:?})")?)
@@ -65,7 +65,7 @@ fn put_after<S: Debug>(words: &Words<'_>, answer: &mut Answer, reply: &Reply, st
 
 fn read_lu(words: &mut Words<'_>) -> Result<Option<Lu>, Fault> {
     let name = words.bytes()?;
-    let lu = Lu::read(name.as_slice());
+    let lu = Lu::read(name);
     if lu.is_none() && !name.is_empty() {
         return Err(Fault::Line);
     }
@@ -119,18 +119,18 @@ impl Messages {
             return Err(Fault::Line);
         }
         let reply = self.host.answered(lu);
-        put_after(words, answer, &reply, &self.host.state())
+        put_after(words.alloc, answer, &reply, &self.host.state())
     }
 
     fn take_item(&mut self, words: &mut Words<'_>, answer: &mut Answer, is_host: bool) -> Done {
-        let (word, bytes) = (words.word()?, words.bytes()?);
-        let item = item_of(words.alloc, word, bytes.as_slice())?;
+        let (alloc, word, bytes) = (words.alloc, words.word()?, words.bytes()?);
+        let item = item_of(alloc, word, bytes)?;
         if is_host {
             let reply = self.host.take(&item);
-            return put_after(words, answer, &reply, &self.host.state());
+            return put_after(alloc, answer, &reply, &self.host.state());
         }
         let reply = self.terminal.take(&item);
-        put_after(words, answer, &reply, &self.terminal.state())
+        put_after(alloc, answer, &reply, &self.terminal.state())
     }
 
     fn take_talk(&mut self, word: &str, words: &mut Words<'_>, answer: &mut Answer) -> Done {
@@ -155,7 +155,7 @@ impl Messages {
                 let agreed = (terminal.is_agreed(), terminal.agreed_lu());
                 answer.line(&(terminal.lu(), agreed, terminal.reason_refused()))
             }
-            _ => take_bytes(word, words.bytes()?.as_slice(), answer),
+            _ => take_bytes(word, words.bytes()?, answer),
         }
     }
 }

@@ -13,7 +13,7 @@ ghost use Rattle.panels.specs.declared.message.Message.TheVariants.{Fresh};
 
 use crate::subjects::Subject;
 use crate::subjects::cells::{aid, put_wanted};
-use crate::talk::{Answer, Done, Fault, Put, Words, text_of};
+use crate::talk::{Answer, Done, Fault, Put, Words};
 use codes3270::storable;
 use panels::{Message, Panel, PanelFault, PanelSet, Values};
 use std::alloc::{AllocError, Global};
@@ -51,10 +51,10 @@ fn are_characters(bytes: &[u8]) -> bool
 
 pub(crate) fn set_value(words: &mut Words<'_>, values: &mut Values) -> Result<Put, Fault> {
     let (field, bytes) = (words.number()?, words.bytes()?);
-    if !are_characters(bytes.as_slice()) {
+    if !are_characters(bytes) {
         return Err(Fault::Line);
     }
-    Ok(values.set(field, bytes.as_slice()))
+    Ok(values.set(field, bytes))
 }
 
 fn put_panel(answer: &mut Answer, panel: &Panel) -> Done {
@@ -81,7 +81,7 @@ impl Panels {
     }
 
     fn read(&mut self, words: &mut Words<'_>, answer: &mut Answer) -> Done {
-        match PanelSet::read(words.alloc, text_of(words.bytes()?.as_slice())?) {
+        match PanelSet::read(words.alloc, words.text()?) {
             Ok(set) => {
                 answer.line(&(set.start(), set.len(), set.lus()))?;
                 Ok(self.set = Some(set))

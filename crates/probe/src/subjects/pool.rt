@@ -8,13 +8,8 @@ pub(crate) struct Pools {
     pub(crate) pool: Option<Pool>,
 }
 
-fn ask(words: &mut Words<'_>, answer: &mut Answer, pool: &mut Pool) -> Done {
-    let (conn, name) = (words.number()?, words.bytes()?);
-    let name = if name.is_empty() {
-        None
-    } else {
-        Some(name.as_slice())
-    };
+fn ask(answer: &mut Answer, pool: &mut Pool, conn: usize, name: &[u8]) -> Done {
+    let name = if name.is_empty() { None } else { Some(name) };
     match pool.lu_held_by(conn) {
         Some(_) => Err(Fault::Line),
         None => answer.called(&pool.ask(conn, name)),
@@ -25,7 +20,7 @@ fn read(words: &mut Words<'_>) -> Result<Result<Pool, PoolFault>, Fault> {
     let mut names = Vec::new(words.alloc);
     for word in words.rest().split_whitespace() {
         let name = String::from_utf8(bytes_of(words.alloc, word)?);
-        names.push(name.map_err(|_| Fault::Line)?)?;
+        names.push(name.ok().ok_or(Fault::Line)?)?;
     }
     Ok(Pool::read(words.alloc, names.as_slice()))
 }
@@ -40,7 +35,7 @@ impl Subject for Pools {
                 }
                 Err(fault) => answer.said(&fault),
             },
-            ("ask", Some(pool)) => ask(words, answer, pool),
+            ("ask", Some(pool)) => ask(answer, pool, words.number()?, words.bytes()?),
             ("held", Some(pool)) => answer.line(&pool.lu_held_by(words.number()?)),
             ("give-back", Some(pool)) => Ok(pool.give_back(words.number()?)),
             ("free-all", Some(pool)) => Ok(pool.free_all()),

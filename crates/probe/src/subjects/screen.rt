@@ -8,11 +8,10 @@
 use crate::subjects::Subject;
 use crate::subjects::cells::{FORMS, aid, at, key, place_on};
 use crate::talk::{Answer, Done, Fault, Words};
-use codes3270::{CELLS, Model, Size, storable};
+use codes3270::{Model, storable};
 use datastream::{CommandFault, Form, read_command};
 use keyboard::{Key, Keyboard};
 use presentation::{Applied, Screen};
-use reference::ReferenceScreen;
 
 #[derive(Drop)]
 pub(crate) struct Display {
@@ -50,6 +49,25 @@ fn put_look(answer: &mut Answer, screen: &Screen, place: u16) -> Done {
     ))
 }
 
+fn look(screen: &Screen, words: &mut Words<'_>, answer: &mut Answer, word: &str) -> Done {
+    match word {
+        "show" => answer.line(&(screen.size(), screen.cursor(), screen.home(), screen.aid())),
+        "look" => Ok(for place in 0..screen.size().cells() {
+            put_look(answer, screen, place)?;
+        }),
+        "read" => {
+            let called = match words.named(&FORMS)? {
+                Form::Buffer => screen.put_read_buffer(&mut answer.out),
+                form => screen.put_read_modified(&mut answer.out, form == Form::All),
+            };
+            answer.done(called)
+        }
+        "fields" => answer.each("fields", screen.fields()),
+        "glyphs" => answer.each("glyphs", screen.glyphs().map(u32::from)),
+        _ => Err(Fault::Line),
+    }
+}
+
 impl Display {
     pub(crate) fn blank(model: Model) -> Display {
         Display {
@@ -72,13 +90,13 @@ impl Display {
         answer.line(&self.keyboard.press(&mut self.screen, key))
     }
 
-    fn change(&mut self, words: &mut Words<'_>, word: &str) -> Done {
+    fn change(&mut self, words: &mut Words<'_>, answer: &mut Answer, word: &str) -> Done {
         let size = self.screen.size();
         match word {
             "new" => *self = Display::blank(words.model()?),
             "store" => {
                 let first = place_on(words, size)?;
-                store(&mut self.screen, first, words.bytes()?.as_slice());
+                store(&mut self.screen, first, words.bytes()?);
                 mark(&mut self.screen, first);
             }
             "cursor" => self.screen.set_cursor(at(place_on(words, size)?, size)),
@@ -86,7 +104,7 @@ impl Display {
             "clear" => self.screen.clear(),
             "erase-input" => self.screen.erase_unprotected(),
             "copy" => self.screen = self.screen.clone()?,
-            _ => return Err(Fault::Line),
+            _ => return look(&self.screen, words, answer, word),
         }
         Ok(())
     }
@@ -94,60 +112,14 @@ impl Display {
 
 impl Subject for Display {
     fn take(&mut self, words: &mut Words<'_>, answer: &mut Answer) -> Done {
-        let screen = &self.screen;
         match words.word()? {
-            "apply" => answer.line(&self.apply(words.bytes()?.as_slice())),
-            "show" => {
-                answer.line(&(screen.size(), screen.cursor(), screen.home(), screen.aid()))
-            }
-            "look" => Ok(for place in 0..screen.size().cells() {
-                put_look(answer, screen, place)?;
-            }),
-            "read" => {
-                let called = match words.named(&FORMS)? {
-                    Form::Buffer => screen.put_read_buffer(&mut answer.out),
-                    form => screen.put_read_modified(&mut answer.out, form == Form::All),
-                };
-                answer.done(called)
-            }
+            "apply" => answer.line(&self.apply(words.bytes()?)),
             "press" => self.press(answer, key(words)?),
             "char" => match char::from_u32(words.number()?) {
                 Some(letter) => self.press(answer, Key::Char(letter)),
                 None => Err(Fault::Line),
             },
-            "fields" => answer.each("fields", screen.fields()),
-            "glyphs" => answer.each("glyphs", screen.glyphs().map(u32::from)),
-            word => self.change(words, word),
-        }
-    }
-}
-
-/// The commands of this file, on the screen of the crate reference, which is 24 by 80 and has no keyboard.
-impl Subject for ReferenceScreen {
-    fn take(&mut self, words: &mut Words<'_>, answer: &mut Answer) -> Done {
-        match words.word()? {
-            "new" => {
-                words.model()?;
-                Ok(*self = ReferenceScreen::blank())
-            }
-            "apply" => answer.line(&self.apply(words.bytes()?.as_slice())),
-            "store" => {
-                let first = place_on(words, Size::base())?;
-                Ok(self.store(first, words.bytes()?.as_slice()))
-            }
-            "cursor" => Ok(self.cursor = place_on(words, Size::base())?),
-            "aid" => Ok(self.aid = aid(words)?),
-            "clear" => Ok(self.clear()),
-            "erase-input" => Ok(self.erase_unprotected()),
-            "show" => answer.line(&self.shown()),
-            "look" => Ok(for place in 0..CELLS {
-                answer.line(&self.look(place))?;
-            }),
-            "read" => {
-                let called = self.put_read(&mut answer.out, words.named(&FORMS)?);
-                answer.done(called)
-            }
-            _ => Err(Fault::Line),
+            word => self.change(words, answer, word),
         }
     }
 }

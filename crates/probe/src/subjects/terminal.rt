@@ -50,7 +50,7 @@ impl Made for Terminal {
     fn take(&mut self, word: &str, words: &mut Words<'_>, answer: &mut Answer) -> Done {
         match word {
             "connected" => connect(self, words.rest()),
-            "feed" => answer.line(&self.feed(words.bytes()?.as_slice())),
+            "feed" => answer.line(&self.feed(words.bytes()?)),
             "key" => press(answer, self, key(words)?),
             "type" => Ok(for letter in words.rest().chars() {
                 press(answer, self, Key::Char(letter))?;

@@ -46,23 +46,38 @@ fn push_each(decoder: &mut Decoder, bytes: &[u8], is_fed: bool, answer: &mut Ans
     Ok(())
 }
 
+fn renew(decoder: &mut Decoder, words: &mut Words<'_>, answer: &mut Answer) -> Done {
+    match Decoder::new(words.alloc, words.number()?) {
+        Ok(new) => {
+            *decoder = new;
+            answer.done(Ok(()))
+        }
+        Err(fault) => answer.said(&fault),
+    }
+}
+
+fn append(words: &mut Words<'_>, out: &mut Vec<u8>, word: &str) -> Result<Put, Fault> {
+    match word {
+        "record" => Ok(put_record(out, words.bytes()?)),
+        "option" => Ok(put_option(out, words.named(&VERBS)?, words.byte()?)),
+        "sub" => Ok(put_sub(out, words.bytes()?)),
+        "parts" => put_parts(words, out),
+        _ => Err(Fault::Line),
+    }
+}
+
 impl Subject for Decoder {
     fn take(&mut self, words: &mut Words<'_>, answer: &mut Answer) -> Done {
-        let called = match words.word()? {
-            "new" => match Decoder::new(words.alloc, words.number()?) {
-                Ok(decoder) => Ok(*self = decoder),
-                Err(fault) => return answer.said(&fault),
-            },
-            "push" => return push_each(self, words.bytes()?.as_slice(), false, answer),
-            "feed" => return push_each(self, words.bytes()?.as_slice(), true, answer),
-            "data" => return answer.line(&self.push_data(words.bytes()?.as_slice())),
-            "reset" => return Ok(self.reset()),
-            "record" => put_record(&mut answer.out, words.bytes()?.as_slice()),
-            "option" => put_option(&mut answer.out, words.named(&VERBS)?, words.byte()?),
-            "sub" => put_sub(&mut answer.out, words.bytes()?.as_slice()),
-            "parts" => put_parts(words, &mut answer.out)?,
-            _ => return Err(Fault::Line),
-        };
-        answer.done(called)
+        match words.word()? {
+            "new" => renew(self, words, answer),
+            "push" => push_each(self, words.bytes()?, false, answer),
+            "feed" => push_each(self, words.bytes()?, true, answer),
+            "data" => answer.line(&self.push_data(words.bytes()?)),
+            "reset" => Ok(self.reset()),
+            word => {
+                let called = append(words, &mut answer.out, word)?;
+                answer.done(called)
+            }
+        }
     }
 }

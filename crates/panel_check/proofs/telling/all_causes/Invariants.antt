@@ -1,6 +1,6 @@
 use Rattle.std.proofs.Common.{◌≡◌, ◌++◌, map, drop}
 use Rattle.panel_check.specs.Listed.{cause_of}
-use Rattle.panel_check.specs.declared.finding.Cause.TheVariants as cause
+use Rattle.panel_check.specs.declared.report.Cause.TheVariants as cause
 use Rattle.panel_check.proofs.telling.all_causes.Given as goal
 
 abbrev pub invariant-loop-at : goal.invariant-loop-at

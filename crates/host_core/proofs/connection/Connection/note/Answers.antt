@@ -9,7 +9,7 @@ pub returns-in-Open-clause-noted : goal.returns-in-Open-clause-noted
 returns-in-Open-clause-noted c =
     does_connection (noted_by c.args.text.now) c.args.self.now c.self.inside.service c.in-Open.end c.deref_mut.result.now c.note-acted.new.self c.self.inside.out c.note-acted.new.out c.note-acted.result _ _
     (sym c.self.view_is) c.self.invariant c.in-Open.is c.deref_mut.ensures.value c.note-acted.ensures.noted
-    (c.keep_shown.ensures ∙ ap (λ (x : HostEnd). shown_by c.note-acted.result x.session c.self.inside.reports) c.deref.ensures)
+    (c.keep_sent.ensures ∙ ap (λ (x : HostEnd). shown_by c.note-acted.result x.session c.self.inside.reports) c.deref.ensures)
 
 pub returns-in-Open-clause-held : goal.returns-in-Open-clause-held
 returns-in-Open-clause-held c =

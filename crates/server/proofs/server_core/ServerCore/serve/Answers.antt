@@ -1,7 +1,7 @@
 use Rattle.std.proofs.Common.{◌∙◌, Some, Ok, ap, length, nat_eq, not, refl, slice_set, subst, sym}
 use Rattle.std.proofs.lemmas.Result.{err_from_is_err_and}
 use Rattle.host_core.specs.Serves.{Serves}
-use Rattle.host_core.specs.State.{connection_at, phase_of, reports_at, state_at}
+use Rattle.host_core.specs.State.{connection_at, reports_at}
 use Rattle.host_core.specs.declared.serving.Served.TheVariants as served
 use Rattle.hosts.specs.Hosts.{host_at, with_host}
 use Rattle.socket_links.specs.Sockets.{GivesAt, TakesAt}
@@ -28,9 +28,9 @@ returns-in_err-end g c =
     rw (p.1, p.2) (end_failed c.serve-served.result (host_at c.args.conn c.serve-served.new.self) c.serve-served.new.links c.report.new.watcher (subst (λ it. Serves (GivesAt g.S.RawRead.read_gave) (TakesAt g.S.RawWrite.write_took) c.args.conn (host_at c.args.conn c.args.self.now.hosts) it c.serve-served.result (host_at c.args.conn c.serve-served.new.self) c.serve-served.new.links) (unsent_is c.args.conn c.args.self.now c.out-waiting.result.now c.set_waiting.new.self c.set_waiting.ensures (c.out-waiting.ensures ∙ ap (λ host. (connection_at c.args.conn host).out) c.at.ensures)) c.serve-served.ensures.serves) c.in_default.not-Memory
     c.in_ok-report.ensures.told
     (subst (λ it. FailsAmong g.W.Watcher.noticed g.W.Watcher.showed it c.report.new.watcher c.in_err-end.field-0.0 c.end.new.watcher) (end_events c.args.conn c.args.info.now c.args.self.now c.serve-served.result (host_at c.args.conn c.serve-served.new.self) c.serve-served.new.links c.report.new.info (record c.args.self.now { hosts = c.report.new.hosts; sockets = c.serve-served.new.links; infos = c.set.new.self }) c.in-Some.ending c.in_ok-report.ensures.info
-    (core_is c.args.self.now c.report.new.hosts (with_host c.args.conn (reported c.args.conn (host_at c.args.conn c.serve-served.new.self)) c.args.self.now.hosts) c.serve-served.new.links c.set.new.self (slice_set c.args.self.now.infos c.args.conn (Some (info_after c.args.conn (host_at c.args.conn c.serve-served.new.self) c.args.info.now))) (reported_hosts c.args.conn c.args.self.now.hosts c.serve-served.new.self c.report.new.hosts _ c.serve-served.ensures.others c.in_ok-report.ensures.others c.in_ok-report.ensures.taken) (c.set.ensures ∙ ap (λ it. slice_set c.args.self.now.infos c.args.conn (Some it)) c.in_ok-report.ensures.info)) (sym (ending_is c.args.conn (host_at c.args.conn c.serve-served.new.self) c.serve-served.result c.phase.result c.ending_of-ending.result c.ending_of-ending.ensures (c.phase.ensures ∙ ap (λ host. phase_of (state_at c.args.conn host)) c.at-3.ensures)) ∙ c.in-Some.is)) c.in_err-end.ensures.told)
+    (core_is c.args.self.now c.report.new.hosts (with_host c.args.conn (reported c.args.conn (host_at c.args.conn c.serve-served.new.self)) c.args.self.now.hosts) c.serve-served.new.links c.set.new.self (slice_set c.args.self.now.infos c.args.conn (Some (info_after c.args.conn (host_at c.args.conn c.serve-served.new.self) c.args.info.now))) (reported_hosts c.args.conn c.args.self.now.hosts c.serve-served.new.self c.report.new.hosts _ c.serve-served.ensures.others c.in_ok-report.ensures.others c.in_ok-report.ensures.taken) (c.set.ensures ∙ ap (λ it. slice_set c.args.self.now.infos c.args.conn (Some it)) c.in_ok-report.ensures.info)) (sym (ending_is c.args.conn c.args.info.now c.serve-served.result (host_at c.args.conn c.serve-served.new.self) c.report.new.info c.ending_of-ending.result c.ending_of-ending.ensures c.in_ok-report.ensures.info) ∙ c.in-Some.is)) c.in_err-end.ensures.told)
     (given_back_is c.args.conn c.args.info.now c.args.self.now c.serve-served.result (host_at c.args.conn c.serve-served.new.self) c.serve-served.new.links c.report.new.info (record c.args.self.now { hosts = c.report.new.hosts; sockets = c.serve-served.new.links; infos = c.set.new.self }) c.end.new.self c.in-Some.ending c.in_ok-report.ensures.info
-    (core_is c.args.self.now c.report.new.hosts (with_host c.args.conn (reported c.args.conn (host_at c.args.conn c.serve-served.new.self)) c.args.self.now.hosts) c.serve-served.new.links c.set.new.self (slice_set c.args.self.now.infos c.args.conn (Some (info_after c.args.conn (host_at c.args.conn c.serve-served.new.self) c.args.info.now))) (reported_hosts c.args.conn c.args.self.now.hosts c.serve-served.new.self c.report.new.hosts _ c.serve-served.ensures.others c.in_ok-report.ensures.others c.in_ok-report.ensures.taken) (c.set.ensures ∙ ap (λ it. slice_set c.args.self.now.infos c.args.conn (Some it)) c.in_ok-report.ensures.info)) (sym (ending_is c.args.conn (host_at c.args.conn c.serve-served.new.self) c.serve-served.result c.phase.result c.ending_of-ending.result c.ending_of-ending.ensures (c.phase.ensures ∙ ap (λ host. phase_of (state_at c.args.conn host)) c.at-3.ensures)) ∙ c.in-Some.is) c.end.ensures.given_back))
+    (core_is c.args.self.now c.report.new.hosts (with_host c.args.conn (reported c.args.conn (host_at c.args.conn c.serve-served.new.self)) c.args.self.now.hosts) c.serve-served.new.links c.set.new.self (slice_set c.args.self.now.infos c.args.conn (Some (info_after c.args.conn (host_at c.args.conn c.serve-served.new.self) c.args.info.now))) (reported_hosts c.args.conn c.args.self.now.hosts c.serve-served.new.self c.report.new.hosts _ c.serve-served.ensures.others c.in_ok-report.ensures.others c.in_ok-report.ensures.taken) (c.set.ensures ∙ ap (λ it. slice_set c.args.self.now.infos c.args.conn (Some it)) c.in_ok-report.ensures.info)) (sym (ending_is c.args.conn c.args.info.now c.serve-served.result (host_at c.args.conn c.serve-served.new.self) c.report.new.info c.ending_of-ending.result c.ending_of-ending.ensures c.in_ok-report.ensures.info) ∙ c.in-Some.is) c.end.ensures.given_back))
 
 pub returns-in_ok-end : goal.returns-in_ok-end
 returns-in_ok-end g c = record {
@@ -42,9 +42,9 @@ returns-in_ok-end g c = record {
   acts = (ap (λ it. not (nat_eq (length it) (length c.out-waiting.result.now))) (c.out.ensures ∙ ap (λ host. (connection_at c.args.conn host).out) c.at-2.ensures) ∙ ap (λ it. not (nat_eq (length (connection_at c.args.conn (host_at c.args.conn c.serve-served.new.self)).out) (length it))) (c.out-waiting.ensures ∙ ap (λ host. (connection_at c.args.conn host).out) c.at.ensures));
   hears = told_after g.W.Watcher.noticed g.W.Watcher.showed (reports_of c.args.info.now.client c.args.conn (host_at c.args.conn c.serve-served.new.self)) (end_in_turn c.args.conn c.args.info.now c.args.self.now c.serve-served.result (host_at c.args.conn c.serve-served.new.self) c.serve-served.new.links) c.args.watcher.now c.report.new.watcher c.end.new.watcher (Ok tt) c.in_ok-report.ensures.told
       (subst (λ it. HearsEach g.W.Watcher.noticed g.W.Watcher.showed it c.report.new.watcher c.end.new.watcher) (end_events c.args.conn c.args.info.now c.args.self.now c.serve-served.result (host_at c.args.conn c.serve-served.new.self) c.serve-served.new.links c.report.new.info (record c.args.self.now { hosts = c.report.new.hosts; sockets = c.serve-served.new.links; infos = c.set.new.self }) c.in-Some.ending c.in_ok-report.ensures.info
-      (core_is c.args.self.now c.report.new.hosts (with_host c.args.conn (reported c.args.conn (host_at c.args.conn c.serve-served.new.self)) c.args.self.now.hosts) c.serve-served.new.links c.set.new.self (slice_set c.args.self.now.infos c.args.conn (Some (info_after c.args.conn (host_at c.args.conn c.serve-served.new.self) c.args.info.now))) (reported_hosts c.args.conn c.args.self.now.hosts c.serve-served.new.self c.report.new.hosts _ c.serve-served.ensures.others c.in_ok-report.ensures.others c.in_ok-report.ensures.taken) (c.set.ensures ∙ ap (λ it. slice_set c.args.self.now.infos c.args.conn (Some it)) c.in_ok-report.ensures.info)) (sym (ending_is c.args.conn (host_at c.args.conn c.serve-served.new.self) c.serve-served.result c.phase.result c.ending_of-ending.result c.ending_of-ending.ensures (c.phase.ensures ∙ ap (λ host. phase_of (state_at c.args.conn host)) c.at-3.ensures)) ∙ c.in-Some.is)) c.in_ok-end.ensures.told);
+      (core_is c.args.self.now c.report.new.hosts (with_host c.args.conn (reported c.args.conn (host_at c.args.conn c.serve-served.new.self)) c.args.self.now.hosts) c.serve-served.new.links c.set.new.self (slice_set c.args.self.now.infos c.args.conn (Some (info_after c.args.conn (host_at c.args.conn c.serve-served.new.self) c.args.info.now))) (reported_hosts c.args.conn c.args.self.now.hosts c.serve-served.new.self c.report.new.hosts _ c.serve-served.ensures.others c.in_ok-report.ensures.others c.in_ok-report.ensures.taken) (c.set.ensures ∙ ap (λ it. slice_set c.args.self.now.infos c.args.conn (Some it)) c.in_ok-report.ensures.info)) (sym (ending_is c.args.conn c.args.info.now c.serve-served.result (host_at c.args.conn c.serve-served.new.self) c.report.new.info c.ending_of-ending.result c.ending_of-ending.ensures c.in_ok-report.ensures.info) ∙ c.in-Some.is)) c.in_ok-end.ensures.told);
   becomes = (given_back_is c.args.conn c.args.info.now c.args.self.now c.serve-served.result (host_at c.args.conn c.serve-served.new.self) c.serve-served.new.links c.report.new.info (record c.args.self.now { hosts = c.report.new.hosts; sockets = c.serve-served.new.links; infos = c.set.new.self }) c.end.new.self c.in-Some.ending c.in_ok-report.ensures.info
-      (core_is c.args.self.now c.report.new.hosts (with_host c.args.conn (reported c.args.conn (host_at c.args.conn c.serve-served.new.self)) c.args.self.now.hosts) c.serve-served.new.links c.set.new.self (slice_set c.args.self.now.infos c.args.conn (Some (info_after c.args.conn (host_at c.args.conn c.serve-served.new.self) c.args.info.now))) (reported_hosts c.args.conn c.args.self.now.hosts c.serve-served.new.self c.report.new.hosts _ c.serve-served.ensures.others c.in_ok-report.ensures.others c.in_ok-report.ensures.taken) (c.set.ensures ∙ ap (λ it. slice_set c.args.self.now.infos c.args.conn (Some it)) c.in_ok-report.ensures.info)) (sym (ending_is c.args.conn (host_at c.args.conn c.serve-served.new.self) c.serve-served.result c.phase.result c.ending_of-ending.result c.ending_of-ending.ensures (c.phase.ensures ∙ ap (λ host. phase_of (state_at c.args.conn host)) c.at-3.ensures)) ∙ c.in-Some.is) c.end.ensures.given_back);
+      (core_is c.args.self.now c.report.new.hosts (with_host c.args.conn (reported c.args.conn (host_at c.args.conn c.serve-served.new.self)) c.args.self.now.hosts) c.serve-served.new.links c.set.new.self (slice_set c.args.self.now.infos c.args.conn (Some (info_after c.args.conn (host_at c.args.conn c.serve-served.new.self) c.args.info.now))) (reported_hosts c.args.conn c.args.self.now.hosts c.serve-served.new.self c.report.new.hosts _ c.serve-served.ensures.others c.in_ok-report.ensures.others c.in_ok-report.ensures.taken) (c.set.ensures ∙ ap (λ it. slice_set c.args.self.now.infos c.args.conn (Some it)) c.in_ok-report.ensures.info)) (sym (ending_is c.args.conn c.args.info.now c.serve-served.result (host_at c.args.conn c.serve-served.new.self) c.report.new.info c.ending_of-ending.result c.ending_of-ending.ensures c.in_ok-report.ensures.info) ∙ c.in-Some.is) c.end.ensures.given_back);
 }
 
 pub returns-in_default-ending : goal.returns-in_default-ending
@@ -56,6 +56,6 @@ returns-in_default-ending g c = record {
   fed = c.in_default.not-Memory;
   acts = (ap (λ it. not (nat_eq (length it) (length c.out-waiting.result.now))) (c.out.ensures ∙ ap (λ host. (connection_at c.args.conn host).out) c.at-2.ensures) ∙ ap (λ it. not (nat_eq (length (connection_at c.args.conn (host_at c.args.conn c.serve-served.new.self)).out) (length it))) (c.out-waiting.ensures ∙ ap (λ host. (connection_at c.args.conn host).out) c.at.ensures));
   hears = told_after g.W.Watcher.noticed g.W.Watcher.showed (reports_of c.args.info.now.client c.args.conn (host_at c.args.conn c.serve-served.new.self)) (end_in_turn c.args.conn c.args.info.now c.args.self.now c.serve-served.result (host_at c.args.conn c.serve-served.new.self) c.serve-served.new.links) c.args.watcher.now c.report.new.watcher c.report.new.watcher (Ok tt) c.in_ok-report.ensures.told
-      (no_end g.W.Watcher.noticed g.W.Watcher.showed c.args.conn c.args.info.now c.args.self.now c.serve-served.result (host_at c.args.conn c.serve-served.new.self) c.serve-served.new.links c.report.new.watcher (sym (ending_is c.args.conn (host_at c.args.conn c.serve-served.new.self) c.serve-served.result c.phase.result c.ending_of-ending.result c.ending_of-ending.ensures (c.phase.ensures ∙ ap (λ host. phase_of (state_at c.args.conn host)) c.at-3.ensures)) ∙ none_found c.ending_of-ending.result c.in_default-ending.not-Some));
-  becomes = ((core_is c.args.self.now c.report.new.hosts (with_host c.args.conn (reported c.args.conn (host_at c.args.conn c.serve-served.new.self)) c.args.self.now.hosts) c.serve-served.new.links c.set.new.self (slice_set c.args.self.now.infos c.args.conn (Some (info_after c.args.conn (host_at c.args.conn c.serve-served.new.self) c.args.info.now))) (reported_hosts c.args.conn c.args.self.now.hosts c.serve-served.new.self c.report.new.hosts _ c.serve-served.ensures.others c.in_ok-report.ensures.others c.in_ok-report.ensures.taken) (c.set.ensures ∙ ap (λ it. slice_set c.args.self.now.infos c.args.conn (Some it)) c.in_ok-report.ensures.info)) ∙ ap (λ it. given_back_if it c.args.conn (info_after c.args.conn (host_at c.args.conn c.serve-served.new.self) c.args.info.now) (core_reported c.args.conn c.args.info.now c.args.self.now (host_at c.args.conn c.serve-served.new.self) c.serve-served.new.links)) (sym (sym (ending_is c.args.conn (host_at c.args.conn c.serve-served.new.self) c.serve-served.result c.phase.result c.ending_of-ending.result c.ending_of-ending.ensures (c.phase.ensures ∙ ap (λ host. phase_of (state_at c.args.conn host)) c.at-3.ensures)) ∙ none_found c.ending_of-ending.result c.in_default-ending.not-Some)));
+      (no_end g.W.Watcher.noticed g.W.Watcher.showed c.args.conn c.args.info.now c.args.self.now c.serve-served.result (host_at c.args.conn c.serve-served.new.self) c.serve-served.new.links c.report.new.watcher (sym (ending_is c.args.conn c.args.info.now c.serve-served.result (host_at c.args.conn c.serve-served.new.self) c.report.new.info c.ending_of-ending.result c.ending_of-ending.ensures c.in_ok-report.ensures.info) ∙ none_found c.ending_of-ending.result c.in_default-ending.not-Some));
+  becomes = ((core_is c.args.self.now c.report.new.hosts (with_host c.args.conn (reported c.args.conn (host_at c.args.conn c.serve-served.new.self)) c.args.self.now.hosts) c.serve-served.new.links c.set.new.self (slice_set c.args.self.now.infos c.args.conn (Some (info_after c.args.conn (host_at c.args.conn c.serve-served.new.self) c.args.info.now))) (reported_hosts c.args.conn c.args.self.now.hosts c.serve-served.new.self c.report.new.hosts _ c.serve-served.ensures.others c.in_ok-report.ensures.others c.in_ok-report.ensures.taken) (c.set.ensures ∙ ap (λ it. slice_set c.args.self.now.infos c.args.conn (Some it)) c.in_ok-report.ensures.info)) ∙ ap (λ it. given_back_if it c.args.conn (info_after c.args.conn (host_at c.args.conn c.serve-served.new.self) c.args.info.now) (core_reported c.args.conn c.args.info.now c.args.self.now (host_at c.args.conn c.serve-served.new.self) c.serve-served.new.links)) (sym (sym (ending_is c.args.conn c.args.info.now c.serve-served.result (host_at c.args.conn c.serve-served.new.self) c.report.new.info c.ending_of-ending.result c.ending_of-ending.ensures c.in_ok-report.ensures.info) ∙ none_found c.ending_of-ending.result c.in_default-ending.not-Some)));
 }

@@ -1,12 +1,11 @@
 //! A terminal with the socket of its connection.
-ghost use Rattle.std.specs.Prelude.{◌≡◌, length};
+ghost use Rattle.std.specs.Prelude.{length};
 ghost use Rattle.host_core.specs.Serves.{GotWithin};
-ghost use Rattle.world3270.specs.model.ByteSteps.{answer_pressed};
 
 use codes3270::Model;
 use host_core::{LinkRead, LinkWrite};
 use job_streams::{CHUNK, Fault};
-use keyboard::{Key, Pressed};
+use keyboard::Key;
 use mio::net::TcpStream;
 use socket_links::{read_once, write_once};
 use std::alloc::{AllocError, Global};
@@ -14,17 +13,6 @@ use std::net::SocketAddr;
 use term_core::{TermPhase, Terminal};
 use tn3270e_msg::{Lu, Stop};
 use world3270::Stepped;
-
-/// The answer to the event of a key, from the keyboard's answer.
-fn pressed_as(pressed: Pressed) -> Stepped
-    ensures { result ≡ answer_pressed pressed }
-{
-    match pressed {
-        Pressed::Done => Stepped::Done,
-        Pressed::Refused(why) => Stepped::Refused(why),
-        Pressed::Send(_) => Stepped::Done,
-    }
-}
 
 /// A terminal, and the socket of its connection if there is one.
 #[derive(Drop)]
@@ -72,7 +60,7 @@ impl SocketTerminal {
     /// Presses a key, and returns the answer to that event.
     pub(crate) fn press(&mut self, key: Key) -> Result<Stepped, Fault> {
         match self.terminal.press(key) {
-            Ok(pressed) => Ok(pressed_as(pressed)),
+            Ok(pressed) => Ok(Stepped::of_key(pressed)),
             Err(_) => Err(Fault::NoMemory),
         }
     }

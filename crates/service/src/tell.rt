@@ -1,9 +1,7 @@
 //! The job `tell`: sends a command to a running service over its control socket, and prints the answer.
 //!
-//! Crate `control` has the lines of commands and answers; `service` has the other end. No contract says what goes over
-//! the socket.
-#![tactic(auto)]
-
+//! Crate `control` has the lines of commands and answers; `control_socket` is the other end. No contract says what goes
+//! over the socket.
 use control::{ANSWER_LIMIT, Answer, Command, LineBuffer, LineFault, Status};
 use job_streams::{
     CHUNK, CountedReader, CountedWriter, Fault, Sink, Source, read_chunk, report_and_exit_code,
