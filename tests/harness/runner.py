@@ -115,9 +115,12 @@ def failure_of(suite: str, name: str, at: Place, error: BaseException) -> Failur
 
 
 def run_case(suite: str, case: Case) -> Failure | object:
-    """What is wrong with a case, or what it answers: a text is a note."""
+    """What is wrong with a case, or what isn't installed for it, or what it answers: a text is a
+    note."""
     try:
         return case.run()
+    except NotHere as missing:
+        return missing
     except Exception as error:
         return failure_of(suite, case.name, case.at, error)
 
@@ -135,7 +138,13 @@ def run_part(part: Part, words: list[str]) -> Outcome:
             results = list(pool.map(lambda it: run_case(part.suite, it), cases))
         outcome.failures = [it for it in results if isinstance(it, Failure)]
         outcome.notes = [f"{part.suite}: {it}" for it in results if isinstance(it, str)]
+        outcome.notes += [
+            f"{part.suite}: {case.name}: not run, since {it}"
+            for case, it in zip(cases, results)
+            if isinstance(it, NotHere)
+        ]
         outcome.passed = len(results) - len(outcome.failures)
+        outcome.passed -= sum(isinstance(it, NotHere) for it in results)
         if not (words or part.index or outcome.passed or outcome.failures):
             raise BadCase("has no case")
     except NotHere as missing:

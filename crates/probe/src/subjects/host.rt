@@ -12,7 +12,7 @@ use crate::subjects::Made;
 use crate::subjects::cells::put_belief;
 use crate::subjects::links::Link;
 use crate::subjects::panel::set_value;
-use crate::talk::{Answer, Done, Fault, Words, bytes_of};
+use crate::talk::{Answer, Done, Fault, Words, bytes_of, named};
 use applications::application_of;
 use codes3270::aid_byte;
 use host_core::{
@@ -26,8 +26,10 @@ static TERMINALS: [Terminals; 3] = [Terminals::Waiting, Terminals::Any, Terminal
 
 /// What a host serves: the kind of terminals, and the panels of a text, which is one word of bytes.
 pub(crate) fn read_service(words: &mut Words<'_>) -> Result<(Terminals, PanelSet, Pool), Fault> {
-    let (alloc, terminals) = (words.alloc, words.named(&TERMINALS)?);
-    match application_of(alloc, words.text()?) {
+    let (alloc, name) = (words.alloc, words.word()?);
+    let text = words.text()?;
+    let terminals = named(alloc, &TERMINALS, name)?;
+    match application_of(alloc, text) {
         Ok((panels, pool)) => Ok((terminals, panels, pool)),
         Err(job_streams::Fault::NoMemory) => Err(Fault::NoMemory(AllocError)),
         Err(_) => Err(Fault::Line),
