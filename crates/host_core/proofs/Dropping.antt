@@ -15,7 +15,7 @@ use Rattle.panels.specs.declared.message.Message.{Message}
 use Rattle.panels.specs.declared.panel.Field.{Field}
 use Rattle.panels.specs.declared.panel.Value.{Value}
 use Rattle.host_core.specs.Acts.{learned, text_known, values_shown}
-use Rattle.host_core.specs.Application.{Application, application_of, no_panel, panel_at}
+use Rattle.host_core.specs.Application.{Application, no_panel, panel_at}
 use Rattle.host_core.specs.Choices.{values_with}
 use Rattle.host_core.specs.Does.{Grow}
 use Rattle.host_core.specs.Session.{Session}

@@ -1,5 +1,5 @@
 -- A number that is settled stays so, and keeps its LU until it ends.
-use Rattle.std.proofs.Common.{◌≡◌, ◌≢◌, ◌∙◌, ◌&&◌, ℕ, zero, suc, Bool, true, false, List, [], ◌∷◌, Option, Some, None, Result, Ok, Err, drop, map, refl, sym, ap, subst, set, get_or, if◌then◌else◌}
+use Rattle.std.proofs.Common.{◌≡◌, ◌∙◌, ◌&&◌, ℕ, zero, suc, Bool, true, false, List, [], ◌∷◌, Option, Some, None, Result, Ok, Err, drop, map, refl, sym, ap, subst, set, get_or, if◌then◌else◌}
 use Rattle.std.specs.Prelude.{slice_get}
 use Rattle.std.specs.Str.{bytes_eq}
 use Rattle.std.proofs.lemmas.List.{get_or-set_other}
@@ -20,7 +20,7 @@ use Rattle.shadow.specs.Exactness.{is_erase}
 use Rattle.telnet_wire.specs.Items.{WireItem, Record, Opt, Sub, Other}
 use Rattle.telnet_wire.specs.Reading.{Rest}
 use Rattle.tn3270e_msg.specs.HostTable.{granted, host_transition}
-use Rattle.tn3270e_msg.specs.Talk.{Talk, Comes, follow, closing}
+use Rattle.tn3270e_msg.specs.Talk.{Talk, Comes, follow}
 use Rattle.tn3270e_msg.specs.declared.cause.Cause.{Cause}
 use Rattle.tn3270e_msg.specs.declared.cause.Cause.TheVariants.{BadInbound, Negative}
 use Rattle.tn3270e_msg.specs.declared.cause.Fed.{Fed}
@@ -42,16 +42,16 @@ use Rattle.host_core.specs.declared.links.LinkWrite.{LinkWrite}
 use Rattle.host_core.specs.declared.question.Answer.{Answer}
 use Rattle.host_core.specs.declared.question.Ticket.{Ticket}
 use Rattle.host_core.specs.declared.serving.Served.{Served}
-use Rattle.host_core.specs.Bytes.{ConnectionAndPool, TakesByte, TakesBytes, goes_on, completes, breaks, service_after, stepped}
+use Rattle.host_core.specs.Bytes.{ConnectionAndPool, TakesByte, TakesBytes, goes_on, completes, breaks, service_after}
 use Rattle.host_core.specs.Feeds.{connection_and_pool_at}
 use Rattle.host_core.specs.Items.{TakesItem, TakesRecord, TakesRecordIf, TakesData, Talks, no_header, dropped, data_is, answered as response_is, hears as data_hears, is_second_key, no_data}
 use Rattle.host_core.specs.Messages.{Verdict}
-use Rattle.host_core.specs.OneNumber.{IsSettled, KeepsLu, ChangesOne}
+use Rattle.host_core.specs.OneNumber.{KeepsLu, ChangesOne}
 use Rattle.host_core.specs.Rejections.{lu_asked}
 use Rattle.host_core.specs.Session.{Session, Pending, is_agreed}
 use Rattle.host_core.specs.Sound.{OthersHold}
-use Rattle.host_core.specs.State.{Service, Connection, Host, connection_at, lu_of, session_at, state_at, unused, with_connection, with_reports}
-use Rattle.host_core.specs.Takes.{Answers, HostStep, believed, buffer_came, buffer_heard, closed_by, data_came, freed_if, hears, if_answers, key_came, key_data_came, may_have_changed, out_of_turn, quiet, read_verdict_came, replied, response_came, rule_broken_by, second_key, second_key_data, talked, talked_on, unless_broken, verdict_came, write_refused, refused}
+use Rattle.host_core.specs.State.{Service, Connection, Host, connection_at, session_at, state_at, unused, with_connection, with_reports}
+use Rattle.host_core.specs.Takes.{Answers, HostStep, believed, buffer_came, buffer_heard, closed_by, data_came, freed_if, hears, if_answers, key_came, key_data_came, may_have_changed, out_of_turn, quiet, read_verdict_came, response_came, rule_broken_by, second_key, second_key_data, talked, talked_on, unless_broken, verdict_came, write_refused, refused}
 use Rattle.host_core.specs.declared.turn.Turn.{Turn}
 use Rattle.host_core.specs.declared.turn.Turn.TheVariants as whose
 use Rattle.host_core.specs.declared.turn_reason.TurnReason.{TurnReason}

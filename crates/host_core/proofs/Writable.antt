@@ -1,5 +1,5 @@
 -- What panels ask for are screens, each cell of which can hold what is wanted of it, where panels and values are of characters.
-use Rattle.std.proofs.Common.{◌≡◌, ◌==◌, nat_lt, ◌≤◌, ◌-◌, ◌+◌, arith, ℕ, zero, suc, Bool, true, false, not, Option, None, Some, List, [], ◌∷◌, ◌++◌, map, refl, IfSome, IsTrue, if◌then◌else◌}
+use Rattle.std.proofs.Common.{◌≡◌, ◌==◌, nat_lt, ◌≤◌, ◌-◌, ◌+◌, arith, ℕ, zero, suc, Bool, true, false, not, Option, None, Some, List, [], ◌∷◌, map, refl, IfSome, IsTrue, if◌then◌else◌}
 use Rattle.std.specs.Prelude.{⊤, codes, slice_get, slice_index_or, option_map, unwrap_or}
 use Rattle.std.specs.List.{All, range_with_len}
 use Rattle.std.specs.Option.{option_or, option_map_or}

@@ -1,5 +1,5 @@
 -- What a report has, from the faults that are listed and those that are reported.
-use Rattle.std.proofs.Common.{◌≡◌, ◌⊎◌, ◌↔◌, ◌++◌, ◌∙◌, ◌+◌, ◌<◌, ◌≤◌, length, slice_index_or, inl, inr, map, ℕ, zero, suc, List, [], ◌∷◌, Bool, true, false, Option, None, Some, sym, subst, refl, ap, arith, cond}
+use Rattle.std.proofs.Common.{◌≡◌, ◌⊎◌, ◌++◌, ◌∙◌, ◌+◌, ◌<◌, ◌≤◌, length, slice_index_or, inl, inr, map, ℕ, zero, suc, List, [], ◌∷◌, Bool, true, false, Option, None, Some, sym, subst, refl, ap, arith, cond}
 use Rattle.std.specs.Prelude.{All, Contains, IsPermutation, filter}
 use Rattle.std.proofs.lemmas.List.Elements.{All-append, All-cons, All-push, Contains-append_left, Contains-get_or, Contains-push}
 use Rattle.std.proofs.lemmas.List.Sorted.{All-permutation, Contains-permutation}
@@ -25,7 +25,7 @@ use Rattle.panel_check.specs.declared.report.Cause.TheVariants as cause
 use Rattle.panel_check.specs.declared.report.Finding.{Finding}
 use Rattle.panel_check.specs.Causes.{IsFaultIn, IsFaultOf, IsOfText, IsStated, IsStatedFaultIn, IsStatedFaultOf, in_table}
 use Rattle.panel_check.specs.Listed.{AddsOf, AreCausesOf, AreReported, cause_of, causes_of, warnings}
-use Rattle.panel_check.specs.Report.{HasCause, HasFirstCause, IsFaultlessIfAccepted, IsReportOn, ReportsFaults, fault_count, is_fault}
+use Rattle.panel_check.specs.Report.{HasCause, IsReportOn, fault_count, is_fault}
 use Rattle.panel_check.specs.Verdict.{IsAccepted, IsFirstCause, IsFirstIn}
 
 -- ---- finding by finding

@@ -12,8 +12,9 @@
 //! let page = report.page(alloc, "panels.toml")?;
 //! ```
 //!
-//! `panels::Draft` lists the faults of a text's tables, `lu_pool::faults` those of its LUs; this crate finds their words
-//! and lines. `specs/Report`: a report has each of these faults, and no other. Lines, words and warnings are only tested.
+//! `panels::Draft` lists the faults of a text's tables, `lu_pool::faults` those of its LUs; this crate finds words for
+//! them, and their lines. `specs/Report`: a report has each of these faults, and no other. That lines, words and
+//! warnings are right is only tested.
 #![tactic(auto)]
 
 mod layout;

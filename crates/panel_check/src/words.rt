@@ -180,7 +180,7 @@ impl<'s, 'a> Words<'s, 'a> {
         }
     }
 
-    /// Says that a key that must be there is absent, or that its value has another type than the rule says, if it is so.
+    /// Says that a key that must be there is absent, or that its value has another type than the rule says, if so.
     fn breach(&mut self, rule: &KeyRule, table: &Table) -> Done {
         let (key, kind, is_missing) = (rule.key(), rule.kind(), rule.is_missing_in(table));
         match (self.part, key, table.get(key)) {

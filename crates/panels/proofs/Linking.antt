@@ -1,5 +1,5 @@
 -- The panels and fields that names stand for.
-use Rattle.std.proofs.Common.{◌≡◌, ◌<◌, ◌≤◌, ◌+◌, ◌*◌, ℕ, suc, List, [], ◌∷◌, Bor, Bool, true, false, cond, length, map, Option, Some, None, get_or, refl, ap, sym, ◌∙◌, subst, add-one, arith}
+use Rattle.std.proofs.Common.{◌≡◌, ◌<◌, ◌≤◌, ◌+◌, ◌*◌, ◌++◌, ℕ, suc, List, [], ◌∷◌, drop, Bor, Bool, true, false, cond, length, map, Option, Some, None, get_or, refl, ap, sym, ◌∙◌, subst, add-one, arith}
 use Rattle.std.specs.Prelude.{find, option_copied, slice_get, unwrap_or, MatchOption, Contains, All, IfSome, option_map, bytes_eq, if◌then◌else◌}
 use Rattle.std.specs.Option.{option_and_then, option_map_or}
 use Rattle.std.proofs.lemmas.Bool.{false≢true}
@@ -19,7 +19,7 @@ use Rattle.panels.specs.Building.{IsTextIn, AreTargetsOf}
 use Rattle.panels.specs.Defines.{IsFieldOf, IsEachOf, IsPanelNamed, IsCursorBy, IsOtherwiseBy, IsTargetBy, fields_before, text_at_key}
 use Rattle.panels.specs.Passes.{IsFaultless}
 use Rattle.panels.proofs.Sound.{few_panels, few_fields, before_few, cursor_is_there, otherwise_is_there, target_is_there}
-use Rattle.panels.proofs.Building.{AreBuilt}
+use Rattle.panels.proofs.Building.{AreBuilt, all_done}
 use Rattle.panels.proofs.Dividing.{field_at, value_at}
 use Rattle.panels.proofs.Faultless.{on_screen, text_shape, field_shape, there_in}
 
@@ -184,10 +184,21 @@ otherwise_found draft panel name o clean has named found =
 pub record AreKeyNames (names : List (Bor (List ℕ))) : Type 0 where
   pub are : map (λ name. name.now) names ≡ key_names
 
-pub key_at : (names : List (Bor (List ℕ))) → AreKeyNames names → (i : ℕ) (d : Bor (List ℕ)) → i < length key_names → slice_get key_names i ≡ Some ((get_or names i d).now)
-key_at names same i d fits =
-    let within : i < length names = subst (λ n. i < n) (ap length (sym same.are) ∙ length-map names (λ name. name.now)) fits in
+pub key_count : (names : List (Bor (List ℕ))) → AreKeyNames names → length names ≡ length key_names
+key_count names same = sym (ap length (sym same.are) ∙ length-map names (λ name. name.now))
+
+pub key_at : (names : List (Bor (List ℕ))) → AreKeyNames names → (i : ℕ) (d : Bor (List ℕ)) → i < length names → slice_get key_names i ≡ Some ((get_or names i d).now)
+key_at names same i d within =
     subst (λ keys. slice_get keys i ≡ Some ((get_or names i d).now)) same.are (slice_get-map (λ name. name.now) names i ∙ ap (option_map (λ name. name.now)) (slice_get-get_or names i d within))
+
+by_name : (f : List ℕ → Bool) (names : List (Bor (List ℕ))) → map (λ key. f key.now) names ≡ map f (map (λ key. key.now) names)
+by_name f [] = refl
+by_name f (key ∷ names) = ap (λ answers. f key.now ∷ answers) (by_name f names)
+
+-- the answers are for all keys once none is left
+pub asked_all : (f : List ℕ → Bool) (names : List (Bor (List ℕ))) → AreKeyNames names → (k : ℕ) (asked : List Bool) → length names ≤ k
+    → map (λ key. f key.now) names ≡ asked ++ map (λ key. f key.now) (drop k names) → asked ≡ map f key_names
+asked_all f names same k asked past is = all_done (λ key. f key.now) _ asked names k past is ∙ by_name f names ∙ ap (map f) same.are
 
 -- where keys lead, once for each of their names
 pub targets_are : (panels : List DraftPanel) (panel : DraftPanel) (names : List (List ℕ)) (n : ℕ) (targets : List (Option ℕ)) → n ≡ length names

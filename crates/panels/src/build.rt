@@ -10,7 +10,7 @@ ghost use Rattle.panels.specs.Building.{IsTextIn, AreTargetsOf};
 use crate::characters::Characters;
 use crate::draft::{Draft, ItemDraft, PanelDraft};
 use crate::name::Name;
-use crate::names::{KEY_NAMES, is_among};
+use crate::names::{is_among, key_names};
 use crate::panel::{Content, Field, Panel, TextItem, Value};
 use crate::panel_set::PanelSet;
 use codes3270::Addr;
@@ -230,14 +230,14 @@ impl<'a> Draft<'a> {
         self.panel_named(named.1)
     }
 
-    /// The panel that each key of `KEY_NAMES` leads to, in this order.
+    /// The panel that each key of [`key_names`] leads to, in this order.
     fn targets(&self, alloc: Global, panel: &PanelDraft) -> Result<Vec<Option<usize>>, AllocError>
         requires faultless { IsFaultless self.now }
         requires there { Contains self.now.panels panel.now }
         ensures { IfOk result (λ targets. AreTargetsOf self.now.panels panel.now key_names targets.items) }
     {
         let mut targets = Vec::new(alloc);
-        for key in &KEY_NAMES {
+        for key in key_names() {
             targets.push(self.target(panel, *key))?;
         }
         Ok(targets)
@@ -261,12 +261,12 @@ impl<'a> Draft<'a> {
     }
 }
 
-/// Whether the application decides on each key of `KEY_NAMES`, in this order.
+/// Whether the application decides on each key of [`key_names`], in this order.
 fn asked_keys(alloc: Global, panel: &PanelDraft) -> Result<Vec<bool>, AllocError>
     ensures { IfOk result (λ asked. asked.items ≡ map (λ name. list_any (bytes_eq name) panel.now.asks) key_names) }
 {
     let mut asked = Vec::new(alloc);
-    for key in &KEY_NAMES {
+    for key in key_names() {
         asked.push(is_among(panel.asks.as_slice(), *key))?;
     }
     Ok(asked)

@@ -33,7 +33,7 @@ pub(crate) fn is_name(part: Location, name: &str) -> bool
     (1..=16).contains(&name.len()) && name.bytes().all(|letter| is_letter(part, letter))
 }
 
-pub(crate) static KEY_NAMES: [&str; 29] = [
+static KEY_NAMES: [&str; 29] = [
     "enter", "clear", "pa1", "pa2", "pa3", "pf1", "pf2", "pf3", "pf4", "pf5", "pf6", "pf7", "pf8",
     "pf9", "pf10", "pf11", "pf12", "pf13", "pf14", "pf15", "pf16", "pf17", "pf18", "pf19", "pf20",
     "pf21", "pf22", "pf23", "pf24",
@@ -53,7 +53,7 @@ pub fn key_names() -> &'static [&'static str]
 fn is_asked_name(name: &str) -> bool
     ensures { result ≡ is_asked_name name.now }
 {
-    is_among(&KEY_NAMES, name) || name == CONNECT
+    is_among(key_names(), name) || name == CONNECT
 }
 
 /// Whether a name occurs twice.
@@ -107,7 +107,7 @@ impl<'a> PanelDraft<'a> {
     fn leads_from_no_key(&self) -> bool
         ensures { result ≡ list_any (λ key. not (is_key_name key.0)) self.now.keys }
     {
-        self.keys.iter().any(|key| !is_among(&KEY_NAMES, key.0))
+        self.keys.iter().any(|key| !is_among(key_names(), key.0))
     }
 
     /// Whether its `asks` have a name that is neither of a key nor `connect`.

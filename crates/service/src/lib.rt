@@ -1,5 +1,5 @@
-//! The jobs `host` and `serve`: a host over sockets, with its log, its metrics and its application. Also the job `tell`,
-//! which sends a command to `serve`.
+//! The jobs `host` and `serve`: a host over sockets, with its log, metrics and application. Also the job `tell`, which
+//! sends a command to `serve`.
 //!
 //! The connections are those of crate `server`. In each turn `serve` also applies time limits, asks the application
 //! and obeys the control socket, and serves clients of the metrics port.

@@ -1,11 +1,7 @@
-use Rattle.std.proofs.Common.{subst, ◌≢◌}
-use Rattle.std.specs.Prelude.{◌↔◌}
-use Rattle.lu_pool.specs.Pool.{Holds}
 use Rattle.host_core.specs.Reserving.{reserver}
 use Rattle.host_core.specs.State.{Host}
 use Rattle.host_core.proofs.Hosts.{gave_others}
 use Rattle.host_core.proofs.Reserving.{reserving_sound}
-use Rattle.host_core.proofs.OneNumber.{nothing_changed}
 use Rattle.host_core.proofs.host.Host.release.Goals as goal
 
 pub invariant_of-self : goal.invariant_of-self

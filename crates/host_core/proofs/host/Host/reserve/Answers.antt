@@ -5,7 +5,7 @@ use Rattle.host_core.specs.Reserving.{reserver}
 use Rattle.host_core.specs.Sound.{OthersHold}
 use Rattle.host_core.specs.State.{Host}
 use Rattle.host_core.proofs.Hosts.{gave_others}
-use Rattle.host_core.proofs.Reserving.{asked_holders, asked_others, asked_pool, asked_taken, others_on, reserving_sound}
+use Rattle.host_core.proofs.Reserving.{asked_holders, asked_others, asked_taken, others_on, reserving_sound}
 use Rattle.host_core.proofs.host.Host.reserve.Goals as goal
 
 pub ask-requires : goal.ask-requires

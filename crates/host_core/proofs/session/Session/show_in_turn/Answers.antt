@@ -1,4 +1,4 @@
-use Rattle.std.proofs.Common.{◌≡◌, ◌∙◌, sym, Bool, Option}
+use Rattle.std.proofs.Common.{◌∙◌, sym, Bool}
 use Rattle.std.specs.Prelude.{Result, Ok, Err, OnErr}
 use Rattle.host_core.specs.Acts.{done}
 use Rattle.host_core.specs.Application.{Application, application_of}
