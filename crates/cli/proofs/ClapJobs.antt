@@ -17,7 +17,7 @@ use Rattle.clap.specs.declared.parser.matches.ArgMatches.{ArgMatches}
 use Rattle.clap.proofs.OnLiterals.{clap_on_literals}
 use Rattle.cli.specs.Topics.{name_of, options_of, row_of}
 use Rattle.cli.specs.Words.{IsJobOf, program, job_by_kind, job_shape, job_taken, option_rule}
-use Rattle.cli.specs.ClapCommands.{AddsJobs, AddsArguments, IsCommand, IsJob, IsArgument, IsMatch, MayFail}
+use Rattle.cli.specs.ClapCommands.{AddsJob, AddsJobs, AddsArguments, IsCommand, IsJob, IsArgument, IsMatch, MayFail}
 use Rattle.jobs.specs.declared.job.Job.{Job}
 use Rattle.jobs.specs.declared.job.HelpTopic.{HelpTopic}
 use Rattle.cli.specs.declared.job_table.JobOption.{JobOption}
@@ -68,7 +68,8 @@ with_jobs app (shape ∷ shapes) = with_jobs (with_subcommand app shape) shapes
 pub all_gained : (app : App) (shapes : List Shape) (old new : Command) → IsCommand app old → AddsJobs shapes old new → IsCommand (with_jobs app shapes) new
 all_gained app [] old new old_is adds = subst (IsCommand app) adds old_is
 all_gained app (shape ∷ shapes) old new old_is adds =
-    all_gained (with_subcommand app shape) shapes adds.1 new (gains app shape old adds.0 adds.1 old_is adds.2 adds.3) adds.4
+    let job = adds.1 in
+    all_gained (with_subcommand app shape) shapes adds.0 new (gains app shape old job.0 adds.0 old_is job.1 job.2) adds.2
 
 -- ---- lists of words, from a place on
 
@@ -81,9 +82,9 @@ module _ {X : Type 0} (rule_given : X → Rule) (given : List X) (place : ℕ) w
   no_argument_more above job = rw (drop_all place given above) refl
 
 module _ {X : Type 0} (shape_given : X → Shape) (given : List X) (place : ℕ) where
-  pub job_more : (other : X) → place < length given → (job old mid new : Command) → IsJob (shape_given (get_or given place other)) job
-      → AddsSubcommand old job mid → AddsJobs (map shape_given (drop (place + 1) given)) mid new → AddsJobs (map shape_given (drop place given)) old new
-  job_more other below job old mid new is adds others = rw (drop_more given place other below) (job, mid, is, adds, others)
+  pub job_more : (other : X) → place < length given → (old mid new : Command) → AddsJob (shape_given (get_or given place other)) old mid
+      → AddsJobs (map shape_given (drop (place + 1) given)) mid new → AddsJobs (map shape_given (drop place given)) old new
+  job_more other below old mid new adds others = rw (drop_more given place other below) (mid, adds, others)
 
   pub no_job_more : length given ≤ place → (command : Command) → AddsJobs (map shape_given (drop place given)) command command
   no_job_more above command = rw (drop_all place given above) refl

@@ -30,11 +30,14 @@ AddsArguments [] old new = old ≡ new
 AddsArguments (rule ∷ rules) old new = (argument : Arg) × (mid : Command) × IsArgument rule argument
     × AddsArg old argument mid × AddsArguments rules mid new
 
+-- holds if a job of this shape is added to a command
+abbrev pub AddsJob : Shape → Command → Command → Type 0
+AddsJob size old new = (job : Command) × IsJob size job × AddsSubcommand old job new
+
 -- holds if jobs of these shapes are added to a command, one after another
 abbrev pub AddsJobs : List Shape → Command → Command → Type 0
 AddsJobs [] old new = old ≡ new
-AddsJobs (size ∷ shapes) old new = (job mid : Command) × IsJob size job × AddsSubcommand old job mid
-    × AddsJobs shapes mid new
+AddsJobs (size ∷ shapes) old new = (mid : Command) × AddsJob size old mid × AddsJobs shapes mid new
 
 -- holds if clap accepts the words, and parses them as these matches
 pub record IsMatch (words : List (List ℕ)) (matches : ArgMatches) : Type 0 where

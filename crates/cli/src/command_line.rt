@@ -8,7 +8,7 @@ ghost use Rattle.clap.specs.Walk.{first_of, rows_of};
 ghost use Rattle.jobs.specs.OptionValues.{endpoint_of, is_same_port};
 ghost use Rattle.cli.specs.Topics.{row_of};
 ghost use Rattle.cli.specs.Words.{HasNoJob, IsJobOf, program, job_by, job_by_kind, job_named, job_of, given_address, given_application, given_command, given_control, given_limits, given_live_options, given_lu, given_metrics, given_model, given_port, given_reply_time, given_script_terminals, given_seconds, given_service, given_service_port, given_sessions, given_terminals, given_topic, given_tty, given_turns, given_web, ends_by_dashes, is_given, job_shape, job_taken, option_rule, sound_service, topic_of, terminals_by};
-ghost use Rattle.cli.specs.ClapCommands.{AddsArguments, AddsJobs, IsArgument, IsCommand, IsJob, IsMatch, MayFail};
+ghost use Rattle.cli.specs.ClapCommands.{AddsArguments, AddsJob, AddsJobs, IsArgument, IsCommand, IsJob, IsMatch, MayFail};
 
 use crate::help::VERSION;
 use crate::job_table::{JOBS, JobOption, ValueKind, name_of, options_of, topic_named};
@@ -63,6 +63,17 @@ fn job<'a>(alloc: Global, topic: HelpTopic) -> Result<Command<'a>, AllocError>
     with_options(alloc, bare, options_of(topic))
 }
 
+/// A command with this job as a subcommand.
+fn with_job<'a>(
+    alloc: Global,
+    command: Command<'a>,
+    topic: HelpTopic,
+) -> Result<Command<'a>, AllocError>
+    ensures { IfOk result (AddsJob (job_shape topic) command.entry) }
+{
+    command.subcommand(job(alloc, topic)?)
+}
+
 /// A command with these jobs as subcommands.
 fn with_jobs<'a>(
     alloc: Global,
@@ -73,7 +84,7 @@ fn with_jobs<'a>(
 {
     let mut command = command;
     for topic in jobs {
-        command = command.subcommand(job(alloc, *topic)?)?;
+        command = with_job(alloc, command, *topic)?;
     }
     Ok(command)
 }

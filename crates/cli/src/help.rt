@@ -45,83 +45,107 @@ struct JobText {
     notes: &'static str,
 }
 
+static SCRIPT_TEXT: JobText = JobText {
+    summary: "serve panels to terminals, which do commands; this is the job if no word is given",
+    purpose: "Serve panels to four terminals, of models 2 to 5, which do commands, and print what their \
+        operators see.",
+    notes: "\n\nINPUT is panels in TOML, a line %%, and commands, one a line.",
+};
+
+static SELFRUN_TEXT: JobText = JobText {
+    summary: "do the same over sockets",
+    purpose: "Serve panels to four terminals, of models 2 to 5, over sockets of this machine. The terminals do \
+        commands. Print what their operators see.",
+    notes: "\n\nINPUT is panels in TOML, a line %%, and commands, one a line.",
+};
+
+static SHOW_TEXT: JobText = JobText {
+    summary: "apply commands of the data stream, in hexadecimal, to a blank screen, and print it",
+    purpose: "Apply commands of the 3270 data stream to a blank screen, and print it.",
+    notes: "\n\nINPUT is commands, one a line: pairs of hexadecimal digits, and blanks; no tab, CR or comment.",
+};
+
+static CHECK_TEXT: JobText = JobText {
+    summary: "print every fault of a panel text",
+    purpose: "Print every fault of a panel text, and warnings, each with its line. Without FILE the text is \
+        standard input.",
+    notes: "\n\nFILE is panels in TOML. A line %% ends them.",
+};
+
+static HOST_TEXT: JobText = JobText {
+    summary: "serve panels to terminals that connect to 127.0.0.1, for a number of turns",
+    purpose: "Serve panels to terminals that connect to 127.0.0.1, for a number of turns.",
+    notes: "\n\nINPUT is panels in TOML.",
+};
+
+static SERVE_TEXT: JobText = JobText {
+    summary: "serve panels to terminals that connect, without end",
+    purpose: "Serve panels to terminals that connect, without end, and log each connection on standard error.",
+    notes: "\n\nOther SECONDS are 0 to 1000000; 0 is no limit.\nINPUT is panels in TOML.",
+};
+
+static TELL_TEXT: JobText = JobText {
+    summary: "send a command to a running service, and print its answer",
+    purpose: "Send a command to the service that has this control socket, and print its answer.",
+    notes: "\n\nCOMMAND is one of:\n  \
+        sessions         list the sessions\n  \
+        note LU|* TEXT   show TEXT in the last row of an LU's screen, or of each screen\n  \
+        drain [TEXT]     take no new session, show TEXT on each screen, and end after the last session\n  \
+        reload           read the panels again, for new sessions; old ones keep theirs\n  \
+        stop             end\n\
+        TEXT is one word: quote it. It has at most 131 characters.",
+};
+
+static TERM_TEXT: JobText = JobText {
+    summary: "be a terminal of the host at 127.0.0.1, and do commands",
+    purpose: "Be a terminal of the host at 127.0.0.1, and do commands.",
+    notes: "\n\nINPUT is commands, one a line.",
+};
+
+static OPERATE_TEXT: JobText = JobText {
+    summary: "be a terminal of a host, for an operator at a tty",
+    purpose: "Be a terminal of a host, for an operator at this tty. Start it by the script bin/operate \
+        [OPTION ..] [HOST:]PORT [LU].",
+    notes: "\n\nThe status row has the keyboard's lock, the LU and the cursor. ESC and ? show the keys; Ctrl-] \
+        ends the program.",
+};
+
+static WEB_TEXT: JobText = JobText {
+    summary: "be terminals of a host, for operators in browsers, without end",
+    purpose: "Serve a page that is a terminal at a host, at http://127.0.0.1:P/, and log each session on \
+        standard error. Each page is a session of its own.",
+    notes: "\n\nThe page of http://127.0.0.1:P/#model=4&lu=NAME has that model, 2 to 5, and asks for that LU.\n\
+        The page has buttons for all keys. Passwords cross the network as they are: put TLS and a sign-on \
+        before it.",
+};
+
+static HELP_TEXT: JobText = JobText {
+    summary: "print this text, or with a job's name the help of that job",
+    purpose: "Print the help of the program, or of a job.",
+    notes: "",
+};
+
+static VERSION_TEXT: JobText = JobText {
+    summary: "print the version",
+    purpose: "Print the version of the program.",
+    notes: "",
+};
+
 /// The help texts of a topic's job.
-fn text_of(topic: HelpTopic) -> JobText {
+fn text_of(topic: HelpTopic) -> &'static JobText {
     match topic {
-        HelpTopic::Script => JobText {
-            summary: "serve panels to terminals, which do commands; this is the job if no word is given",
-            purpose: "Serve panels to four terminals, of models 2 to 5, which do commands, and print what their \
-                operators see.",
-            notes: "\n\nINPUT is panels in TOML, a line %%, and commands, one a line.",
-        },
-        HelpTopic::Selfrun => JobText {
-            summary: "do the same over sockets",
-            purpose: "Serve panels to four terminals, of models 2 to 5, over sockets of this machine. The terminals do \
-                commands. Print what their operators see.",
-            notes: "\n\nINPUT is panels in TOML, a line %%, and commands, one a line.",
-        },
-        HelpTopic::Show => JobText {
-            summary: "apply commands of the data stream, in hexadecimal, to a blank screen, and print it",
-            purpose: "Apply commands of the 3270 data stream to a blank screen, and print it.",
-            notes: "\n\nINPUT is commands, one a line: pairs of hexadecimal digits, and blanks; no tab, CR or comment.",
-        },
-        HelpTopic::Check => JobText {
-            summary: "print every fault of a panel text",
-            purpose: "Print every fault of a panel text, and warnings, each with its line. Without FILE the text is \
-                standard input.",
-            notes: "\n\nFILE is panels in TOML. A line %% ends them.",
-        },
-        HelpTopic::Host => JobText {
-            summary: "serve panels to terminals that connect to 127.0.0.1, for a number of turns",
-            purpose: "Serve panels to terminals that connect to 127.0.0.1, for a number of turns.",
-            notes: "\n\nINPUT is panels in TOML.",
-        },
-        HelpTopic::Serve => JobText {
-            summary: "serve panels to terminals that connect, without end",
-            purpose: "Serve panels to terminals that connect, without end, and log each connection on standard error.",
-            notes: "\n\nOther SECONDS are 0 to 1000000; 0 is no limit.\nINPUT is panels in TOML.",
-        },
-        HelpTopic::Tell => JobText {
-            summary: "send a command to a running service, and print its answer",
-            purpose: "Send a command to the service that has this control socket, and print its answer.",
-            notes: "\n\nCOMMAND is one of:\n  \
-                sessions         list the sessions\n  \
-                note LU|* TEXT   show TEXT in the last row of an LU's screen, or of each screen\n  \
-                drain [TEXT]     take no new session, show TEXT on each screen, and end after the last session\n  \
-                reload           read the panels again, for new sessions; old ones keep theirs\n  \
-                stop             end\n\
-                TEXT is one word: quote it. It has at most 131 characters.",
-        },
-        HelpTopic::Term => JobText {
-            summary: "be a terminal of the host at 127.0.0.1, and do commands",
-            purpose: "Be a terminal of the host at 127.0.0.1, and do commands.",
-            notes: "\n\nINPUT is commands, one a line.",
-        },
-        HelpTopic::Operate => JobText {
-            summary: "be a terminal of a host, for an operator at a tty",
-            purpose: "Be a terminal of a host, for an operator at this tty. Start it by the script bin/operate \
-                [OPTION ..] [HOST:]PORT [LU].",
-            notes: "\n\nThe status row has the keyboard's lock, the LU and the cursor. ESC and ? show the keys; Ctrl-] \
-                ends the program.",
-        },
-        HelpTopic::Web => JobText {
-            summary: "be terminals of a host, for operators in browsers, without end",
-            purpose: "Serve a page that is a terminal at a host, at http://127.0.0.1:P/, and log each session on \
-                standard error. Each page is a session of its own.",
-            notes: "\n\nThe page of http://127.0.0.1:P/#model=4&lu=NAME has that model, 2 to 5, and asks for that LU.\n\
-                The page has buttons for all keys. Passwords cross the network as they are: put TLS and a sign-on \
-                before it.",
-        },
-        HelpTopic::Program | HelpTopic::Help => JobText {
-            summary: "print this text, or with a job's name the help of that job",
-            purpose: "Print the help of the program, or of a job.",
-            notes: "",
-        },
-        HelpTopic::Version => JobText {
-            summary: "print the version",
-            purpose: "Print the version of the program.",
-            notes: "",
-        },
+        HelpTopic::Script => &SCRIPT_TEXT,
+        HelpTopic::Selfrun => &SELFRUN_TEXT,
+        HelpTopic::Show => &SHOW_TEXT,
+        HelpTopic::Check => &CHECK_TEXT,
+        HelpTopic::Host => &HOST_TEXT,
+        HelpTopic::Serve => &SERVE_TEXT,
+        HelpTopic::Tell => &TELL_TEXT,
+        HelpTopic::Term => &TERM_TEXT,
+        HelpTopic::Operate => &OPERATE_TEXT,
+        HelpTopic::Web => &WEB_TEXT,
+        HelpTopic::Program | HelpTopic::Help => &HELP_TEXT,
+        HelpTopic::Version => &VERSION_TEXT,
     }
 }
 
@@ -185,6 +209,16 @@ impl fmt::Display for OptionList<'_> {
     }
 }
 
+/// Writes the help of the program.
+fn write_program<W: fmt::Write>(f: &mut fmt::Formatter<W>) -> fmt::Result {
+    f.write_str(BEFORE_JOBS)?;
+    for topic in &JOBS {
+        let (name, summary) = (name_of(*topic), text_of(*topic).summary);
+        write!(f, "\n  {name:<10}{summary}")?;
+    }
+    f.write_str(BEHIND_JOBS)
+}
+
 /// Prints as the help on a topic.
 #[derive(Clone, Copy, Drop)]
 struct Help(HelpTopic);
@@ -193,15 +227,11 @@ impl fmt::Display for Help {
     fn fmt<W: fmt::Write>(&self, f: &mut fmt::Formatter<W>) -> fmt::Result {
         let (name, options) = (name_of(self.0), options_of(self.0));
         if name.is_empty() {
-            f.write_str(BEFORE_JOBS)?;
-            for topic in &JOBS {
-                let (name, summary) = (name_of(*topic), text_of(*topic).summary);
-                write!(f, "\n  {name:<10}{summary}")?;
-            }
-            return f.write_str(BEHIND_JOBS);
+            return write_program(f);
         }
         let (usage, list, rest) = (Usage(options), OptionList(options), after_options(self.0));
-        let JobText { purpose, notes, .. } = text_of(self.0);
+        let text = text_of(self.0);
+        let (purpose, notes) = (text.purpose, text.notes);
         write!(
             f,
             "usage: panel3270 {name}{usage}{rest}\n\n{purpose}{list}{notes}"

@@ -55,6 +55,15 @@ fn read_socket<S: RawRead + RawWrite + Drop>(
     socket.read(came)
 }
 
+/// Begins a connection of the terminal, if there is none. Answers whether it did.
+fn begin(live: &mut LiveTerminal, wanted: Option<Lu>) -> Result<bool, Fault> {
+    if let TermPhase::Idle = live.phase() {
+        live.connect(wanted)?;
+        return Ok(true);
+    }
+    Ok(false)
+}
+
 /// How many bytes a read returned.
 fn got_count(answer: LinkRead) -> usize
     ensures { result ≡ got_count answer }
@@ -95,6 +104,15 @@ impl<S, K, T> marker::Model for OperatorSession<S, K, T> {
     } };
 }
 
+/// A fault if the host rejected the terminal's request for an LU, or if the terminal closed the connection.
+fn check(phase: TermPhase) -> Result<(), Fault> {
+    match phase {
+        TermPhase::Refused(reason) => Err(Fault::Live(LiveFault::LuRefused(reason))),
+        TermPhase::Closed(cause) => Err(Fault::Live(LiveFault::Closed(cause))),
+        TermPhase::Bound(_) | TermPhase::Idle | TermPhase::Talking => Ok(()),
+    }
+}
+
 /// Whether nothing was received or typed, and the tty shows the current screen.
 fn is_quiet(came: &[u8], typed: &[u8], stale: bool) -> bool
     ensures { result ≡ is_quiet came.now typed.now stale }
@@ -125,8 +143,7 @@ impl<S: RawRead + RawWrite + Drop, K: Drop, T: Drop> OperatorSession<S, K, T> {
     /// Begins a connection, if there is none. The terminal requests this LU, if one is given. NoMemory if memory is
     /// refused.
     pub fn connect(&mut self, socket: S, wanted: Option<Lu>) -> Result<(), Fault> {
-        if let TermPhase::Idle = self.live.phase() {
-            self.live.connect(wanted)?;
+        if begin(&mut self.live, wanted)? {
             self.socket.open(socket);
             self.stale = true;
         }
@@ -181,7 +198,7 @@ impl<S: RawRead + RawWrite + Drop, K: Drop, T: Drop> OperatorSession<S, K, T> {
         Ok(())
     }
 
-    /// A fault if the host rejected the terminal's request for an LU, or if the terminal closed the connection.
+    /// Notes whether the terminal is bound, and checks its phase.
     fn check_phase(&mut self) -> Result<(), Fault>
         ensures { OnOk result (self.new ≡ record self.old {
           was_bound = self.old.was_bound || is_bound (phase_of self.old.live.seat.terminal.link);
@@ -189,13 +206,7 @@ impl<S: RawRead + RawWrite + Drop, K: Drop, T: Drop> OperatorSession<S, K, T> {
     {
         let phase = self.live.phase();
         self.was_bound |= phase.is_bound();
-        match phase {
-            TermPhase::Refused(reason) => Err(Fault::Live(LiveFault::LuRefused(reason))),
-            TermPhase::Closed(cause) => Err(Fault::Live(LiveFault::Closed(cause))),
-            TermPhase::Bound(_) => Ok(()),
-            TermPhase::Idle => Ok(()),
-            TermPhase::Talking => Ok(()),
-        }
+        check(phase)
     }
 
     /// Takes a turn of the live terminal, and appends what draws it.
@@ -335,6 +346,14 @@ impl<S: RawRead + RawWrite + Drop, K: Source + Drop, T: Sink + Drop> OperatorSes
 
 // ---- with a socket and a tty
 
+/// Why a connection can't be established; None if that is under way.
+fn failure_of(socket: &TcpStream) -> Option<ErrorKind> {
+    match socket.take_error() {
+        Ok(None) => None,
+        Ok(Some(error)) | Err(error) => Some(error.kind()),
+    }
+}
+
 /// A host's address, the poll that waits for connections to it, and the connection that is being established, if any.
 /// Until it is established, the session has no connection, and the operator sees the last screen.
 #[derive(Drop)]
@@ -369,10 +388,17 @@ impl Dialer {
         if self.dialed.is_some() {
             return Ok(());
         }
-        let mut socket = match TcpStream::connect(net, self.address) {
-            Ok(socket) => socket,
-            Err(error) => return self.give_up(error.kind()),
-        };
+        match TcpStream::connect(net, self.address) {
+            Ok(socket) => {
+                self.watch(socket);
+                Ok(())
+            }
+            Err(error) => self.give_up(error.kind()),
+        }
+    }
+
+    /// Takes the connection that is being established, and lets the poll wait for it.
+    fn watch(&mut self, mut socket: TcpStream) {
         // As in the server: if one of these calls fails, the socket is used anyway.
         let _ = socket.set_nodelay(true);
         let interest = Interest::READABLE | Interest::WRITABLE;
@@ -381,7 +407,6 @@ impl Dialer {
             .registry()
             .register(&mut socket, Token(0), interest);
         self.dialed = Some(socket);
-        Ok(())
     }
 
     /// Continues without a connection if one was established before; otherwise CannotConnect.
@@ -402,10 +427,9 @@ impl Dialer {
             self.was_taken = true;
             return Ok(Some(socket));
         }
-        match socket.take_error() {
-            Ok(None) => self.dialed = Some(socket),
-            Ok(Some(error)) => self.give_up(error.kind())?,
-            Err(error) => self.give_up(error.kind())?,
+        match failure_of(&socket) {
+            Some(kind) => self.give_up(kind)?,
+            None => self.dialed = Some(socket),
         }
         Ok(None)
     }
@@ -413,10 +437,9 @@ impl Dialer {
     /// Waits for the connection at most 10 milliseconds, or not at all if bytes moved in the turn before (`moved`).
     fn wait(&mut self, moved: bool) -> Result<(), Fault> {
         match self.poll.poll(&mut self.events, Some(poll_timeout(moved))) {
-            Ok(()) => Ok(()),
-            // The program was stopped, and continues.
-            Err(error) if error.kind() == ErrorKind::Interrupted => Ok(()),
-            Err(_) => Err(Fault::SocketFailed),
+            Err(error) if error.kind() != ErrorKind::Interrupted => Err(Fault::SocketFailed),
+            // If it was interrupted, the program was stopped, and continues.
+            _ => Ok(()),
         }
     }
 }
@@ -456,6 +479,20 @@ fn tty_size(model: Model, tty: Option<TtySize>) -> Result<TtySize, Fault> {
     }
 }
 
+/// Runs a live terminal of a model, at a tty of this size, with the connections of `dialer`.
+fn operate_by<N: Net, K: Source + Drop, T: Sink + Drop>(
+    net: &N,
+    alloc: Global,
+    dialer: &mut Dialer,
+    model: Model,
+    size: TtySize,
+    keys: K,
+    tty: T,
+) -> Result<(), Fault> {
+    let mut session = OperatorSession::new(alloc, model, size, keys, tty)?;
+    take_turns(net, alloc, dialer, &mut session)
+}
+
 /// Runs a live terminal.
 fn operate<N: Net, K: Source + Drop, T: Sink + Drop>(
     net: &N,
@@ -466,8 +503,7 @@ fn operate<N: Net, K: Source + Drop, T: Sink + Drop>(
 ) -> Result<(), Fault> {
     let size = tty_size(options.model, options.tty)?;
     let mut dialer = Dialer::new(net, alloc, options)?;
-    let mut session = OperatorSession::new(alloc, options.model, size, keys, tty)?;
-    take_turns(net, alloc, &mut dialer, &mut session)
+    operate_by(net, alloc, &mut dialer, options.model, size, keys, tty)
 }
 
 /// Runs a terminal at the host of the options, until the operator presses Ctrl-]. The operator's keys are read

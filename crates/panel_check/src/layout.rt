@@ -8,9 +8,8 @@ use std::alloc::AllocError;
 impl<'s, 'a> Words<'s, 'a> {
     /// The cells of a text or a field, if it lies above the last row of its panel's screen.
     fn extent(&self, part: Location) -> Option<Extent> {
-        let is_placed = self.draft.is_placed(part);
-        let extent = self.draft.extent(self.draft.size(part), part);
-        extent.filter(|_| is_placed)
+        let extent = self.draft.extent(self.draft.size(part), part)?;
+        self.draft.is_placed(part).then_some(extent)
     }
 
     /// Says why a text or a field is out of place.
@@ -71,10 +70,9 @@ impl<'s, 'a> Words<'s, 'a> {
         for panel in 0..draft.panels.len() {
             for part in self.items(panel)? {
                 self.part = part;
-                if let (Some(_), Some(item)) = (self.extent(part), draft.item(part))
-                    && item.copy.unwrap_or(0) == 0
-                {
-                    self.warn_of(item)?;
+                match (self.extent(part), draft.item(part)) {
+                    (Some(_), Some(item)) if item.copy.unwrap_or(0) == 0 => self.warn_of(item)?,
+                    _ => (),
                 }
             }
         }

@@ -2,19 +2,16 @@
 //! text goes in, a [`Report`] comes out, and [`Report::page`] prints it.
 //!
 //! ```rust
-//! // [[panel.field]]
 //! // name = "option"
 //! // requird = true
 //! let report = check(alloc, text)?;
-//!
 //! // panels.toml:33: panel MENU, field option: unknown key 'requird' (did you mean 'required'?)
 //! // 1 fault
 //! let page = report.page(alloc, "panels.toml")?;
 //! ```
 //!
-//! `panels::Draft` lists the faults of a text's tables, `lu_pool::faults` those of its LUs; this crate finds words for
-//! them, and their lines. `specs/Report`: a report has each of these faults, and no other. That lines, words and
-//! warnings are right is only tested.
+//! `panels::Draft` lists the faults of a text's tables, `lu_pool::faults` those of its LUs; this crate finds words and
+//! lines. `specs/Report`: a report has each of these faults, and no other. Words, lines and warnings are only tested.
 #![tactic(auto)]
 
 mod layout;

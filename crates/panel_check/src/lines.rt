@@ -38,11 +38,10 @@ fn path_of(alloc: Global, part: Location) -> Result<String, AllocError> {
 impl Lines {
     /// The lines of a text, up to the first place at which it isn't TOML.
     pub(crate) fn of_text(alloc: Global, text: &str) -> Result<Lines, AllocError> {
-        let (noted, counts) = (BTreeMap::new(alloc), BTreeMap::new(alloc));
         let mut lines = Lines {
             alloc,
-            noted,
-            counts,
+            noted: BTreeMap::new(alloc),
+            counts: BTreeMap::new(alloc),
             open: Vec::new(alloc),
             line: 1,
         };
@@ -68,9 +67,8 @@ impl Lines {
             if start.is_empty() {
                 break;
             }
-            let letters = passed
-                .bytes()
-                .take(passed.len().saturating_sub(start.len()));
+            let length = passed.len().saturating_sub(start.len());
+            let letters = passed.bytes().take(length);
             let ends = letters.filter(|letter| *letter == b'\n').count();
             self.line = self.line.saturating_add(ends);
             passed = start;
@@ -88,6 +86,9 @@ impl Lines {
             self.open.pop();
             return Ok(after);
         }
+        if let (1, Some(header)) = (self.open.len(), text.strip_prefix('[')) {
+            return self.header(header);
+        }
         let Some((path, is_array)) = self.open.last() else {
             return Ok("");
         };
@@ -95,11 +96,6 @@ impl Lines {
         if is_array {
             let element = self.next_element(path, text)?;
             return self.value(element, text);
-        }
-        if self.open.len() == 1
-            && let Some(header) = text.strip_prefix('[')
-        {
-            return self.header(header);
         }
         let (key, after) = dotted_key(self.alloc, text)?;
         let path = self.along(path, &key)?;
@@ -110,16 +106,19 @@ impl Lines {
     fn along(&mut self, table: String, key: &Key) -> Result<String, AllocError> {
         let mut path = table;
         for part in &key.path {
-            path = format!(in self.alloc; "{path}.{part}")?;
-            self.noted.entry(path.clone()?)?.or_insert(self.line);
-            let tables = format!(in self.alloc; "{path}#")?;
-            if let Some(count) = self.counts.get(tables.as_str()) {
-                path = format!(in self.alloc; "{tables}{}", count.saturating_sub(1))?;
-            }
+            let array = self.note(path, '.', part.as_str())?;
+            path = self.last_table(array)?;
         }
-        let path = format!(in self.alloc; "{path}.{}", key.last)?;
-        self.noted.entry(path.clone()?)?.or_insert(self.line);
-        Ok(path)
+        self.note(path, '.', key.last.as_str())
+    }
+
+    /// The path of the last table of an array; any other path as it is.
+    fn last_table(&self, path: String) -> Result<String, AllocError> {
+        let tables = format!(in self.alloc; "{path}#")?;
+        match self.counts.get(tables.as_str()) {
+            Some(count) => format!(in self.alloc; "{tables}{}", count.saturating_sub(1)),
+            None => Ok(path),
+        }
     }
 
     /// Notes the line of the next value of an array, and returns the value's path.
@@ -130,10 +129,20 @@ impl Lines {
             _ => '?',
         };
         let kind = format!(in self.alloc; "{array}{mark}")?;
-        let count = self.counts.entry(kind.clone()?)?.or_insert(0);
-        let path = format!(in self.alloc; "{kind}{count}")?;
-        *count = count.saturating_add(1);
-        self.noted.entry(path.clone()?)?.or_insert(self.line);
+        let count = self.counts.get(kind.as_str()).copied().unwrap_or(0);
+        self.counts.insert(kind, count.saturating_add(1))?;
+        self.note(array, mark, count)
+    }
+
+    /// Notes the line of a part of a whole, unless it has one, and returns the part's path.
+    fn note<T>(&mut self, whole: String, mark: char, part: T) -> Result<String, AllocError>
+    where
+        T: std::fmt::Display + Drop,
+    {
+        let path = format!(in self.alloc; "{whole}{mark}{part}")?;
+        if !self.noted.contains_key(path.as_str()) {
+            self.noted.insert(path.clone()?, self.line)?;
+        }
         Ok(path)
     }
 

@@ -51,11 +51,8 @@ pub struct Finding {
 
 impl fmt::Display for Finding {
     fn fmt<W: fmt::Write>(&self, f: &mut fmt::Formatter<W>) -> fmt::Result {
-        let kind = if self.cause.is_fault() {
-            ""
-        } else {
-            "warning: "
-        };
+        let is_fault = self.cause.is_fault();
+        let kind = if is_fault { "" } else { "warning: " };
         write!(f, "{}: {kind}{}", self.line, self.words)
     }
 }
@@ -90,9 +87,7 @@ pub struct Report {
 /// The report on the panel text of an input. It has each fault that `panels` and `lu_pool` find in the text, once for
 /// a table, and no other; but a fault of a value that isn't in the text is reported as the key that is missing, or has
 /// another type. If `PanelSet::read` and `Pool::read` accept the text, it has only warnings; else it has the fault for
-/// which they refuse it.
-///
-/// Err only if memory is refused.
+/// which they refuse it. Err only if memory is refused.
 pub fn check(alloc: Global, text: &str) -> Result<Report, AllocError>
     ensures faults { IfOk result (λ report. ReportsFaults (panel_text text.now) report.findings.items) }
     ensures faultless { IfOk result (λ report. IsFaultlessIfAccepted (panel_text text.now) report.findings.items) }
@@ -124,7 +119,6 @@ impl Report {
     }
 
     /// The report as text: a line for each finding, which begins with the file's `name`, and a line with the totals.
-    ///
     /// Err only if memory is refused.
     pub fn page(&self, alloc: Global, name: &str) -> Result<String, AllocError> {
         let mut page = String::new(alloc);

@@ -10,10 +10,7 @@ impl<'s, 'a> Words<'s, 'a> {
         let (draft, part) = (self.draft, self.part);
         // The panel of a session of another model must be of model 2.
         let is_base = matches!(part, Location::Panel(_));
-        let names = draft
-            .panels
-            .iter()
-            .filter(|panel| panel.model == 2 || !is_base);
+        let names = draft.panels.iter().filter(|it| it.model == 2 || !is_base);
         let names: Vec<&str> = names.map(|panel| panel.name).collect(self.lines.alloc)?;
         match (part, self.panel()) {
             (Location::Text(_, _), _) => self.lost_shown(),

@@ -74,8 +74,7 @@ impl<'s, 'a> Words<'s, 'a> {
         Ok(())
     }
 
-    /// Says this of a word, and which of the known words was probably meant: the most similar one, among the first 500
-    /// of at most 40 bytes.
+    /// Says this of a word, and the most similar of the first 500 known words of at most 40 bytes, if one is similar.
     pub(crate) fn say_near<M: fmt::Display + Drop>(
         &mut self,
         key: &str,
@@ -86,10 +85,8 @@ impl<'s, 'a> Words<'s, 'a> {
         // One edit in three letters. A word of more than 40 bytes is similar to none.
         let (mut guess, mut most) = (None, word.len() / 3 + 1);
         let is_short = word.len() <= MOST_PRINTED && !(&*known).contains(&word);
-        let short = known
-            .iter()
-            .filter(|it| is_short && it.len() <= MOST_PRINTED);
-        for it in short.take(500) {
+        let short = known.iter().filter(|it| it.len() <= MOST_PRINTED);
+        for it in short.take(if is_short { 500 } else { 0 }) {
             let distance = osa_distance(self.lines.alloc, word, *it)?;
             if distance <= most && distance < it.len() {
                 guess = Some(*it);
@@ -173,8 +170,7 @@ impl<'s, 'a> Words<'s, 'a> {
             (Location::Panel(_), "otherwise") =>
                 say!(self, key; "key '{name}' can be used only with 'model' 3, 4 or 5"),
             _ => {
-                let known = rules.iter().map(|rule| rule.key());
-                let known: Vec<&str> = known.collect(self.lines.alloc)?;
+                let known: Vec<&str> = rules.iter().map(|it| it.key()).collect(self.lines.alloc)?;
                 self.say_near(key, key, &known, format_args!("unknown key '{name}'"))
             }
         }
@@ -183,21 +179,25 @@ impl<'s, 'a> Words<'s, 'a> {
     /// Says that a key that must be there is absent, or that its value has another type than the rule says, if so.
     fn breach(&mut self, rule: &KeyRule, table: &Table) -> Done {
         let (key, kind, is_missing) = (rule.key(), rule.kind(), rule.is_missing_in(table));
-        match (self.part, key, table.get(key)) {
-            (_, _, Some(Value::Array(_))) if is_missing =>
-                say!(self, key; "array '{key}' is empty"),
-            (_, _, Some(value)) if kind.fits(value) => Ok(()),
-            (_, _, Some(Value::Array(_))) => say!(self, key; "'{key}' must be {kind}"),
-            (_, _, Some(Value::Integer(number))) if kind == KeyKind::Count =>
+        match table.get(key) {
+            Some(Value::Array(_)) if is_missing => say!(self, key; "array '{key}' is empty"),
+            Some(value) if kind.fits(value) => Ok(()),
+            Some(Value::Array(_)) => say!(self, key; "'{key}' must be {kind}"),
+            Some(Value::Integer(number)) if kind == KeyKind::Count =>
                 say!(self, key; "'{key}' must be {kind}, not {number}"),
-            (_, _, Some(value)) =>
-                say!(self, key; "'{key}' must be {kind}, not {}", value.type_str()),
-            _ if !is_missing => Ok(()),
-            (Location::Text(_, _), "show", _) =>
+            Some(value) => say!(self, key; "'{key}' must be {kind}, not {}", value.type_str()),
+            None if is_missing => self.missing(key, table),
+            None => Ok(()),
+        }
+    }
+
+    fn missing(&mut self, key: &str, table: &Table) -> Done {
+        match (self.part, key) {
+            (Location::Text(_, _), "show") =>
                 say!(self, key; "missing key 'text', or 'show' with 'length'"),
             // The finding for `show` says this, too.
-            (Location::Text(_, _), "length", _) if !table.contains_key("show") => Ok(()),
-            (Location::Panel(_), "otherwise", _) => say!(self, key;
+            (Location::Text(_, _), "length") if !table.contains_key("show") => Ok(()),
+            (Location::Panel(_), "otherwise") => say!(self, key;
                 "missing key 'otherwise': the panel of model 2 for terminals of other models"),
             _ => say!(self, key; "missing key '{key}'"),
         }
@@ -246,30 +246,28 @@ impl<'s, 'a> Words<'s, 'a> {
     fn bad_keys(&mut self) -> Done {
         if let Some(keys) = table_at(self.draft, self.part) {
             for key in keys.keys() {
-                self.no_key(key.as_str(), key.as_str())?;
+                self.no_key(key.as_str(), key.as_str(), key_names())?;
             }
         }
         if let (Some(index), Some(panel)) = (self.part.panel(), self.panel()) {
             self.part = Location::Panel(index);
+            let mut known = Vec::new(self.lines.alloc);
+            known.extend_from_slice(key_names())?;
+            known.push("connect")?;
             for name in &panel.asks {
-                self.no_key("asks", *name)?;
+                self.no_key("asks", *name, &known)?;
             }
         }
         Ok(())
     }
 
     /// Says, at the line of a key of the table, that a name isn't that of a terminal's key, if it isn't.
-    fn no_key(&mut self, key: &str, name: &str) -> Done {
-        let mut known = Vec::new(self.lines.alloc);
-        known.extend_from_slice(key_names())?;
-        if key == "asks" {
-            known.push("connect")?;
-        }
-        if known.contains(&name) {
+    fn no_key(&mut self, key: &str, name: &str, known: &[&str]) -> Done {
+        if (&*known).contains(&name) {
             return Ok(());
         }
         let message = format_args!("no key is named '{}'", Cut(name));
-        self.say_near(key, name, &known, message)
+        self.say_near(key, name, known, message)
     }
 
     /// Says which keys a panel's `asks` have twice, or have although its `keys` have them.

@@ -28,28 +28,37 @@ pub(crate) enum WebEvent {
     Ended(u64, &'static str),
 }
 
+/// Writes what an event is of, what it is, and the detail, if it isn't empty.
+fn write_event<W: fmt::Write, S: fmt::Display, D: fmt::Display>(
+    f: &mut fmt::Formatter<W>,
+    kind: &str,
+    subject: &S,
+    what: &str,
+    detail: &D,
+) -> fmt::Result {
+    write!(f, "{kind}={subject} event={what}{detail}")
+}
+
 impl fmt::Display for WebEvent {
     fn fmt<W: fmt::Write>(&self, f: &mut fmt::Formatter<W>) -> fmt::Result {
         match self {
-            WebEvent::TurnedAway(peer) => write!(f, "peer={peer} event=turned-away"),
-            WebEvent::Refused(peer, reason) => {
-                write!(f, "peer={peer} event=refused reason={reason}")
-            }
+            WebEvent::TurnedAway(peer) => write_event(f, "peer", peer, "turned-away", &""),
+            WebEvent::Refused(peer, why) => write_event(f, "peer", peer, "refused reason=", why),
             WebEvent::Opened(session, peer) => {
-                write!(f, "session={session} event=opened peer={peer}")
+                write_event(f, "session", session, "opened peer=", peer)
             }
             WebEvent::Connected(session, port) => {
-                write!(f, "session={session} event=connected port={port}")
+                write_event(f, "session", session, "connected port=", port)
             }
-            WebEvent::Bound(session, lu) => write!(f, "session={session} event=bound lu={lu}"),
-            WebEvent::PageLost(session, reason) => {
-                write!(f, "session={session} event=page-lost reason={reason}")
+            WebEvent::Bound(session, lu) => write_event(f, "session", session, "bound lu=", lu),
+            WebEvent::PageLost(session, why) => {
+                write_event(f, "session", session, "page-lost reason=", why)
             }
             WebEvent::Resumed(session, peer) => {
-                write!(f, "session={session} event=resumed peer={peer}")
+                write_event(f, "session", session, "resumed peer=", peer)
             }
-            WebEvent::Ended(session, reason) => {
-                write!(f, "session={session} event=ended reason={reason}")
+            WebEvent::Ended(session, why) => {
+                write_event(f, "session", session, "ended reason=", why)
             }
         }
     }

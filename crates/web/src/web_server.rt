@@ -125,12 +125,18 @@ fn register<S: Source>(poll: &Poll, socket: &mut S) {
     let _ = poll.registry().register(socket, SOCKET, interest);
 }
 
-/// A listener at an address, and a poll that has it.
-fn listen(net: &impl Net, address: SocketAddr) -> io::Result<(TcpListener, Poll)> {
-    let poll = Poll::new(net)?;
+/// A listener at an address, which is in this poll.
+fn listen_in(net: &impl Net, address: SocketAddr, poll: &Poll) -> io::Result<TcpListener> {
     let mut listener = TcpListener::bind(net, address)?;
     poll.registry()
         .register(&mut listener, LISTENER, Interest::READABLE)?;
+    Ok(listener)
+}
+
+/// A listener at an address, and a poll that has it.
+fn listen(net: &impl Net, address: SocketAddr) -> io::Result<(TcpListener, Poll)> {
+    let poll = Poll::new(net)?;
+    let listener = listen_in(net, address, &poll)?;
     Ok((listener, poll))
 }
 
@@ -188,9 +194,11 @@ impl WebServer {
     fn wait(&mut self, busy: bool) -> Result<(), Fault> {
         match self.poll.poll(&mut self.events, Some(poll_timeout(busy))) {
             Ok(()) => Ok(()),
-            // The program was stopped, and continues.
-            Err(error) if error.kind() == ErrorKind::Interrupted => Ok(()),
-            Err(_) => Err(Fault::SocketFailed),
+            Err(error) => match error.kind() {
+                // The program was stopped, and continues.
+                ErrorKind::Interrupted => Ok(()),
+                _ => Err(Fault::SocketFailed),
+            },
         }
     }
 

@@ -4,8 +4,8 @@ use Rattle.cli.proofs.command_line.with_jobs.Goals as goal
 pub loop-topic-preserved : goal.loop-topic-preserved
 loop-topic-preserved c = λ new adds.
     c.loop-topic.invariant new
-    (job_more _ c.args.jobs.now c.loop-topic.topic-index _ c.loop-topic-test.true c.in_ok-job.field-0 c.loop-topic.command c.in_ok-command.command new
-    c.in_ok-job.ensures c.in_ok-command.ensures adds)
+    (job_more _ c.args.jobs.now c.loop-topic.topic-index _ c.loop-topic-test.true c.loop-topic.command c.in_ok-command.command new
+    c.in_ok-command.ensures adds)
 
 pub returns : goal.returns
 returns c =
