@@ -1,6 +1,5 @@
--- The answers to a client of the metrics port (our profile, after RFC 9110 and RFC 9112).
+-- Which status a client of the metrics port is answered (our profile, after RFC 9110 and RFC 9112).
 use Rattle.std.specs.Prelude.{◌≡◌, ◌≤◌, ◌<◌, ◌-◌, ◌==◌, ◌⊎◌, ◌||◌, ℕ, Bool, false, List, ◌++◌, length, map, take, codes, bytes_eq, nat_le, position, Option, Some, None, if◌then◌else◌}
-use Rattle.std.specs.Fmt.{decimal}
 use Rattle.std.specs.Option.{option_map_or}
 use Rattle.httparse.specs.Grammar.{RequestHead, ReadsRequest, HasNoRequest, NeverHasRequest}
 use Rattle.httparse.specs.Spans.{RequestExceeds, name_and_value}
@@ -11,8 +10,6 @@ use Rattle.service_events.specs.declared.scrape.Resource.{Resource}
 use Rattle.service_events.specs.declared.scrape.Resource.TheVariants as resource
 use Rattle.service_events.specs.declared.scrape.HttpStatus.{HttpStatus}
 use Rattle.service_events.specs.declared.scrape.HttpStatus.TheVariants as status
-
--- ---- which status
 
 -- the most bytes of a head, and the most fields
 abbrev pub most_head : ℕ
@@ -104,59 +101,3 @@ IsCalledFor bytes status.HeadTooLarge = (HasNoRequest bytes × (most_head ≤ le
 abbrev pub IsAnswerTo : List ℕ → Option HttpStatus → Type 0
 IsAnswerTo bytes None = HasNoRequest bytes × (length bytes < most_head)
 IsAnswerTo bytes (Some found) = IsCalledFor bytes found
-
--- ---- the response
-
--- the status line's number and phrase
-abbrev pub status_text : HttpStatus → List ℕ
-status_text (status.Found asked found) = codes "200 OK"
-status_text status.BadRequest = codes "400 Bad Request"
-status_text status.Forbidden = codes "403 Forbidden"
-status_text status.NotFound = codes "404 Not Found"
-status_text status.MethodNotAllowed = codes "405 Method Not Allowed"
-status_text status.HeadTooLarge = codes "431 Request Header Fields Too Large"
-
--- the fields of a response with sessions: it isn't kept, and the page loads nothing
-abbrev pub session_fields : List ℕ
-session_fields = codes "Cache-Control: no-store\r\nContent-Security-Policy: default-src 'none'\r\n"
-
--- the further fields: for a request with another method those that are allowed
-abbrev pub extra_fields : HttpStatus → List ℕ
-extra_fields status.MethodNotAllowed = codes "Allow: GET, HEAD\r\n"
-extra_fields (status.Found asked resource.Sessions) = session_fields
-extra_fields (status.Found asked resource.SessionData) = session_fields
-extra_fields _ = codes ""
-
-unfoldable pub status_lines : HttpStatus → List ℕ
-status_lines found = codes "HTTP/1.1 " ++ status_text found ++ codes "\r\n" ++ extra_fields found
-
--- the Content-Type; of metrics it is Prometheus' text format
-abbrev pub content_type : HttpStatus → List ℕ
-content_type (status.Found asked resource.Sessions) = codes "text/html; charset=utf-8"
-content_type (status.Found asked resource.SessionData) = codes "application/json"
-content_type _ = codes "text/plain; version=0.0.4; charset=utf-8"
-
--- the connection is closed after each response
-unfoldable pub connection_field : List ℕ
-connection_field = codes "Connection: close\r\n"
-
--- the fields of every response, and the empty line
-unfoldable pub field_lines : (kind : List ℕ) → (length : ℕ) → List ℕ
-field_lines kind length =
-    codes "Content-Type: " ++ (kind
-    ++ (codes "\r\nContent-Length: " ++ (decimal length ++ (codes "\r\n" ++ (connection_field ++ codes "\r\n")))))
-
--- the body: the resource for 200, otherwise empty
-abbrev pub body_for : HttpStatus → (page : List ℕ) → List ℕ
-body_for (status.Found asked found) page = page
-body_for _ page = codes ""
-
--- what is sent of the body: nothing to HEAD (RFC 9110, section 9.3.2)
-abbrev pub sent_body : HttpStatus → (page : List ℕ) → List ℕ
-sent_body (status.Found method.Head found) page = codes ""
-sent_body found page = body_for found page
-
--- a whole response; the length is that of the body, also to HEAD
-abbrev pub response : HttpStatus → (page : List ℕ) → List ℕ
-response found page = status_lines found ++ field_lines (content_type found) (length (body_for found page))
-    ++ sent_body found page

@@ -1,15 +1,14 @@
 //! The answers to a client of the metrics port: the part of HTTP/1.1 (RFC 9110, RFC 9112) that its resources need.
-ghost use Rattle.std.specs.Prelude.{◌≡◌, ◌≤◌, ◌++◌, ◌==◌, [], ℕ, List, Some, All, IfOk, OnErr, OnOk, length, option_map, position, string_bytes, take};
+ghost use Rattle.std.specs.Prelude.{◌≡◌, ◌≤◌, ◌==◌, [], ℕ, List, Some, All, IfOk, OnErr, OnOk, length, option_map, position, take};
 ghost use Rattle.httparse.specs.Grammar.{RequestHead as Head, ReadsRequest};
 ghost use Rattle.httparse.specs.Spans.{IsHeaderWithin};
-ghost use Rattle.service_events.specs.Scrapes.{IsAnswerTo, before, body_for, connection_field, extra_fields, content_type, most_fields, is_late, is_local, method_of, resource_of, response, sent_body, status_for_resource, status_lines, status_of, status_of_parts, status_text, with_more};
+ghost use Rattle.service_events.specs.Scrapes.{IsAnswerTo, before, is_late, is_local, method_of, most_fields, resource_of, status_for_resource, status_of, status_of_parts, with_more};
 ghost use Rattle.websocket.specs.Headers.{fields_of};
 ghost use Rattle.web_wire.specs.Heads.{only_value};
 
 use httparse::spans::{EMPTY_HEADER_SPAN, parse_request};
 use httparse::{Error, Status};
 use std::alloc::{AllocError, Global};
-use std::fmt;
 use std::marker::Model;
 use web_wire::only_value;
 
@@ -159,9 +158,7 @@ pub fn status_for(bytes: &[u8]) -> Option<HttpStatus>
 
 impl HttpStatus {
     /// The status number and phrase.
-    fn text(self) -> &'static str
-        ensures { result.now ≡ status_text self }
-    {
+    fn text(self) -> &'static str {
         match self {
             HttpStatus::Found(_, _) => "200 OK",
             HttpStatus::BadRequest => "400 Bad Request",
@@ -174,9 +171,7 @@ impl HttpStatus {
 
     /// The further fields of a response with this status: the methods that are allowed (RFC 9110, section 15.5.6); and
     /// that nobody keeps who is connected, and that the page loads nothing.
-    fn extra_fields(self) -> &'static str
-        ensures { result.now ≡ extra_fields self }
-    {
+    fn extra_fields(self) -> &'static str {
         match self {
             HttpStatus::MethodNotAllowed => "Allow: GET, HEAD\r\n",
             HttpStatus::Found(_, Resource::Sessions | Resource::SessionData) => {
@@ -187,9 +182,7 @@ impl HttpStatus {
     }
 
     /// The Content-Type of a response with this status. Metrics are in Prometheus' text format.
-    fn content_type(self) -> &'static str
-        ensures { result.now ≡ content_type self }
-    {
+    fn content_type(self) -> &'static str {
         match self {
             HttpStatus::Found(_, Resource::Sessions) => "text/html; charset=utf-8",
             HttpStatus::Found(_, Resource::SessionData) => "application/json",
@@ -198,88 +191,20 @@ impl HttpStatus {
     }
 }
 
-/// Adds the status line, and further fields if there are any.
-#[tactic(auto, unfolding(crate::specs::Scrapes::status_lines))]
-fn put_status(text: &mut String, status: HttpStatus) -> Result<(), AllocError>
-    ensures { OnOk result (string_bytes text.new ≡ string_bytes text.old ++ status_lines status) }
-{
-    let phrase = status.text();
-    let extra = status.extra_fields();
-    write!(text, "HTTP/1.1 {phrase}\r\n{extra}")
-}
-
-/// The field Connection of every response.
-#[tactic(auto, unfolding(crate::specs::Scrapes::connection_field))]
-fn connection_field() -> &'static str
-    ensures { result.now ≡ connection_field }
-{
-    "Connection: close\r\n"
-}
-
-/// Adds the fields of every response, with its Content-Type and the length of the body in bytes, and the empty line.
-#[derive(Clone, Copy)]
-struct Fields {
-    kind: &'static str,
-    length: usize,
-}
-
-impl fmt::Display for Fields {
-    ghost use Rattle.std.specs.Prelude.{Some};
-    ghost use Rattle.service_events.specs.Scrapes.{field_lines};
-
-    ghost output = { λ fields. Some (field_lines fields.kind.now fields.length) };
-
-    #[tactic(auto, unfolding(crate::specs::Scrapes::field_lines))]
-    fn fmt<W: fmt::Write>(&self, f: &mut fmt::Formatter<W>) -> fmt::Result {
-        let Fields { kind, length } = *self;
-        let close = connection_field();
-        write!(
-            f,
-            "Content-Type: {kind}\r\nContent-Length: {length}\r\n{close}\r\n"
-        )
-    }
-}
-
-/// The body of a response: the resource, or nothing.
-fn body_for(status: HttpStatus, page: &str) -> &str
-    ensures { result.now ≡ body_for status page.now }
-{
-    match status {
-        HttpStatus::Found(_, _) => page,
-        _ => "",
-    }
-}
-
-/// What is sent of the body: nothing to HEAD.
-fn sent_body(status: HttpStatus, page: &str) -> &str
-    ensures { result.now ≡ sent_body status page.now }
-{
-    match status {
-        HttpStatus::Found(Method::Head, _) => "",
-        status => body_for(status, page),
-    }
-}
-
-/// Adds a response.
-fn put_response(text: &mut String, status: HttpStatus, page: &str) -> Result<(), AllocError>
-    ensures { OnOk result (string_bytes text.new ≡ string_bytes text.old ++ response status page.now) }
-{
-    put_status(text, status)?;
-    let fields = Fields {
-        kind: status.content_type(),
-        length: body_for(status, page).len(),
+/// The response for a status. Only 200 has a body: the resource, which is `page`; HEAD is told only its length (RFC
+/// 9110, section 9.3.2).
+pub fn response_of(alloc: Global, status: HttpStatus, page: &str) -> Result<String, AllocError> {
+    let (body, sent) = match status {
+        HttpStatus::Found(Method::Get, _) => (page, page),
+        HttpStatus::Found(Method::Head, _) => (page, ""),
+        _ => ("", ""),
     };
-    let body = sent_body(status, page);
-    write!(text, "{fields}{body}")
-}
-
-/// The response for a status. Only 200 has a body: the resource, which is `page`.
-pub fn response_of(alloc: Global, status: HttpStatus, page: &str) -> Result<String, AllocError>
-    ensures { IfOk result (λ text. string_bytes text ≡ response status page.now) }
-{
-    let mut text = String::new(alloc);
-    put_response(&mut text, status, page)?;
-    Ok(text)
+    let (phrase, extra) = (status.text(), status.extra_fields());
+    let (kind, length) = (status.content_type(), body.len());
+    format!(in alloc;
+        "HTTP/1.1 {phrase}\r\n{extra}Content-Type: {kind}\r\nContent-Length: {length}\r\n\
+            Connection: close\r\n\r\n{sent}"
+    )
 }
 
 /// How long a client may take, in milliseconds.
