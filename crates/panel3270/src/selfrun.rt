@@ -9,7 +9,7 @@ use mio::net::TcpStream;
 use scripts::{
     MODELS, ScriptCommand, command_in_range, parted, put_answer, put_display, put_phase, typed_text,
 };
-use server::{Server, Unwatched};
+use server::{Server, ServerPort, Unwatched};
 use service::server_of;
 use socket_links::poll_timeout;
 use std::alloc::{AllocError, Global};
@@ -17,10 +17,11 @@ use std::net::Net;
 use tn3270e_msg::Lu;
 use world3270::{Event, Stepped};
 
-/// A server, the terminals of a script, and the number of turns that are left.
+/// A server and its port, the terminals of a script, and the number of turns that are left.
 #[derive(Drop)]
 struct LoopbackRun {
-    server: Server,
+    server: Server<TcpStream>,
+    port: ServerPort,
     terminals: Vec<SocketTerminal>,
     turns: u32,
 }
@@ -37,7 +38,8 @@ fn idle_terminals(alloc: Global) -> Result<Vec<SocketTerminal>, AllocError> {
 impl LoopbackRun {
     /// One turn of the server, and one of each terminal. Answers whether a byte was read or written, or the host acted.
     fn turn(&mut self) -> Result<bool, Fault> {
-        let mut moved = self.server.turn(poll_timeout(false), &mut Unwatched)?;
+        self.port.poll(poll_timeout(false), self.server.now())?;
+        let mut moved = self.server.turn(&mut self.port.arrivals, &mut Unwatched)?;
         for number in 0..self.terminals.len() {
             moved |= self.terminals[number].turn()?;
         }
@@ -65,7 +67,7 @@ impl LoopbackRun {
         if terminal >= self.terminals.len() || !self.terminals[terminal].is_idle() {
             return Ok(Stepped::Skipped);
         }
-        let Ok(address) = self.server.address() else {
+        let Ok(address) = self.port.address() else {
             return Err(Fault::SocketFailed);
         };
         let Ok(mut socket) = TcpStream::connect(net, address) else {
@@ -74,7 +76,7 @@ impl LoopbackRun {
         // As in the server: if one of these calls fails, the socket is used anyway.
         let _ = socket.set_nodelay(true);
         let _ = self
-            .server
+            .port
             .register(&mut socket, MOST_CONNECTIONS.saturating_add(terminal));
         self.terminals[terminal].connect(socket, wanted);
         Ok(Stepped::Done)
@@ -103,12 +105,16 @@ impl LoopbackRun {
     /// Closes the socket of the terminal on a connection. The server accepts waiting connections first, so that each
     /// has its number.
     fn lose(&mut self, conn: usize) -> Result<Stepped, Fault> {
-        self.server.accept_all(&mut Unwatched)?;
-        let Some(address) = self.server.peer(conn) else {
+        self.server
+            .accept_all(&mut self.port.arrivals, &mut Unwatched)?;
+        if conn >= MOST_CONNECTIONS {
+            return Ok(Stepped::Skipped);
+        }
+        let Some(row) = self.server.session_row(conn) else {
             return Ok(Stepped::Skipped);
         };
         for number in 0..self.terminals.len() {
-            if self.terminals[number].is_at(address) {
+            if self.terminals[number].is_at(row.peer) {
                 self.terminals[number].disconnect();
                 return Ok(Stepped::Done);
             }
@@ -239,9 +245,11 @@ fn selfrun<N: Net, I: Source, O: Sink>(
 ) -> Result<(), Fault> {
     let input = read_whole(alloc, input)?;
     let (panels, script) = parted(input.as_str());
+    let (server, port) = server_of(net, alloc, panels, 0)?;
     let mut run = LoopbackRun {
+        server,
+        port,
         terminals: idle_terminals(alloc)?,
-        server: server_of(net, alloc, panels, 0)?,
         turns: turns.get(),
     };
     play_and_write(net, alloc, &mut run, script, out)

@@ -9,9 +9,9 @@ use Rattle.socket_links.specs.Sockets.{Sockets}
 use Rattle.server.specs.Accepting.{AdmitsSome, Door, Receives}
 use Rattle.server.specs.declared.accepting.Arrival.{Arrival}
 use Rattle.server.specs.declared.connection_info.ConnectionInfo.{ConnectionInfo}
-use Rattle.server.specs.declared.server_core.ServerCore.{ServerCore}
+use Rattle.server.specs.declared.server.Server.{Server}
 
-pub begun_is : {S : Type 0} (old : ServerCore S) (hosts hosts_are : Hosts) (sockets sockets_are : Sockets S) (infos infos_are : List (Option ConnectionInfo))
+pub begun_is : {S : Type 0} (old : Server S) (hosts hosts_are : Hosts) (sockets sockets_are : Sockets S) (infos infos_are : List (Option ConnectionInfo))
     (next next_is : SessionName) → hosts ≡ hosts_are → sockets ≡ sockets_are → infos ≡ infos_are → next ≡ next_is
     → record old { hosts = hosts; sockets = sockets; infos = infos; next_session = next }
     ≡ record old { hosts = hosts_are; sockets = sockets_are; infos = infos_are; next_session = next_is }
@@ -28,7 +28,7 @@ module _ {S W L : Type 0} (noticed : W → Notice → Result Unit Fault → W �
   none_admitted old = refl
 
   pub one_admitted : (count : ℕ) (old mid new : Door L S W) (arrival : Arrival S) → AdmitsSome noticed showed gave count old mid
-      → gave mid.listener (Some arrival) new.listener → Receives noticed showed arrival mid.core mid.watcher (Ok tt) new.core new.watcher
+      → gave mid.listener (Some arrival) new.listener → Receives noticed showed arrival mid.server mid.watcher (Ok tt) new.server new.watcher
       → AdmitsSome noticed showed gave (count + 1) old new
   unfolding AdmitsSome
   one_admitted count old mid new arrival some gives admits =

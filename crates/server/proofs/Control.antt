@@ -21,7 +21,7 @@ use Rattle.server.specs.Visits.{VisitsEach}
 use Rattle.socket_links.specs.Sockets.{is_connected, slot_at}
 use Rattle.server.specs.Control.{DeliversAt, DeliversBelow, EndsTalkingAt, NobodyTalksBelow, Reloads, has_recipient_below, is_open_below, is_talking, queued_below, recipient_at, refused, reloads, with_waiting}
 use Rattle.server.specs.declared.note_queue.WaitingNote.{WaitingNote}
-use Rattle.server.specs.declared.server_core.ServerCore.{ServerCore}
+use Rattle.server.specs.declared.server.Server.{Server}
 
 -- ---- texts
 
@@ -42,45 +42,45 @@ is_note_text codes is =
 module _ {S : Type 0} where
   -- ---- open connections
 
-  pub none_open : (core : ServerCore S) → false ≡ is_open_below 0 core
+  pub none_open : (server : Server S) → false ≡ is_open_below 0 server
   unfolding is_open_below
-  none_open core = refl
+  none_open server = refl
 
-  pub open_more : (conn : ℕ) (core : ServerCore S) (is_any : Bool) → is_any ≡ is_open_below conn core
-      → (is_any || is_connected (slot_at conn core.sockets)) ≡ is_open_below (conn + 1) core
+  pub open_more : (conn : ℕ) (server : Server S) (is_any : Bool) → is_any ≡ is_open_below conn server
+      → (is_any || is_connected (slot_at conn server.sockets)) ≡ is_open_below (conn + 1) server
   unfolding is_open_below
-  open_more conn core is_any is =
-      ap (λ (b : Bool). b || is_connected (slot_at conn core.sockets)) is
-      ∙ ap (λ (n : ℕ). is_open_below n core) (sym (add-one conn))
+  open_more conn server is_any is =
+      ap (λ (b : Bool). b || is_connected (slot_at conn server.sockets)) is
+      ∙ ap (λ (n : ℕ). is_open_below n server) (sym (add-one conn))
 
   -- ---- recipients
 
-  module _ (to : Recipient) (text : List ℕ) (core : ServerCore S) where
-    pub none_queued : (notes : List (Option WaitingNote)) → (notes ≡ queued_below to text core 0 notes) × (false ≡ has_recipient_below to core 0)
+  module _ (to : Recipient) (text : List ℕ) (server : Server S) where
+    pub none_queued : (notes : List (Option WaitingNote)) → (notes ≡ queued_below to text server 0 notes) × (false ≡ has_recipient_below to server 0)
     unfolding queued_below has_recipient_below
     none_queued notes = (refl, refl)
 
-    pub one_queued : (conn : ℕ) (notes so_far : List (Option WaitingNote)) → so_far ≡ queued_below to text core conn notes
-        → with_waiting (recipient_at to core conn) conn text so_far ≡ queued_below to text core (conn + 1) notes
+    pub one_queued : (conn : ℕ) (notes so_far : List (Option WaitingNote)) → so_far ≡ queued_below to text server conn notes
+        → with_waiting (recipient_at to server conn) conn text so_far ≡ queued_below to text server (conn + 1) notes
     unfolding queued_below
     one_queued conn notes so_far is =
-        ap (with_waiting (recipient_at to core conn) conn text) is
-        ∙ ap (λ (n : ℕ). queued_below to text core n notes) (sym (add-one conn))
+        ap (with_waiting (recipient_at to server conn) conn text) is
+        ∙ ap (λ (n : ℕ). queued_below to text server n notes) (sym (add-one conn))
 
-    pub one_found : (conn : ℕ) (found : Bool) → found ≡ has_recipient_below to core conn
-        → (found || is_some (recipient_at to core conn)) ≡ has_recipient_below to core (conn + 1)
+    pub one_found : (conn : ℕ) (found : Bool) → found ≡ has_recipient_below to server conn
+        → (found || is_some (recipient_at to server conn)) ≡ has_recipient_below to server (conn + 1)
     unfolding has_recipient_below
     one_found conn found is =
-        ap (λ (b : Bool). b || is_some (recipient_at to core conn)) is
-        ∙ ap (λ (n : ℕ). has_recipient_below to core n) (sym (add-one conn))
+        ap (λ (b : Bool). b || is_some (recipient_at to server conn)) is
+        ∙ ap (λ (n : ℕ). has_recipient_below to server n) (sym (add-one conn))
 
   -- ---- deliveries
 
-  pub none_delivered : (core : ServerCore S) (notes : List (Option WaitingNote)) → DeliversBelow 0 core notes false core notes
+  pub none_delivered : (server : Server S) (notes : List (Option WaitingNote)) → DeliversBelow 0 server notes false server notes
   unfolding DeliversBelow
-  none_delivered core notes = (refl, refl, refl)
+  none_delivered server notes = (refl, refl, refl)
 
-  pub one_delivered : (conn : ℕ) (old mid new : ServerCore S) (notes rest left : List (Option WaitingNote)) (before one : Bool)
+  pub one_delivered : (conn : ℕ) (old mid new : Server S) (notes rest left : List (Option WaitingNote)) (before one : Bool)
       → DeliversBelow conn old notes before mid rest → DeliversAt conn mid rest one new left
       → DeliversBelow (conn + 1) old notes (before || one) new left
   unfolding DeliversBelow
@@ -111,7 +111,7 @@ is_free_now now free talks = let both : phase.Free ≡ phase.Talking = sym free 
 -- ---- the panels are read again
 
 module _ {S W : Type 0} (noticed : W → Notice → Result Unit Fault → W → Type 0) (showed : W → Host → ℕ → Result Unit Fault → W → Type 0) where
-  pub reload_is : (host : Host) (old mid : ServerCore S) (watcher after : W) (ended : Bool) (answer : Result Unit ReloadFault) (hosts : Hosts)
+  pub reload_is : (host : Host) (old mid : Server S) (watcher after : W) (ended : Bool) (answer : Result Unit ReloadFault) (hosts : Hosts)
       → VisitsEach (EndsTalkingAt noticed showed) old watcher (Ok ended) mid after
       → OnOk answer ((place : ℕ) × IsFreePlace place mid.hosts.owners × (hosts ≡ reloaded place host mid.hosts)) → OnErr answer (hosts ≡ mid.hosts)
       → (answer ≡ Err reload_fault.TooMany → AreOwned most_earlier mid.hosts.owners) → Reloads noticed showed host old watcher (Ok answer) (record mid { hosts = hosts }) after

@@ -8,16 +8,16 @@ use Rattle.service_events.specs.declared.notice.Notice.{Notice}
 use Rattle.server.specs.HostAnswers.{ReportsOf}
 use Rattle.server.specs.NumberTurns.{reported}
 use Rattle.server.specs.declared.connection_info.ConnectionInfo.{ConnectionInfo}
-use Rattle.server.specs.declared.server_core.ServerCore.{ServerCore}
+use Rattle.server.specs.declared.server.Server.{Server}
 use Rattle.std.specs.Prelude.{slice_set}
 use Rattle.server.specs.NumberTurns.{info_after}
 
 module _ {S W : Type 0} (noticed : W → Notice → Result Unit Fault → W → Type 0) (showed : W → Host → ℕ → Result Unit Fault → W → Type 0) (conn : ℕ)
-    (old : ServerCore S) (hosts : Hosts) (takes : hosts ≡ with_host conn (host_at conn hosts) old.hosts) where
+    (old : Server S) (hosts : Hosts) (takes : hosts ≡ with_host conn (host_at conn hosts) old.hosts) where
   moved : (host : Host) → with_host conn host hosts ≡ with_host conn host old.hosts
   moved host = ap (with_host conn host) takes ∙ put_again conn (host_at conn hosts) host old.hosts
 
-  pub reports_moved : (info : Option ConnectionInfo) (watcher : W) (heard : Result Unit Fault) (new : ServerCore S) (after : W)
+  pub reports_moved : (info : Option ConnectionInfo) (watcher : W) (heard : Result Unit Fault) (new : Server S) (after : W)
       → ReportsOf noticed showed info conn (record old { hosts = hosts }) (host_at conn hosts) watcher heard new after
       → ReportsOf noticed showed info conn old (host_at conn hosts) watcher heard new after
   reports_moved None watcher (Ok done) new after reports =

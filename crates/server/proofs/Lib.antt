@@ -5,3 +5,4 @@ pub mod Admitting
 pub mod Doors
 pub mod Control
 pub mod Handing
+pub mod ServiceTurns

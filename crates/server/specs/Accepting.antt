@@ -16,16 +16,16 @@ use Rattle.server.specs.Watching.{Noticed, Told}
 use Rattle.server.specs.declared.accepting.Accepted.{Accepted}
 use Rattle.server.specs.declared.accepting.Arrival.{Arrival}
 use Rattle.server.specs.declared.accepting.Arrival.TheVariants as arrival
-use Rattle.server.specs.declared.server_core.ServerCore.{ServerCore}
+use Rattle.server.specs.declared.server.Server.{Server}
 
 -- the listener, the server and the watcher at one moment of accepting
 pub record Door (L S W : Type 0) : Type 0 where
   pub listener : L
-  pub core : ServerCore S
+  pub server : Server S
   pub watcher : W
 
-abbrev pub door : {L S W : Type 0} → L → ServerCore S → W → Door L S W
-door listener core watcher = record { listener = listener; core = core; watcher = watcher }
+abbrev pub door : {L S W : Type 0} → L → Server S → W → Door L S W
+door listener server watcher = record { listener = listener; server = server; watcher = watcher }
 
 -- the most connections that one turn accepts
 abbrev pub most_accepted : ℕ
@@ -43,16 +43,16 @@ pub record IsLeastFree (conn : ℕ) (hosts : Hosts) : Type 0 where
 
 module _ {S : Type 0} where
   -- the client on connection `conn`, with the name of the next session
-  abbrev pub client_of : ℕ → Accepted S → ServerCore S → Client
-  client_of conn accepted core = record { conn = conn; session = core.next_session; peer = accepted.peer }
+  abbrev pub client_of : ℕ → Accepted S → Server S → Client
+  client_of conn accepted server = record { conn = conn; session = server.next_session; peer = accepted.peer }
 
   -- the server once a connection has begun on number `conn`
-  abbrev pub begun : ℕ → Accepted S → ServerCore S → ServerCore S
-  begun conn accepted core = record core {
-    hosts = with_opened conn core.hosts;
-    sockets = with_slot conn (opened accepted.socket (slot_at conn core.sockets)) core.sockets;
-    infos = slice_set core.infos conn (Some (new_info (client_of conn accepted core) core.now));
-    next_session = session_after core.next_session;
+  abbrev pub begun : ℕ → Accepted S → Server S → Server S
+  begun conn accepted server = record server {
+    hosts = with_opened conn server.hosts;
+    sockets = with_slot conn (opened accepted.socket (slot_at conn server.sockets)) server.sockets;
+    infos = slice_set server.infos conn (Some (new_info (client_of conn accepted server) server.now));
+    next_session = session_after server.next_session;
   }
 
 module _ {S W : Type 0} (noticed : W → Notice → Result Unit Fault → W → Type 0)
@@ -60,8 +60,8 @@ module _ {S W : Type 0} (noticed : W → Notice → Result Unit Fault → W → 
   -- Holds if an accepted connection gets the least free number, and the watcher receives `Connected`. If no number is
   -- free, the socket is dropped, and the watcher receives `TurnedAway`. If memory is refused, only the socket is
   -- dropped.
-  pub data Admits (accepted : Accepted S) (old : ServerCore S) (watcher : W) (answer : Result Unit Fault)
-      (new : ServerCore S) (after : W) : Type 0 where
+  pub data Admits (accepted : Accepted S) (old : Server S) (watcher : W) (answer : Result Unit Fault)
+      (new : Server S) (after : W) : Type 0 where
     turned_away : AreTaken most_connections old.hosts → new ≡ old
         → Told noticed showed (Noticed (notice.TurnedAway accepted.peer) ∷ []) watcher answer after
         → Admits accepted old watcher answer new after
@@ -72,7 +72,7 @@ module _ {S W : Type 0} (noticed : W → Notice → Result Unit Fault → W → 
         → Admits accepted old watcher answer new after
 
   -- holds if a connection is admitted, or if the watcher receives that the listener refused one, and no more
-  abbrev pub Receives : Arrival S → ServerCore S → W → Result Unit Fault → ServerCore S → W → Type 0
+  abbrev pub Receives : Arrival S → Server S → W → Result Unit Fault → Server S → W → Type 0
   Receives (arrival.Begun accepted) old watcher answer new after = Admits accepted old watcher answer new after
   Receives (arrival.Refused peer why) old watcher answer new after =
       (new ≡ old) × Told noticed showed (Noticed (notice.BadProxyHeader peer why) ∷ []) watcher answer after
@@ -83,14 +83,14 @@ module _ {S W : Type 0} (noticed : W → Notice → Result Unit Fault → W → 
     AdmitsSome zero old new = new ≡ old
     AdmitsSome (suc count) old new = (mid : Door L S W) × (arrival : Arrival S) × AdmitsSome count old mid
         × gave mid.listener (Some arrival) new.listener
-        × Receives arrival mid.core mid.watcher (Ok tt) new.core new.watcher
+        × Receives arrival mid.server mid.watcher (Ok tt) new.server new.watcher
 
     -- Holds if all waiting connections are received, at most `most`. After a failure no other is accepted.
     abbrev pub AdmitsAll : (most : ℕ) → Door L S W → Result Unit Fault → Door L S W → Type 0
     AdmitsAll most old (Ok _) new = (count : ℕ) × (mid : Door L S W) × (count ≤ most) × AdmitsSome count old mid
         × (((count ≡ most) × (new ≡ mid))
-        ⊎ (gave mid.listener None new.listener × (new.core ≡ mid.core) × (new.watcher ≡ mid.watcher)))
+        ⊎ (gave mid.listener None new.listener × (new.server ≡ mid.server) × (new.watcher ≡ mid.watcher)))
     AdmitsAll most old (Err why) new = (count : ℕ) × (mid : Door L S W) × (arrival : Arrival S) × (count < most)
         × AdmitsSome count old mid
         × gave mid.listener (Some arrival) new.listener
-        × Receives arrival mid.core mid.watcher (Err why) new.core new.watcher
+        × Receives arrival mid.server mid.watcher (Err why) new.server new.watcher

@@ -34,7 +34,7 @@ use Rattle.server.specs.NumberTurns.{info_after, open_at, reported, reports_of}
 use Rattle.server.specs.Watching.{FailsAmong, HearsEach}
 use Rattle.server.specs.declared.connection_info.ConnectionInfo.{ConnectionInfo}
 use Rattle.server.specs.declared.connection_info.SessionEnd.{SessionEnd}
-use Rattle.server.specs.declared.server_core.ServerCore.{ServerCore}
+use Rattle.server.specs.declared.server.Server.{Server}
 
 -- Holds if the host takes the answer to the question with this ticket. The answer is shown only if that question is
 -- still open. No other connection changes.
@@ -47,58 +47,58 @@ pub record TakesAnswer (conn : ℕ) (ticket : Ticket) (answer : Answer) (old : H
 
 module _ {S : Type 0} where
   -- the server once its host took an answer, and all of the host's reports were handed on
-  abbrev pub core_answered : ℕ → ConnectionInfo → (old : ServerCore S) → Host → ServerCore S
-  core_answered conn info old host =
+  abbrev pub server_answered : ℕ → ConnectionInfo → (old : Server S) → Host → Server S
+  server_answered conn info old host =
       record old {
         hosts = with_host conn (reported conn host) old.hosts;
         infos = slice_set old.infos conn (Some (info_after conn host info));
       }
 
   -- the client of a number's last connection, if it ever had one
-  abbrev pub client_at : ℕ → ServerCore S → Option Client
-  client_at conn core = option_map (λ info. info.client) (slice_index_or core.infos conn None)
+  abbrev pub client_at : ℕ → Server S → Option Client
+  client_at conn server = option_map (λ info. info.client) (slice_index_or server.infos conn None)
 
   -- the server with another record of a number's last connection; none if it never had one
-  abbrev pub with_info : Option ConnectionInfo → ℕ → ServerCore S → ServerCore S
-  with_info None conn core = core
-  with_info (Some info) conn core = record core { infos = slice_set core.infos conn (Some info) }
+  abbrev pub with_info : Option ConnectionInfo → ℕ → Server S → Server S
+  with_info None conn server = server
+  with_info (Some info) conn server = record server { infos = slice_set server.infos conn (Some info) }
 
   -- the server once a reply was shown there; `end`: the application ends the session
-  abbrev pub ended_if : (end : Bool) → ℕ → ServerCore S → ServerCore S
-  ended_if end conn core = with_info (option_map (with_end end) (slice_index_or core.infos conn None)) conn core
+  abbrev pub ended_if : (end : Bool) → ℕ → Server S → Server S
+  ended_if end conn server = with_info (option_map (with_end end) (slice_index_or server.infos conn None)) conn server
 
   -- the end of that session, if the application must get to know it
-  abbrev pub end_at : ℕ → ServerCore S → Option SessionEnd
-  end_at conn core = option_and_then session_end (slice_index_or core.infos conn None)
+  abbrev pub end_at : ℕ → Server S → Option SessionEnd
+  end_at conn server = option_and_then session_end (slice_index_or server.infos conn None)
 
   -- the server once this end of that session, if it ended, is reported to the application: no report follows
-  abbrev pub end_told : Option SessionEnd → ℕ → ServerCore S → ServerCore S
-  end_told None conn core = core
-  end_told (Some end) conn core = with_info (option_map with_told (slice_index_or core.infos conn None)) conn core
+  abbrev pub end_told : Option SessionEnd → ℕ → Server S → Server S
+  end_told None conn server = server
+  end_told (Some end) conn server = with_info (option_map with_told (slice_index_or server.infos conn None)) conn server
 
   -- what an open connection has used so far
-  abbrev pub usage_at : ℕ → ServerCore S → Option Usage
-  usage_at conn core =
-      option_map (usage_of core.now (slot_at conn core.sockets).sent (slot_at conn core.sockets).received)
-      (open_at conn core)
+  abbrev pub usage_at : ℕ → Server S → Option Usage
+  usage_at conn server =
+      option_map (usage_of server.now (slot_at conn server.sockets).sent (slot_at conn server.sockets).received)
+      (open_at conn server)
 
   -- a question of a connection, with its terminal's model (2 before it asked for one) and its client's address
-  abbrev pub asked_on : ℕ → ServerCore S → Question → Query
-  asked_on conn core question = record {
+  abbrev pub asked_on : ℕ → Server S → Question → Query
+  asked_on conn server question = record {
     question = question;
-    model = unwrap_or (model_of (service_at conn core.hosts)) M2;
-    client = option_map (λ client. client.peer) (client_at conn core);
+    model = unwrap_or (model_of (service_at conn server.hosts)) M2;
+    client = option_map (λ client. client.peer) (client_at conn server);
   }
 
   -- Holds if the answer is the open question of a connection and who asks it, or None. Memory is refused only if the
   -- question has texts.
-  abbrev pub AsksHost : (conn : ℕ) → ServerCore S → Result (Option Query) Fault → Type 0
-  AsksHost conn core (Ok query) = query ≡ option_map (asked_on conn core)
-      (question_of (application_of (host_at conn core.hosts).panels) (session_at conn (host_at conn core.hosts))
-      (service_at conn core.hosts))
-  AsksHost conn core (Err why) = (why ≡ fault.NoMemory)
-      × HasTexts (question_of (application_of (host_at conn core.hosts).panels)
-      (session_at conn (host_at conn core.hosts)) (service_at conn core.hosts))
+  abbrev pub AsksHost : (conn : ℕ) → Server S → Result (Option Query) Fault → Type 0
+  AsksHost conn server (Ok query) = query ≡ option_map (asked_on conn server)
+      (question_of (application_of (host_at conn server.hosts).panels) (session_at conn (host_at conn server.hosts))
+      (service_at conn server.hosts))
+  AsksHost conn server (Err why) = (why ≡ fault.NoMemory)
+      × HasTexts (question_of (application_of (host_at conn server.hosts).panels)
+      (session_at conn (host_at conn server.hosts)) (service_at conn server.hosts))
 
 -- the name, the LU, and the event of the log
 abbrev pub words_of : SessionEnd → SessionName × List ℕ × List ℕ
@@ -109,7 +109,7 @@ words_told ended = (ended.session, ended.lu, ended.reason.now)
 
 -- Holds if the server hands out the end of a number's last session, if the application must get to know it, and doesn't
 -- hand it out again.
-pub record TakesEnd {S : Type 0} (old : ServerCore S) (conn : ℕ) (ended : Option EndedSession) (new : ServerCore S)
+pub record TakesEnd {S : Type 0} (old : Server S) (conn : ℕ) (ended : Option EndedSession) (new : Server S)
     : Type 0 where
   pub ended_is : option_map words_told ended ≡ option_map words_of (end_at conn old)
   pub told : new ≡ end_told (end_at conn old) conn old
@@ -119,21 +119,21 @@ module _ {S W : Type 0} (noticed : W → Notice → Result Unit Fault → W → 
   -- Holds if the watcher receives each event of a number's last connection, once and in order, and the events are
   -- recorded. Nothing is reported if the number never had a connection. The first fault of the watcher ends the call,
   -- and then nothing is recorded.
-  abbrev pub ReportsOf : Option ConnectionInfo → (conn : ℕ) → ServerCore S → Host → W → Result Unit Fault → ServerCore S
+  abbrev pub ReportsOf : Option ConnectionInfo → (conn : ℕ) → Server S → Host → W → Result Unit Fault → Server S
       → W → Type 0
   ReportsOf None conn old host watcher (Ok done) new after =
       (new ≡ record old { hosts = with_host conn host old.hosts }) × (after ≡ watcher)
   ReportsOf None conn old host watcher (Err why) new after = ⊥
   ReportsOf (Some info) conn old host watcher (Ok done) new after =
       HearsEach noticed showed (reports_of info.client conn host) watcher after
-      × (new ≡ core_answered conn info old host)
+      × (new ≡ server_answered conn info old host)
   ReportsOf (Some info) conn old host watcher (Err why) new after =
       FailsAmong noticed showed (reports_of info.client conn host) watcher why after
       × ((reports : Reports) × (new ≡ record old { hosts = with_host conn (with_reports conn reports host) old.hosts }))
 
   -- Holds if the host takes an answer, and the watcher receives what happened then. A fault of the watcher is returned.
-  pub record HandsAnswer (conn : ℕ) (ticket : Ticket) (answer : Answer) (old : ServerCore S) (watcher : W)
-      (result : Result Acted Fault) (new : ServerCore S) (after : W)
+  pub record HandsAnswer (conn : ℕ) (ticket : Ticket) (answer : Answer) (old : Server S) (watcher : W)
+      (result : Result Acted Fault) (new : Server S) (after : W)
       : Type 0 where
     pub acted : Acted
     pub host : Host

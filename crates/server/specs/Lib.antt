@@ -8,3 +8,4 @@ pub mod HostAnswers
 pub mod TimeTurns
 pub mod Control
 pub mod ServerTurns
+pub mod ServiceTurns

@@ -20,7 +20,7 @@ use Rattle.socket_links.specs.Sockets.{GivesAt, Sockets, TakesAt, emptied, is_co
 use Rattle.server.specs.Watching.{Event, FailsAmong, HearsEach, Noticed, Showed, if_any}
 use Rattle.server.specs.ConnectionInfos.{usage_of, with_events}
 use Rattle.server.specs.declared.connection_info.ConnectionInfo.{ConnectionInfo}
-use Rattle.server.specs.declared.server_core.ServerCore.{ServerCore}
+use Rattle.server.specs.declared.server.Server.{Server}
 
 -- ---- reports
 
@@ -65,35 +65,35 @@ info_after conn host info = with_events (events_of (reports_at conn host)) info
 
 module _ {S : Type 0} where
   -- the record of an open connection: its number has a socket
-  abbrev pub open_at : ℕ → ServerCore S → Option ConnectionInfo
-  open_at conn core = if is_connected (slot_at conn core.sockets) then slice_index_or core.infos conn None else None
+  abbrev pub open_at : ℕ → Server S → Option ConnectionInfo
+  open_at conn server = if is_connected (slot_at conn server.sockets) then slice_index_or server.infos conn None else None
 
   -- the sockets, with the number of unsent bytes of a connection
-  abbrev pub with_unsent : ℕ → ServerCore S → Sockets S
-  with_unsent conn core =
+  abbrev pub with_unsent : ℕ → Server S → Sockets S
+  with_unsent conn server =
       with_slot conn
-      (with_waiting (length (connection_at conn (host_at conn core.hosts)).out) (slot_at conn core.sockets))
-      core.sockets
+      (with_waiting (length (connection_at conn (host_at conn server.hosts)).out) (slot_at conn server.sockets))
+      server.sockets
 
   -- The server after a connection's end: its number and its LU are free, its socket is closed, and its record says why.
   -- All else is unchanged.
-  abbrev pub given_back : ℕ → ConnectionInfo → Ending → ServerCore S → ServerCore S
-  given_back conn info ending core =
-      record core {
-        hosts = closed conn core.hosts;
-        sockets = with_slot conn (emptied (slot_at conn core.sockets)) core.sockets;
-        infos = slice_set core.infos conn (Some (record info { ending = Some ending }));
+  abbrev pub given_back : ℕ → ConnectionInfo → Ending → Server S → Server S
+  given_back conn info ending server =
+      record server {
+        hosts = closed conn server.hosts;
+        sockets = with_slot conn (emptied (slot_at conn server.sockets)) server.sockets;
+        infos = slice_set server.infos conn (Some (record info { ending = Some ending }));
       }
 
   -- the server after a connection's end, if it ended
-  abbrev pub given_back_if : Option Ending → ℕ → ConnectionInfo → ServerCore S → ServerCore S
-  given_back_if None conn info core = core
-  given_back_if (Some ending) conn info core = given_back conn info ending core
+  abbrev pub given_back_if : Option Ending → ℕ → ConnectionInfo → Server S → Server S
+  given_back_if None conn info server = server
+  given_back_if (Some ending) conn info server = given_back conn info ending server
 
   -- the report that a connection is over, why, and what it used
-  abbrev pub ended : ℕ → ConnectionInfo → ServerCore S → Ending → Event
-  ended conn info core ending = Noticed (notice.Ended info.client ending
-      (usage_of core.now (slot_at conn core.sockets).sent (slot_at conn core.sockets).received info))
+  abbrev pub ended : ℕ → ConnectionInfo → Server S → Ending → Event
+  ended conn info server ending = Noticed (notice.Ended info.client ending
+      (usage_of server.now (slot_at conn server.sockets).sent (slot_at conn server.sockets).received info))
 
 -- ---- a turn of one connection
 
@@ -103,8 +103,8 @@ ending_after conn info answer after = ending_of (info_after conn after info).end
 
 module _ {S : Type 0} where
   -- the server once the host has served a connection, and all of it was reported
-  abbrev pub core_reported : ℕ → ConnectionInfo → (old : ServerCore S) → Host → Sockets S → ServerCore S
-  core_reported conn info old host sockets =
+  abbrev pub server_reported : ℕ → ConnectionInfo → (old : Server S) → Host → Sockets S → Server S
+  server_reported conn info old host sockets =
       record old {
         hosts = with_host conn (reported conn host) old.hosts;
         sockets = sockets;
@@ -112,9 +112,9 @@ module _ {S : Type 0} where
       }
 
   -- the last report of a turn: the connection's end, if it is over
-  abbrev pub end_in_turn : ℕ → ConnectionInfo → (old : ServerCore S) → Served → Host → Sockets S → List Event
+  abbrev pub end_in_turn : ℕ → ConnectionInfo → (old : Server S) → Served → Host → Sockets S → List Event
   end_in_turn conn info old answer host sockets =
-      if_any (ended conn (info_after conn host info) (core_reported conn info old host sockets))
+      if_any (ended conn (info_after conn host info) (server_reported conn info old host sockets))
       (ending_after conn info answer host)
 
 module _ {S W : Type 0} (gave : S → ℕ → List ℕ → Result ℕ Error → S → Type 0)
@@ -123,14 +123,14 @@ module _ {S W : Type 0} (gave : S → ℕ → List ℕ → Result ℕ Error → 
     (showed : W → Host → ℕ → Result Unit Fault → W → Type 0) where
   -- Holds if the host serves a connection, by one read, one act and one write, with this answer, and these are the host
   -- and the sockets after it.
-  abbrev pub IsServed : ℕ → ServerCore S → Served → Host → Sockets S → Type 0
+  abbrev pub IsServed : ℕ → Server S → Served → Host → Sockets S → Type 0
   IsServed conn old answer host sockets = Serves (GivesAt gave) (TakesAt took) conn (host_at conn old.hosts)
       (with_unsent conn old) answer host sockets
 
   -- Holds if a connection is served once, and the watcher receives each event, once and in order. If the connection is
   -- over, it is ended, and the watcher receives that.
-  pub record ServesNumber (conn : ℕ) (info : ConnectionInfo) (old : ServerCore S) (watcher : W) (acted : Bool)
-      (new : ServerCore S) (after : W) : Type 0 where
+  pub record ServesNumber (conn : ℕ) (info : ConnectionInfo) (old : Server S) (watcher : W) (acted : Bool)
+      (new : Server S) (after : W) : Type 0 where
     pub answer : Served
     pub host : Host
     pub sockets : Sockets S
@@ -141,12 +141,12 @@ module _ {S W : Type 0} (gave : S → ℕ → List ℕ → Result ℕ Error → 
     pub hears : HearsEach noticed showed
         (reports_of info.client conn host ++ end_in_turn conn info old answer host sockets) watcher after
     pub becomes : new ≡ given_back_if (ending_after conn info answer host) conn (info_after conn host info)
-        (core_reported conn info old host sockets)
+        (server_reported conn info old host sockets)
 
   -- Holds if such a turn fails: either memory was refused while the host served the connection, and the watcher
   -- received nothing; or the watcher failed. What was done before that is not undone.
-  pub data BreaksOffAt (conn : ℕ) (info : ConnectionInfo) (old : ServerCore S) (watcher : W) (why : Fault)
-      (new : ServerCore S) (after : W) : Type 0 where
+  pub data BreaksOffAt (conn : ℕ) (info : ConnectionInfo) (old : Server S) (watcher : W) (why : Fault)
+      (new : Server S) (after : W) : Type 0 where
     starved : (host : Host) (sockets : Sockets S) → IsServed conn old served.Memory host sockets → why ≡ fault.NoMemory
         → new ≡ record old { hosts = with_host conn host old.hosts; sockets = sockets } → after ≡ watcher
         → BreaksOffAt conn info old watcher why new after
@@ -160,15 +160,15 @@ module _ {S W : Type 0} (gave : S → ℕ → List ℕ → Result ℕ Error → 
         → HearsEach noticed showed (reports_of info.client conn host) watcher told
         → FailsAmong noticed showed (end_in_turn conn info old answer host sockets) told why after
         → new ≡ given_back_if (ending_after conn info answer host) conn (info_after conn host info)
-        (core_reported conn info old host sockets)
+        (server_reported conn info old host sockets)
         → BreaksOffAt conn info old watcher why new after
 
   -- holds if an open connection is served; a number without one is left alone
-  abbrev pub ServesIfOpen : Option ConnectionInfo → ℕ → ServerCore S → W → Result Bool Fault → ServerCore S → W → Type 0
+  abbrev pub ServesIfOpen : Option ConnectionInfo → ℕ → Server S → W → Result Bool Fault → Server S → W → Type 0
   ServesIfOpen None conn old watcher answer new after = (answer ≡ Ok false) × (new ≡ old) × (after ≡ watcher)
   ServesIfOpen (Some info) conn old watcher (Ok acted) new after = ServesNumber conn info old watcher acted new after
   ServesIfOpen (Some info) conn old watcher (Err why) new after = BreaksOffAt conn info old watcher why new after
 
   -- holds for a turn of the connection on this number, if there is one
-  abbrev pub ServesAt : ℕ → ServerCore S → W → Result Bool Fault → ServerCore S → W → Type 0
+  abbrev pub ServesAt : ℕ → Server S → W → Result Bool Fault → Server S → W → Type 0
   ServesAt conn old watcher answer new after = ServesIfOpen (open_at conn old) conn old watcher answer new after

@@ -11,11 +11,11 @@ use Rattle.server.specs.Accepting.{AdmitsAll, Door, door, most_accepted}
 use Rattle.server.specs.NumberTurns.{ServesAt}
 use Rattle.server.specs.Visits.{VisitsEach}
 use Rattle.server.specs.declared.accepting.Arrival.{Arrival}
-use Rattle.server.specs.declared.server_core.ServerCore.{ServerCore}
+use Rattle.server.specs.declared.server.Server.{Server}
 
 -- the server of a new host, without connections. `boot` is the first part of the names of its sessions
-abbrev pub new_core : {S : Type 0} → Host → (boot : ℕ) → ServerCore S
-new_core host boot = record {
+abbrev pub new_server : {S : Type 0} → Host → (boot : ℕ) → Server S
+new_server host boot = record {
   hosts = only host;
   sockets = new_sockets;
   infos = replicate most_connections None;
@@ -33,29 +33,29 @@ module _ {S W L : Type 0} (gave : S → ℕ → List ℕ → Result ℕ Error �
   Accepts old answer new = AdmitsAll noticed showed accepts most_accepted old answer new
 
   -- holds if each open connection is served once, in the order of the numbers, and no other is
-  abbrev pub ServesEach : ServerCore S → W → Result Bool Fault → ServerCore S → W → Type 0
+  abbrev pub ServesEach : Server S → W → Result Bool Fault → Server S → W → Type 0
   ServesEach old watcher answer new after = VisitsEach (ServesAt gave took noticed showed) old watcher answer new after
 
   -- the server with the flag cleared that says whether a byte was read or written in the turn
-  abbrev pub not_moved : ServerCore S → ServerCore S
-  not_moved core = record core { sockets = record core.sockets { moved = false } }
+  abbrev pub not_moved : Server S → Server S
+  not_moved server = record server { sockets = record server.sockets { moved = false } }
 
   -- holds for a turn without a fault; `did`: a byte was read or written, or the host acted
   pub record WholeTurn (old : Door L S W) (did : Bool) (new : Door L S W) : Type 0 where
     pub accepted : Door L S W
-    pub served : ServerCore S
+    pub served : Server S
     pub acted : Bool
     pub accepts_all : Accepts old (Ok tt) accepted
-    pub serves_each : ServesEach accepted.core accepted.watcher (Ok acted) served new.watcher
+    pub serves_each : ServesEach accepted.server accepted.watcher (Ok acted) served new.watcher
     pub listener_stays : new.listener ≡ accepted.listener
-    pub becomes : new.core ≡ not_moved served
+    pub becomes : new.server ≡ not_moved served
     pub did_is : did ≡ (served.sockets.moved || acted)
 
   -- holds if a turn ends at its first fault; what was done before that is not undone
   pub data BrokenTurn (old : Door L S W) (why : Fault) (new : Door L S W) : Type 0 where
     accepting : Accepts old (Err why) new → BrokenTurn old why new
     serving : (accepted : Door L S W) → Accepts old (Ok tt) accepted
-        → ServesEach accepted.core accepted.watcher (Err why) new.core new.watcher
+        → ServesEach accepted.server accepted.watcher (Err why) new.server new.watcher
         → new.listener ≡ accepted.listener → BrokenTurn old why new
 
   -- holds for a turn, whole or ended by a fault
@@ -65,13 +65,8 @@ module _ {S W L : Type 0} (gave : S → ℕ → List ℕ → Result ℕ Error �
 
   -- ---- with the system's listener, of which nothing is known except what it hands over
 
-  -- holds if all connections that wait at the listener are accepted
-  abbrev pub AcceptsWaiting : ServerCore S → W → Result Unit Fault → ServerCore S → W → Type 0
-  AcceptsWaiting old watcher answer new after = (before later : L)
-      × Accepts (door before old watcher) answer (door later new after)
-
   -- Holds if the server polls until a socket is ready or the time is up, and then takes a turn. A failed poll ends it.
-  pub data PollsAndServes (old : ServerCore S) (watcher : W) (answer : Result Bool Fault) (new : ServerCore S)
+  pub data PollsAndServes (old : Server S) (watcher : W) (answer : Result Bool Fault) (new : Server S)
       (after : W) : Type 0 where
     poll_failed : answer ≡ Err fault.SocketFailed → new ≡ old → after ≡ watcher
         → PollsAndServes old watcher answer new after

@@ -19,7 +19,7 @@ use Rattle.server.specs.NumberTurns.{ended, given_back, open_at}
 use Rattle.server.specs.Visits.{VisitsEach}
 use Rattle.server.specs.Watching.{Told}
 use Rattle.server.specs.declared.connection_info.ConnectionInfo.{ConnectionInfo}
-use Rattle.server.specs.declared.server_core.ServerCore.{ServerCore}
+use Rattle.server.specs.declared.server.Server.{Server}
 
 -- what a connection waits for
 abbrev pub awaited_at : ℕ → Host → Awaited
@@ -38,54 +38,54 @@ HasDone (Err why) = ⊤
 
 module _ {S : Type 0} where
   -- the connection's activity, updated with the bytes received and sent until now
-  abbrev pub activity_at : ℕ → ConnectionInfo → ServerCore S → Activity
-  activity_at conn info core =
-      heard (slot_at conn core.sockets).received (slot_at conn core.sockets).sent
-      (awaited_at conn (host_at conn core.hosts)) core.now info.activity
+  abbrev pub activity_at : ℕ → ConnectionInfo → Server S → Activity
+  activity_at conn info server =
+      heard (slot_at conn server.sockets).received (slot_at conn server.sockets).sent
+      (awaited_at conn (host_at conn server.hosts)) server.now info.activity
 
   -- whether the application ends the session of a connection that waits for the operator
-  abbrev pub is_finished : ℕ → ConnectionInfo → ServerCore S → Bool
-  is_finished conn info core = info.ends && is_operator (awaited_at conn (host_at conn core.hosts))
+  abbrev pub is_finished : ℕ → ConnectionInfo → Server S → Bool
+  is_finished conn info server = info.ends && is_operator (awaited_at conn (host_at conn server.hosts))
 
   -- what the time limits require on this connection now
-  abbrev pub due_at : TimeLimits → ℕ → ConnectionInfo → ServerCore S → Due
-  due_at limits conn info core = due limits (awaited_at conn (host_at conn core.hosts)) (activity_at conn info core)
-      core.now
+  abbrev pub due_at : TimeLimits → ℕ → ConnectionInfo → Server S → Due
+  due_at limits conn info server = due limits (awaited_at conn (host_at conn server.hosts)) (activity_at conn info server)
+      server.now
 
   -- Whether bytes were received since the limits were last applied, and none sent: the peer's TCP waits for an ACK.
-  abbrev pub is_unanswered_at : ℕ → ConnectionInfo → ServerCore S → Bool
-  is_unanswered_at conn info core = is_unanswered info.activity (slot_at conn core.sockets).received
-      (slot_at conn core.sockets).sent
+  abbrev pub is_unanswered_at : ℕ → ConnectionInfo → Server S → Bool
+  is_unanswered_at conn info server = is_unanswered info.activity (slot_at conn server.sockets).received
+      (slot_at conn server.sockets).sent
 
-  abbrev pub with_activity : ℕ → ConnectionInfo → Activity → ServerCore S → ServerCore S
-  with_activity conn info activity core =
-      record core { infos = slice_set core.infos conn (Some (record info { activity = activity })) }
+  abbrev pub with_activity : ℕ → ConnectionInfo → Activity → Server S → Server S
+  with_activity conn info activity server =
+      record server { infos = slice_set server.infos conn (Some (record info { activity = activity })) }
 
   -- the server with IAC NOP queued on a bound connection without waiting output
-  abbrev pub nop_sent : ℕ → ServerCore S → ServerCore S
-  nop_sent conn core = record core {
+  abbrev pub nop_sent : ℕ → Server S → Server S
+  nop_sent conn server = record server {
     hosts = with_host conn
-        (with_connection conn (with_nop (connection_at conn (host_at conn core.hosts))) (host_at conn core.hosts))
-        core.hosts;
+        (with_connection conn (with_nop (connection_at conn (host_at conn server.hosts))) (host_at conn server.hosts))
+        server.hosts;
   }
 
-  abbrev pub nop_sent_if : Bool → ℕ → ServerCore S → ServerCore S
-  nop_sent_if asked conn core = if asked then nop_sent conn core else core
+  abbrev pub nop_sent_if : Bool → ℕ → Server S → Server S
+  nop_sent_if asked conn server = if asked then nop_sent conn server else server
 
   -- whether IAC NOP may be sent: the connection is bound, and no output waits there
-  abbrev pub sends_nop : ℕ → ServerCore S → Bool
-  sends_nop conn core = may_keep_alive (connection_at conn (host_at conn core.hosts))
+  abbrev pub sends_nop : ℕ → Server S → Bool
+  sends_nop conn server = may_keep_alive (connection_at conn (host_at conn server.hosts))
 
 module _ {S W : Type 0} (noticed : W → Notice → Result Unit Fault → W → Type 0)
     (showed : W → Host → ℕ → Result Unit Fault → W → Type 0) where
   -- holds if a connection is ended for this reason, and the watcher receives that
-  abbrev pub IsEnded : Ending → ℕ → ConnectionInfo → ServerCore S → W → Result Bool Fault → ServerCore S → W → Type 0
+  abbrev pub IsEnded : Ending → ℕ → ConnectionInfo → Server S → W → Result Bool Fault → Server S → W → Type 0
   IsEnded why conn info old watcher answer new after =
       Told noticed showed (ended conn info old why ∷ []) watcher (done answer) after
       × (new ≡ given_back conn info why old) × HasDone answer
 
   -- Holds if just what is due on a connection is done: it is ended, and the watcher receives that; or IAC NOP is sent.
-  abbrev pub DoesDue : Due → ℕ → ConnectionInfo → ServerCore S → W → Result Bool Fault → ServerCore S → W → Type 0
+  abbrev pub DoesDue : Due → ℕ → ConnectionInfo → Server S → W → Result Bool Fault → Server S → W → Type 0
   DoesDue (due_now.Disconnect overdue) conn info old watcher answer new after =
       IsEnded (ending.Dropped overdue) conn info old watcher answer new after
   DoesDue due_now.KeepAlive conn info old watcher answer new after =
@@ -98,26 +98,26 @@ module _ {S W : Type 0} (noticed : W → Notice → Result Unit Fault → W → 
 
   module _ (limits : TimeLimits) where
     -- holds if a connection is ended if its session is `finished`, and otherwise the limits are applied to it
-    abbrev pub AppliesUnless : (finished : Bool) → ConnectionInfo → ℕ → ServerCore S → W → Result Bool Fault
-        → ServerCore S → W → Type 0
+    abbrev pub AppliesUnless : (finished : Bool) → ConnectionInfo → ℕ → Server S → W → Result Bool Fault
+        → Server S → W → Type 0
     AppliesUnless true info conn old watcher answer new after =
         IsEnded ending.ByApplication conn info old watcher answer new after
     AppliesUnless false info conn old watcher answer new after =
         DoesDue (due_at limits conn info old) conn info old watcher answer new after
 
     -- holds if an open connection is ended or the limits are applied to it; a number without one is left alone
-    abbrev pub AppliesIfOpen : Option ConnectionInfo → ℕ → ServerCore S → W → Result Bool Fault → ServerCore S
+    abbrev pub AppliesIfOpen : Option ConnectionInfo → ℕ → Server S → W → Result Bool Fault → Server S
         → W → Type 0
     AppliesIfOpen None conn old watcher answer new after = (answer ≡ Ok false) × (new ≡ old) × (after ≡ watcher)
     AppliesIfOpen (Some info) conn old watcher answer new after =
         AppliesUnless (is_finished conn info old) info conn old watcher answer new after
 
     -- holds if what is due is done on this number, if it has an open connection
-    abbrev pub AppliesAt : ℕ → ServerCore S → W → Result Bool Fault → ServerCore S → W → Type 0
+    abbrev pub AppliesAt : ℕ → Server S → W → Result Bool Fault → Server S → W → Type 0
     AppliesAt conn old watcher answer new after = AppliesIfOpen (open_at conn old) conn old watcher answer new after
 
     -- holds if the time is set, and the limits are applied to each number if `applied`
-    abbrev pub AppliesIf : (applied : Bool) → (now : ℕ) → ServerCore S → W → Result Bool Fault → ServerCore S
+    abbrev pub AppliesIf : (applied : Bool) → (now : ℕ) → Server S → W → Result Bool Fault → Server S
         → W → Type 0
     AppliesIf true now old watcher answer new after =
         VisitsEach AppliesAt (record old { now = now; applied = now }) watcher answer new after
@@ -126,6 +126,6 @@ module _ {S W : Type 0} (noticed : W → Notice → Result Unit Fault → W → 
 
     -- Holds if the time is set, and the limits are applied to each number if a byte moved in the turn, or if they were
     -- last applied long enough before.
-    abbrev pub KeepsTime : (now : ℕ) → (moved : Bool) → ServerCore S → W → Result Bool Fault → ServerCore S → W → Type 0
+    abbrev pub KeepsTime : (now : ℕ) → (moved : Bool) → Server S → W → Result Bool Fault → Server S → W → Type 0
     KeepsTime now moved old watcher answer new after =
         AppliesIf (are_applied moved old.applied now) now old watcher answer new after

@@ -4,7 +4,7 @@ ghost use Rattle.host_core.specs.State.{most_connections};
 ghost use Rattle.server.specs.Control.{DeliversAt, DeliversBelow, Tries, after_try, delivery_of, has_recipient_below, has_session, is_for, is_sent, queued_below, recipient_at, session_if_for, with_waiting};
 
 use crate::connection_info::{ConnectionInfo, none_for_each};
-use crate::server_core::ServerCore;
+use crate::server::Server;
 use control::{NoteText, Recipient};
 use host_core::{Acted, MOST_CONNECTIONS};
 use job_streams::{RawRead, RawWrite};
@@ -75,28 +75,24 @@ fn session_if_for(to: &Recipient, info: &ConnectionInfo) -> Option<u64>
 /// The session on an open connection, if a note is for it.
 fn recipient_at<S: RawRead + RawWrite + Drop>(
     to: &Recipient,
-    core: &ServerCore<S>,
+    server: &Server<S>,
     conn: usize,
 ) -> Option<u64>
     requires { conn < most_connections }
-    ensures { result ≡ recipient_at to.now core.entry.now conn }
+    ensures { result ≡ recipient_at to.now server.entry.now conn }
 {
-    match core.open_info(conn) {
+    match server.open_info(conn) {
         Some(info) => session_if_for(to, &info),
         None => None,
     }
 }
 
 /// Whether the session with this number is on an open connection.
-fn has_session<S: RawRead + RawWrite + Drop>(
-    conn: usize,
-    session: u64,
-    core: &ServerCore<S>,
-) -> bool
+fn has_session<S: RawRead + RawWrite + Drop>(conn: usize, session: u64, server: &Server<S>) -> bool
     requires { conn < most_connections }
-    ensures { result ≡ has_session conn session core.entry.now }
+    ensures { result ≡ has_session conn session server.entry.now }
 {
-    match core.open_info(conn) {
+    match server.open_info(conn) {
         Some(info) => info.client.session.number == session,
         None => false,
     }
@@ -123,13 +119,13 @@ fn is_sent(delivery: Delivery) -> bool
 fn try_note<S: RawRead + RawWrite + Drop>(
     conn: usize,
     note: &WaitingNote,
-    core: &mut ServerCore<S>,
+    server: &mut Server<S>,
 ) -> Delivery
     requires { conn < most_connections }
-    ensures { Tries conn note.now core.old result core.new }
+    ensures { Tries conn note.now server.old result server.new }
 {
-    if has_session(conn, note.session, core) {
-        delivery_of(core.note(conn, &note.text))
+    if has_session(conn, note.session, server) {
+        delivery_of(server.note(conn, &note.text))
     } else {
         Delivery::Left
     }
@@ -163,14 +159,14 @@ impl NoteQueue {
         &mut self,
         to: &Recipient,
         text: &NoteText,
-        core: &ServerCore<S>,
+        server: &Server<S>,
     ) -> bool
-        ensures queued { self.new ≡ queued_below to.now text.now core.entry.now most_connections self.old }
-        ensures found { result ≡ has_recipient_below to.now core.entry.now most_connections }
+        ensures queued { self.new ≡ queued_below to.now text.now server.entry.now most_connections self.old }
+        ensures found { result ≡ has_recipient_below to.now server.entry.now most_connections }
     {
         let mut found = false;
         for conn in 0..MOST_CONNECTIONS {
-            let session = recipient_at(to, core, conn);
+            let session = recipient_at(to, server, conn);
             found |= session.is_some();
             self.set(conn, session, text);
         }
@@ -189,32 +185,25 @@ impl NoteQueue {
     }
 
     /// Tries a number's waiting note, if there is one. Answers whether it was sent.
-    fn deliver<S: RawRead + RawWrite + Drop>(
-        &mut self,
-        conn: usize,
-        core: &mut ServerCore<S>,
-    ) -> bool
+    fn deliver<S: RawRead + RawWrite + Drop>(&mut self, conn: usize, server: &mut Server<S>) -> bool
         requires { conn < most_connections }
-        ensures { DeliversAt conn core.old self.old result core.new self.new }
+        ensures { DeliversAt conn server.old self.old result server.new self.new }
     {
         let Some(note) = &self.notes[conn] else {
             return false;
         };
-        let delivery = try_note(conn, note, core);
+        let delivery = try_note(conn, note, server);
         self.settle(conn, delivery);
         is_sent(delivery)
     }
 
     /// Tries each waiting note, in the order of the numbers. Answers whether one was sent.
-    pub(crate) fn deliver_each<S: RawRead + RawWrite + Drop>(
-        &mut self,
-        core: &mut ServerCore<S>,
-    ) -> bool
-        ensures { DeliversBelow most_connections core.old self.old result core.new self.new }
+    pub fn deliver_each<S: RawRead + RawWrite + Drop>(&mut self, server: &mut Server<S>) -> bool
+        ensures { DeliversBelow most_connections server.old self.old result server.new self.new }
     {
         let mut sent = false;
         for conn in 0..MOST_CONNECTIONS {
-            sent |= self.deliver(conn, core);
+            sent |= self.deliver(conn, server);
         }
         sent
     }

@@ -2,10 +2,10 @@
 ghost use Rattle.std.specs.Prelude.{◌≡◌, IfOk, None, false, replicate};
 ghost use Rattle.host_core.specs.State.{most_connections};
 ghost use Rattle.service_events.specs.Timing.{is_over};
-ghost use Rattle.server.specs.Control.{has_text, is_done, is_drained, is_ended, ordered, with_drain, with_note_if};
+ghost use Rattle.server.specs.Control.{has_text, is_done, is_drained, is_ended, ordered, takes_nobody, with_drain, with_note_if};
 
 use crate::note_queue::NoteQueue;
-use crate::server_core::ServerCore;
+use crate::server::Server;
 use control::{Command, NoteText, Recipient};
 use job_streams::{RawRead, RawWrite};
 use jobs::Seconds;
@@ -31,14 +31,10 @@ fn is_over(limit: Seconds, millis: u64) -> bool
 }
 
 /// Whether a service that is drained since a time is over.
-fn is_drained<S: RawRead + RawWrite + Drop>(
-    limit: Seconds,
-    core: &ServerCore<S>,
-    since: u64,
-) -> bool
-    ensures { result ≡ is_drained limit core.entry.now since }
+fn is_drained<S: RawRead + RawWrite + Drop>(limit: Seconds, server: &Server<S>, since: u64) -> bool
+    ensures { result ≡ is_drained limit server.entry.now since }
 {
-    !core.has_connection() || is_over(limit, core.now.saturating_sub(since))
+    !server.has_connection() || is_over(limit, server.now.saturating_sub(since))
 }
 
 impl Orders {
@@ -55,11 +51,11 @@ impl Orders {
     }
 
     /// Shows a text to everyone, unless it is empty.
-    fn tell_everyone<S: RawRead + RawWrite + Drop>(&mut self, text: &NoteText, core: &ServerCore<S>)
-        ensures { self.new ≡ with_note_if (has_text text.now) text.now core.entry.now self.old }
+    fn tell_everyone<S: RawRead + RawWrite + Drop>(&mut self, text: &NoteText, server: &Server<S>)
+        ensures { self.new ≡ with_note_if (has_text text.now) text.now server.entry.now self.old }
     {
         if !text.codes().is_empty() {
-            let _ = self.notes.add(&Recipient::Everyone, text, core);
+            let _ = self.notes.add(&Recipient::Everyone, text, server);
         }
     }
 
@@ -75,19 +71,19 @@ impl Orders {
     pub fn take<S: RawRead + RawWrite + Drop>(
         &mut self,
         command: &Command,
-        core: &ServerCore<S>,
+        server: &Server<S>,
     ) -> bool
-        ensures ordered { self.new ≡ ordered command.now core.entry.now self.old }
-        ensures done { result ≡ is_done command.now core.entry.now }
+        ensures ordered { self.new ≡ ordered command.now server.entry.now self.old }
+        ensures done { result ≡ is_done command.now server.entry.now }
     {
         match command {
             Command::Reload => false,
             Command::Drain { text } => {
-                self.tell_everyone(text, core);
-                self.drain(core.now);
+                self.tell_everyone(text, server);
+                self.drain(server.now);
                 true
             }
-            Command::Note { to, text } => self.notes.add(to, text, core),
+            Command::Note { to, text } => self.notes.add(to, text, server),
             Command::Sessions => true,
             Command::Stop => {
                 self.stopped = true;
@@ -96,19 +92,26 @@ impl Orders {
         }
     }
 
+    /// Whether no new session is taken.
+    pub fn is_closed(&self) -> bool
+        ensures { result ≡ takes_nobody self.now }
+    {
+        self.drained.is_some()
+    }
+
     /// Whether operators ended the service. `limit` is the time for draining.
     pub fn have_ended<S: RawRead + RawWrite + Drop>(
         &self,
         limit: Seconds,
-        core: &ServerCore<S>,
+        server: &Server<S>,
     ) -> bool
-        ensures { result ≡ is_ended limit self.now core.entry.now }
+        ensures { result ≡ is_ended limit self.now server.entry.now }
     {
         if self.stopped {
             return true;
         }
         match self.drained {
-            Some(since) => is_drained(limit, core, since),
+            Some(since) => is_drained(limit, server, since),
             None => false,
         }
     }

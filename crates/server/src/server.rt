@@ -1,61 +1,47 @@
-//! A server: a host over sockets, served one turn at a time.
-ghost use Rattle.std.specs.Prelude.{◌≡◌, ◌<◌, IfOk};
-ghost use Rattle.host_core.specs.State.{most_connections};
-ghost use Rattle.hosts.specs.Hosts.{host_at};
-ghost use Rattle.socket_links.specs.Sockets.{is_connected, slot_at};
-ghost use Rattle.server.specs.Control.{DeliversBelow, Reloads, StopsAt};
-ghost use Rattle.server.specs.HostAnswers.{AsksHost, HandsAnswer, HearsFault, HearsReplaced, TakesEnd, client_at, ended_if, usage_at};
-ghost use Rattle.server.specs.ServerTurns.{AcceptsWaiting, PollsAndServes, new_core};
-ghost use Rattle.server.specs.TimeTurns.{KeepsTime};
+//! A server: a host, its connections, and the server's time. It opens no socket and reads no clock.
+ghost use Rattle.std.specs.Prelude.{◌≡◌, ◌≢◌, ◌<◌, ◌∷◌, ℕ, [], IfNone, IfOk, IfSome, Some};
+ghost use Rattle.host_core.specs.State.{most_connections, phase_of};
+ghost use Rattle.host_core.specs.declared.phase.Phase.TheVariants as phase;
+ghost use Rattle.hosts.specs.Apart.{service_at};
+ghost use Rattle.server.specs.Accepting.{Admits, AdmitsAll, AreTaken, IsLeastFree, Receives, door, most_accepted};
+ghost use Rattle.server.specs.HostAnswers.{usage_at};
+ghost use Rattle.server.specs.NumberTurns.{ServesAt, ServesIfOpen, ended, given_back, open_at};
+ghost use Rattle.server.specs.ServerTurns.{TakesTurn, new_server};
 ghost use Rattle.server.specs.Visits.{VisitsEach};
+ghost use Rattle.server.specs.Watching.{Told};
+ghost use Rattle.socket_links.specs.Sockets.{is_connected, slot_at};
 
-use crate::accepting::{Accepted, Arrival, Listener, NoListener};
-use crate::note_queue::NoteQueue;
-use crate::proxy_listener::{ConnectionAwaitingHeader, MOST_HELD, ProxyListener};
-use crate::server_core::ServerCore;
+use crate::accepting::{Accepted, Arrival, Listener};
+use crate::connection_info::{ConnectionInfo, ConnectionInfos};
+use crate::reporting::report;
 use crate::watcher::Watcher;
-use applications::{ApplicationFault, EndedSession, Query, Replaced, SessionName};
-use codes3270::Model as TerminalModel;
-use host_core::{Acted, Answer, Host, MOST_CONNECTIONS, PanelSet, Ticket, Turn};
-use hosts::ReloadFault;
+use applications::SessionName;
+use host_core::{Host, MOST_CONNECTIONS, Phase, Served, Turn};
+use hosts::Hosts;
 use job_streams::{Fault, RawRead, RawWrite};
-use jobs::TimeLimits;
-use mio::event::Source;
-use mio::net::{TcpListener, TcpStream};
-use mio::{Events, Interest, Poll, Token};
-use service_events::{Client, Usage};
-use std::alloc::Global;
-use std::io::{self, ErrorKind};
-use std::marker::Model;
-use std::net::{Net, SocketAddr};
-use std::time::Duration;
+use service_events::{Client, Ending, Notice, Usage, ending_of};
+use socket_links::Sockets;
+use std::alloc::{AllocError, Global};
+use std::net::SocketAddr;
 use tn3270e_msg::Lu;
 
-/// The most events of one poll. Sockets without an event are also served.
-const MOST_EVENTS: usize = 128;
+/// The most connections that one turn accepts: more than the system queues.
+const MOST_ACCEPTED: usize = 65_536;
 
-/// The poll token of the listener.
-const LISTENER: Token = Token(MOST_CONNECTIONS);
-
-/// The poll token of all connections.
-const CONNECTION: usize = 0;
-
-/// A server, with its listener and its poll. Contracts describe the server's state; of the listener and the poll they
-/// know only what these hand over.
+/// A host, the sockets of its connections, and a record of each.
 #[derive(Drop)]
-pub struct Server {
-    core: ServerCore<TcpStream>,
-    door: ProxyListener<TcpStream, PolledListener>,
-    events: Events,
-}
-
-impl Model for Server {
-    ghost use Rattle.mio.specs.declared.net.stream.TcpStream.{TcpStream};
-    ghost use Rattle.server.specs.declared.server_core.ServerCore.{ServerCore};
-
-    ghost Value = { ServerCore TcpStream };
-
-    ghost view = { λ server. server.core };
+pub struct Server<S> {
+    /// The host of the newest panels, and the earlier ones.
+    pub(crate) hosts: Hosts,
+    pub(crate) sockets: Sockets<S>,
+    /// The record of the last connection of each number.
+    pub(crate) infos: ConnectionInfos,
+    /// The name of the next session. Its count is that of the host, which uses it in the tickets of questions.
+    pub(crate) next_session: SessionName,
+    /// The server's time, in milliseconds.
+    pub(crate) now: u64,
+    /// When the time limits were last applied, in milliseconds of the server's time.
+    pub(crate) applied: u64,
 }
 
 /// What an operator gets to know of a session: nothing that was typed or shown.
@@ -76,395 +62,255 @@ pub struct SessionRow {
     pub turn: Turn,
 }
 
-/// The listener of a server, and the poll to which accepted sockets are added.
-#[derive(Drop)]
-pub struct PolledListener {
-    /// None once the port is closed.
-    listener: Option<TcpListener>,
-    poll: Poll,
-}
-
-impl Listener<TcpStream> for PolledListener {
-    ghost gave = { λ _ _ _. Unit {0} };
-
-    fn accept(&mut self) -> Option<Arrival<TcpStream>> {
-        let Ok((mut socket, peer)) = self.listener.as_ref()?.accept() else {
-            return None;
-        };
-        // Records are short, and their senders wait for answers. If one of these calls fails, the socket is still
-        // served.
-        let _ = socket.set_nodelay(true);
-        let _ = register(&self.poll, &mut socket, CONNECTION);
-        Some(Arrival::Begun(Accepted { socket, peer }))
-    }
-}
-
-/// Adds a socket to a poll.
-fn register<S: Source>(poll: &Poll, socket: &mut S, token: usize) -> io::Result<()> {
-    let interest = Interest::READABLE | Interest::WRITABLE;
-    poll.registry().register(socket, Token(token), interest)
-}
-
-/// A listener at an address, and a poll that has it.
-fn listen(net: &impl Net, address: SocketAddr) -> io::Result<PolledListener> {
-    let poll = Poll::new(net)?;
-    let mut listener = TcpListener::bind(net, address)?;
-    poll.registry()
-        .register(&mut listener, LISTENER, Interest::READABLE)?;
-    Ok(PolledListener {
-        listener: Some(listener),
-        poll,
-    })
-}
-
-impl Server {
-    /// A server of a new host at an address; the system picks a free port if the port is 0. `boot` is the first part of
-    /// the names of its sessions. NoMemory if memory is refused; CannotListen if the system can't listen there, for
-    /// example because the port is in use.
-    pub fn new(
-        net: &impl Net,
-        alloc: Global,
-        host: Host,
-        boot: u64,
-        address: SocketAddr,
-    ) -> Result<Server, Fault>
-        ensures { IfOk result (λ server. server ≡ new_core host boot) }
-    {
-        let Ok(core) = ServerCore::new(alloc, host, boot) else {
-            return Err(Fault::NoMemory);
-        };
-        let Ok(events) = Events::with_capacity(alloc, MOST_EVENTS) else {
-            return Err(Fault::NoMemory);
-        };
-        let Ok(held) = Vec::with_capacity(alloc, MOST_HELD) else {
-            return Err(Fault::NoMemory);
-        };
-        let listener = match listen(net, address) {
-            Ok(listener) => listener,
-            Err(error) => return Err(Fault::CannotListen(address, error.kind())),
-        };
-        Ok(Server {
-            core,
-            door: ProxyListener {
-                listener,
-                proxied: false,
-                held,
-                now: 0,
-            },
-            events,
-        })
-    }
-
-    /// Expects a header of the PROXY protocol at the front of each connection that is accepted from now on.
-    pub fn expect_headers(&mut self)
-        ensures { self.new ≡ self.old }
-    {
-        self.door.proxied = true;
-    }
-
-    /// Closes the port, and the connections whose header isn't complete yet.
-    pub fn close_port(&mut self)
-        ensures { self.new ≡ self.old }
-    {
-        self.door.listener.listener = None;
-        self.door.held.clear();
-    }
-
-    /// The listener's address. An error if the port is closed, or if the system can't report it.
-    pub fn address(&self) -> io::Result<SocketAddr> {
-        match &self.door.listener.listener {
-            Some(listener) => listener.local_addr(),
-            None => Err(ErrorKind::NotConnected.into()),
+/// The least free connection number; None if none is free.
+fn free_number(hosts: &Hosts) -> Option<usize>
+    ensures least { IfSome result (λ conn. IsLeastFree conn hosts.now) }
+    ensures none { IfNone result (AreTaken most_connections hosts.now) }
+{
+    for conn in 0..MOST_CONNECTIONS {
+        if let Phase::Free = hosts.at(conn).phase(conn) {
+            return Some(conn);
         }
     }
+    None
+}
 
-    /// The address of a connection's peer; None if there is no connection, or if the system can't report the address.
-    pub fn peer(&self, conn: usize) -> Option<SocketAddr> {
-        self.core.sockets.peer(conn)
-    }
-
-    /// Adds a socket to the server's poll.
-    pub fn register<S: Source>(&self, socket: &mut S, token: usize) -> io::Result<()> {
-        register(&self.door.listener.poll, socket, token)
-    }
-
-    /// Adds a listener to the server's poll.
-    pub fn register_listener<L: Source>(&self, listener: &mut L, token: usize) -> io::Result<()> {
-        self.door
-            .listener
-            .poll
-            .registry()
-            .register(listener, Token(token), Interest::READABLE)
+impl<S: RawRead + RawWrite + Drop> Server<S> {
+    /// A server of a new host. `boot` is the first part of the names of its sessions. An error if memory is refused.
+    pub fn new(alloc: Global, host: Host, boot: u64) -> Result<Server<S>, AllocError>
+        ensures { IfOk result (λ server. server ≡ new_server host boot) }
+    {
+        let hosts = Hosts::new(alloc, host)?;
+        let sockets = Sockets::new(alloc)?;
+        let infos = ConnectionInfos::new(alloc)?;
+        Ok(Server {
+            hosts,
+            sockets,
+            infos,
+            next_session: SessionName { boot, number: 0 },
+            now: 0,
+            applied: 0,
+        })
     }
 
     /// The server's time, in milliseconds.
     pub fn now(&self) -> u64
-        ensures { result ≡ self.now.now }
+        ensures { result ≡ self.entry.now.now }
     {
-        self.core.now
+        self.now
     }
 
     /// The first part of the names of its sessions.
     pub fn boot(&self) -> u64
-        ensures { result ≡ self.now.next_session.boot }
+        ensures { result ≡ self.entry.now.next_session.boot }
     {
-        self.core.next_session.boot
+        self.next_session.boot
     }
 
     /// The host of the newest panels.
     pub fn host(&self) -> &Host
-        ensures { result.now ≡ self.now.hosts.current }
+        ensures { result.now ≡ self.entry.now.hosts.current }
     {
-        self.core.hosts.current()
+        self.hosts.current()
     }
 
-    /// The panels that a number's connection is served.
-    pub fn panels(&self, conn: usize) -> &PanelSet
-        requires { conn < most_connections }
-        ensures { result.now ≡ (host_at conn self.now.hosts).panels }
+    /// Begins a connection on the least free number, or drops the socket if no number is free, and reports which.
+    /// NoMemory if memory is refused; any fault of the watcher is returned.
+    fn admit<W: Watcher>(&mut self, accepted: Accepted<S>, watcher: &mut W) -> Result<(), Fault>
+        ensures { Admits W.noticed W.showed accepted self.old watcher.old result self.new watcher.new }
     {
-        self.core.hosts.at(conn).panels()
+        let Accepted { socket, peer } = accepted;
+        let Some(conn) = free_number(&self.hosts) else {
+            return watcher.notice(&Notice::TurnedAway(peer));
+        };
+        match self.hosts.open(conn) {
+            Ok(()) => {}
+            Err(_) => return Err(Fault::NoMemory),
+        }
+        self.sockets.open(conn, socket);
+        let session = self.next_session;
+        self.next_session = session.next();
+        let client = Client {
+            conn,
+            session,
+            peer,
+        };
+        self.infos.set(conn, ConnectionInfo::new(client, self.now));
+        watcher.notice(&Notice::Connected(client))
+    }
+
+    /// Begins a connection that the listener hands on, or reports one that it refused. NoMemory if memory is refused;
+    /// any fault of the watcher is returned.
+    fn receive<W: Watcher>(&mut self, arrival: Arrival<S>, watcher: &mut W) -> Result<(), Fault>
+        ensures { Receives W.noticed W.showed arrival self.old watcher.old result self.new watcher.new }
+    {
+        match arrival {
+            Arrival::Begun(accepted) => self.admit(accepted, watcher),
+            Arrival::Refused(peer, why) => watcher.notice(&Notice::BadProxyHeader(peer, why)),
+        }
+    }
+
+    /// Accepts all waiting connections. One that the listener can't accept now stays in the queue. NoMemory if memory
+    /// is refused; any fault of the watcher is returned.
+    pub fn accept_all<L: Listener<S>, W: Watcher>(
+        &mut self,
+        listener: &mut L,
+        watcher: &mut W,
+    ) -> Result<(), Fault>
+        ensures { AdmitsAll W.noticed W.showed L.gave most_accepted (door listener.old self.old watcher.old) result
+            (door listener.new self.new watcher.new) }
+    {
+        for _ in 0..MOST_ACCEPTED {
+            match listener.accept() {
+                Some(arrival) => self.receive(arrival, watcher)?,
+                None => return Ok(()),
+            }
+        }
+        Ok(())
+    }
+
+    /// Whether a number has a connection.
+    pub fn is_connected(&self, conn: usize) -> bool
+        requires { conn < most_connections }
+        ensures { result ≡ is_connected (slot_at conn self.entry.now.sockets) }
+    {
+        self.sockets.is_connected(conn)
+    }
+
+    /// The record of an open connection; None if the number has none.
+    pub(crate) fn open_info(&self, conn: usize) -> Option<ConnectionInfo>
+        requires { conn < most_connections }
+        ensures { result ≡ open_at conn self.entry.now }
+    {
+        if self.sockets.is_connected(conn) {
+            self.infos.at(conn)
+        } else {
+            None
+        }
+    }
+
+    /// Ends a connection: frees its number and its LU, closes its socket, records why, and then reports the end to the
+    /// watcher.
+    pub(crate) fn end<W: Watcher>(
+        &mut self,
+        conn: usize,
+        info: &ConnectionInfo,
+        ending: Ending,
+        watcher: &mut W,
+    ) -> Result<(), Fault>
+        requires number { conn < most_connections }
+        ensures told { Told W.noticed W.showed
+            (ended conn info.now self.old ending ∷ []) watcher.old result watcher.new }
+        ensures given_back { self.new ≡ given_back conn info.now ending self.old }
+        ensures free { phase_of (service_at conn self.new.hosts) ≡ phase.Free }
+        ensures others { (other : ℕ) → other ≢ conn
+            → service_at other self.new.hosts ≡ service_at other self.old.hosts }
+    {
+        let (sent, received) = (self.sockets.sent(conn), self.sockets.received(conn));
+        let usage = info.usage(self.now, sent, received);
+        self.hosts.closed(conn);
+        self.sockets.close(conn);
+        let ended = ConnectionInfo {
+            ending: Some(ending),
+            ..*info
+        };
+        self.infos.set(conn, ended);
+        watcher.notice(&Notice::Ended(info.client, ending, usage))
+    }
+
+    /// What an open connection has used so far; None if the number has no connection.
+    pub fn usage(&self, conn: usize) -> Option<Usage>
+        requires { conn < most_connections }
+        ensures { result ≡ usage_at conn self.entry.now }
+    {
+        let info = self.open_info(conn)?;
+        let (sent, received) = (self.sockets.sent(conn), self.sockets.received(conn));
+        Some(info.usage(self.now, sent, received))
     }
 
     /// What an operator gets to know of the session on an open connection; None if the number has none.
     pub fn session_row(&self, conn: usize) -> Option<SessionRow>
         requires { conn < most_connections }
     {
-        let info = self.core.open_info(conn)?;
+        let info = self.open_info(conn)?;
         let began = info.activity.began;
         Some(SessionRow {
             name: info.client.session,
             lu: info.lu,
             peer: info.client.peer,
             began,
-            seconds: self.core.now.saturating_sub(began) / 1000,
+            seconds: self.now.saturating_sub(began) / 1000,
             turns: info.screens.saturating_sub(1),
-            turn: self.core.hosts.at(conn).turn(conn),
+            turn: self.hosts.at(conn).turn(conn),
         })
     }
 
-    /// Whether a number has a connection.
-    pub fn is_connected(&self, conn: usize) -> bool
-        requires { conn < most_connections }
-        ensures { result ≡ is_connected (slot_at conn self.now.sockets) }
-    {
-        self.core.sockets.is_connected(conn)
-    }
-
-    /// The open question of a connection and who asks it, if there is one. NoMemory if memory is refused.
-    pub fn question(&self, conn: usize) -> Result<Option<Query>, Fault>
-        requires { conn < most_connections }
-        ensures { AsksHost conn self.now result }
-    {
-        match self.core.hosts.at(conn).question(conn) {
-            Ok(Some(question)) => Ok(Some(Query {
-                question,
-                model: self
-                    .core
-                    .hosts
-                    .at(conn)
-                    .model(conn)
-                    .unwrap_or(TerminalModel::M2),
-                client: self.client(conn).map(|client| client.peer),
-            })),
-            Ok(None) => Ok(None),
-            Err(_) => Err(Fault::NoMemory),
-        }
-    }
-
-    /// Records whether a reply that was shown ends the session of a number's last connection: then the connection is
-    /// closed once its terminal has answered.
-    pub fn end_if(&mut self, conn: usize, end: bool)
-        requires { conn < most_connections }
-        ensures { self.new ≡ ended_if end conn self.old }
-    {
-        self.core.end_if(conn, end);
-    }
-
-    /// The end of the session of a number's last connection, if the application was asked in it. Each end is handed out
-    /// once.
-    pub fn take_end(&mut self, conn: usize) -> Option<EndedSession>
-        requires { conn < most_connections }
-        ensures { TakesEnd self.old conn result self.new }
-    {
-        let end = self.core.take_end(conn)?;
-        Some(EndedSession {
-            session: end.session,
-            lu: end.lu,
-            reason: end.ending.word(),
-        })
-    }
-
-    /// Hands the host the answer to a question, and reports what happened. A fault of the watcher is returned.
-    pub fn answer<W: Watcher>(
+    /// Serves a connection once, reports what happened, and ends it if it is over. Answers whether the number of unsent
+    /// bytes changed. NoMemory if memory is refused; any fault of the watcher is returned.
+    fn serve<W: Watcher>(
         &mut self,
         conn: usize,
-        ticket: Ticket,
-        answer: &Answer,
+        info: &ConnectionInfo,
         watcher: &mut W,
-    ) -> Result<Acted, Fault>
-        requires { conn < most_connections }
-        ensures { HandsAnswer W.noticed W.showed conn ticket answer.now self.old watcher.old result self.new
+    ) -> Result<bool, Fault>
+        requires number { conn < most_connections }
+        ensures { ServesIfOpen S.read_gave S.write_took W.noticed W.showed
+            (Some info.now) conn self.old watcher.old result self.new watcher.new }
+    {
+        let waiting = self.hosts.at(conn).out(conn).len();
+        self.sockets.set_waiting(conn, waiting);
+        let served = self.hosts.serve(&mut self.sockets, conn);
+        if let Served::Memory = served {
+            return Err(Fault::NoMemory);
+        }
+        let acted = self.hosts.at(conn).out(conn).len() != waiting;
+        let mut after = *info;
+        report(&mut self.hosts, conn, &mut after, watcher)?;
+        self.infos.set(conn, after);
+        let ending = ending_of(after.ending, served);
+        if let Some(ending) = ending {
+            self.end(conn, &after, ending, watcher)?;
+        }
+        Ok(acted)
+    }
+
+    /// Serves a number's connection once, if it is open. Answers whether the number of unsent bytes changed.
+    fn serve_if_open<W: Watcher>(&mut self, conn: usize, watcher: &mut W) -> Result<bool, Fault>
+        requires number { conn < most_connections }
+        ensures { ServesAt S.read_gave S.write_took W.noticed W.showed conn self.old watcher.old result self.new
             watcher.new }
     {
-        self.core.answer(conn, ticket, answer, watcher)
-    }
-
-    /// The client of a number's last connection.
-    fn client(&self, conn: usize) -> Option<Client>
-        requires { conn < most_connections }
-        ensures { result ≡ client_at conn self.now }
-    {
-        match self.core.infos.at(conn) {
-            Some(info) => Some(info.client),
-            None => None,
+        match self.open_info(conn) {
+            Some(info) => self.serve(conn, &info, watcher),
+            None => Ok(false),
         }
     }
 
-    /// Ends each open connection, since the service stops (see `ServerCore::stop_each`).
-    pub fn stop_each<W: Watcher>(&mut self, watcher: &mut W) -> Result<bool, Fault>
-        ensures { VisitsEach (StopsAt W.noticed W.showed) self.old watcher.old result self.new watcher.new }
+    /// Serves each open connection once, in the order of the numbers. Answers whether the number of unsent bytes of any
+    /// changed. The first fault ends the call.
+    fn serve_each<W: Watcher>(&mut self, watcher: &mut W) -> Result<bool, Fault>
+        ensures { VisitsEach (ServesAt S.read_gave S.write_took W.noticed W.showed) self.old watcher.old result self.new
+            watcher.new }
     {
-        self.core.stop_each(watcher)
+        let mut acted = false;
+        for conn in 0..MOST_CONNECTIONS {
+            acted |= self.serve_if_open(conn, watcher)?;
+        }
+        Ok(acted)
     }
 
-    /// Serves new sessions by another host (see `ServerCore::reload`).
-    pub fn reload<W: Watcher>(
+    /// One turn: accepts all waiting connections, and serves each connection once. Answers whether a byte was read or
+    /// written, or the host acted. NoMemory if memory is refused; any fault of the watcher is returned.
+    pub fn turn<L: Listener<S>, W: Watcher>(
         &mut self,
-        host: Host,
-        watcher: &mut W,
-    ) -> Result<Result<(), ReloadFault>, Fault>
-        ensures { Reloads W.noticed W.showed host self.old watcher.old result self.new watcher.new }
-    {
-        self.core.reload(host, watcher)
-    }
-
-    /// Reports to the watcher why a connection's question has no answer.
-    pub fn report_unanswered<W: Watcher>(
-        &self,
-        conn: usize,
-        fault: &ApplicationFault,
-        watcher: &mut W,
-    ) -> Result<(), Fault>
-        requires { conn < most_connections }
-        ensures { HearsFault W.reported (client_at conn self.now) fault.now watcher.old result watcher.new }
-    {
-        match self.client(conn) {
-            Some(client) => watcher.unanswered(&client, fault),
-            None => Ok(()),
-        }
-    }
-
-    /// Reports to the watcher which characters of the reply to a connection's question were replaced, if any were.
-    pub fn report_replaced<W: Watcher>(
-        &self,
-        conn: usize,
-        replaced: Option<Replaced<'_>>,
-        watcher: &mut W,
-    ) -> Result<(), Fault>
-        requires { conn < most_connections }
-        ensures { HearsReplaced W.noted (client_at conn self.now) replaced.entry watcher.old result watcher.new }
-    {
-        match self.client(conn) {
-            Some(client) => match replaced {
-                Some(replaced) => watcher.replaced(&client, &replaced),
-                None => Ok(()),
-            },
-            None => Ok(()),
-        }
-    }
-
-    /// What an open connection has used so far; None if the number has no connection.
-    pub fn usage(&self, conn: usize) -> Option<Usage>
-        requires { conn < most_connections }
-        ensures { result ≡ usage_at conn self.now }
-    {
-        self.core.usage(conn)
-    }
-
-    /// One turn: polls for at most `patience`, accepts all waiting connections, and serves each connection once.
-    /// Answers whether a byte was read or written, or the host acted. NoMemory if memory is refused; SocketFailed if
-    /// the poll fails; any fault of the watcher is returned.
-    pub fn turn<W: Watcher>(
-        &mut self,
-        poll_timeout: Duration,
+        listener: &mut L,
         watcher: &mut W,
     ) -> Result<bool, Fault>
-        ensures { PollsAndServes ⟦<TcpStream as RawRead>⟧.read_gave
-            ⟦<TcpStream as RawWrite>⟧.write_took W.noticed W.showed
-            ⟦<ProxyListener<TcpStream, PolledListener> as Listener<TcpStream>>⟧.gave self.old watcher.old result
-            self.new watcher.new }
+        ensures { TakesTurn S.read_gave S.write_took W.noticed W.showed L.gave
+            (door listener.old self.old watcher.old) result (door listener.new self.new watcher.new) }
     {
-        if self
-            .door
-            .listener
-            .poll
-            .poll(&mut self.events, Some(poll_timeout))
-            .is_err()
-        {
-            return Err(Fault::SocketFailed);
-        }
-        self.door.now = self.core.now;
-        self.core.turn(&mut self.door, watcher)
-    }
-
-    /// One turn as [`turn`](Server::turn), in which nobody is accepted.
-    pub fn turn_closed<W: Watcher>(
-        &mut self,
-        poll_timeout: Duration,
-        watcher: &mut W,
-    ) -> Result<bool, Fault>
-        ensures { PollsAndServes ⟦<TcpStream as RawRead>⟧.read_gave
-            ⟦<TcpStream as RawWrite>⟧.write_took W.noticed W.showed
-            ⟦<NoListener as Listener<TcpStream>>⟧.gave self.old watcher.old result self.new watcher.new }
-    {
-        if self
-            .door
-            .listener
-            .poll
-            .poll(&mut self.events, Some(poll_timeout))
-            .is_err()
-        {
-            return Err(Fault::SocketFailed);
-        }
-        self.core.turn(&mut NoListener, watcher)
-    }
-
-    /// The server without its listener and its poll.
-    pub fn core(&self) -> &ServerCore<TcpStream>
-        ensures { result.now ≡ self.now }
-    {
-        &self.core
-    }
-
-    /// Sends the waiting notes that can be sent (see `NoteQueue::deliver_each`).
-    pub fn deliver(&mut self, notes: &mut NoteQueue) -> bool
-        ensures { DeliversBelow most_connections self.old notes.old result self.new notes.new }
-    {
-        notes.deliver_each(&mut self.core)
-    }
-
-    /// Accepts all waiting connections. A connection that the system can't accept now stays in its queue.
-    pub fn accept_all<W: Watcher>(&mut self, watcher: &mut W) -> Result<(), Fault>
-        ensures { AcceptsWaiting ⟦<TcpStream as RawRead>⟧.read_gave
-            ⟦<TcpStream as RawWrite>⟧.write_took W.noticed W.showed
-            ⟦<ProxyListener<TcpStream, PolledListener> as Listener<TcpStream>>⟧.gave self.old watcher.old result
-            self.new watcher.new }
-    {
-        self.door.now = self.core.now;
-        self.core.accept_all(&mut self.door, watcher)
-    }
-
-    /// Sets the server's time after a turn, in milliseconds, and applies the time limits (see `ServerCore::keep_time`).
-    pub fn keep_time<W: Watcher>(
-        &mut self,
-        now: u64,
-        moved: bool,
-        limits: &TimeLimits,
-        watcher: &mut W,
-    ) -> Result<bool, Fault>
-        ensures { KeepsTime W.noticed W.showed limits.now now moved self.old watcher.old result self.new watcher.new }
-    {
-        self.core.keep_time(now, moved, limits, watcher)
+        self.accept_all(listener, watcher)?;
+        let acted = self.serve_each(watcher)?;
+        Ok(self.sockets.take_progress() | acted)
     }
 }

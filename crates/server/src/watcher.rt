@@ -3,9 +3,11 @@ ghost use Rattle.std.specs.Prelude.{◌<◌};
 ghost use Rattle.host_core.specs.State.{most_connections};
 
 use crate::server::Server;
+use crate::server_port::ServerPort;
 use applications::{ApplicationFault, Replaced};
 use host_core::Host;
 use job_streams::Fault;
+use mio::net::TcpStream;
 use service_events::{Client, Notice};
 
 /// Receives the notices of a server.
@@ -22,7 +24,7 @@ pub trait Watcher {
     ghost use Rattle.mio.specs.declared.net.stream.TcpStream.{TcpStream};
     ghost use Rattle.service_events.specs.declared.notice.Client.{Client};
     ghost use Rattle.service_events.specs.declared.notice.Notice.{Notice};
-    ghost use Rattle.server.specs.declared.server_core.ServerCore.{ServerCore};
+    ghost use Rattle.server.specs.declared.server.Server.{Server};
 
     ghost noticed: { Self → Notice → Result Unit Fault → Self → Type 0 };
 
@@ -32,7 +34,7 @@ pub trait Watcher {
 
     ghost noted: { Self → Client → Replaced → Result Unit Fault → Self → Type 0 };
 
-    ghost ended_turn: { Self → ServerCore TcpStream → ℕ → Bool → Self → Type 0 };
+    ghost ended_turn: { Self → Server TcpStream → ℕ → Bool → Self → Type 0 };
 
     /// Handles one notice. A fault ends the turn.
     fn notice(&mut self, notice: &Notice) -> Result<(), Fault>
@@ -51,9 +53,10 @@ pub trait Watcher {
         requires { conn < most_connections }
         ensures { showed self.old host.now conn result self.new };
 
-    /// Does what else is due after a turn, at this time in milliseconds. Answers whether it did something.
-    fn after_turn(&mut self, server: &Server, now: u64) -> bool
-        ensures { ended_turn self.old server.now now result self.new };
+    /// Does what else is due after a turn, at this time in milliseconds. `port` is the server's: it can poll further
+    /// sockets. Answers whether it did something.
+    fn after_turn(&mut self, server: &Server<TcpStream>, port: &ServerPort, now: u64) -> bool
+        ensures { ended_turn self.old server.entry.now now result self.new };
 }
 
 /// Ignores all notices.
@@ -87,7 +90,7 @@ impl Watcher for Unwatched {
         Ok(())
     }
 
-    fn after_turn(&mut self, _server: &Server, _now: u64) -> bool {
+    fn after_turn(&mut self, _server: &Server<TcpStream>, _port: &ServerPort, _now: u64) -> bool {
         false
     }
 }

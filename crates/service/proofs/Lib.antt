@@ -1,1 +1,1 @@
-pub mod ServiceTurns
+pub mod Polls

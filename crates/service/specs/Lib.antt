@@ -1,3 +1,2 @@
 pub mod Uptimes
-pub mod ServiceTurns
 pub mod Serving

@@ -11,7 +11,7 @@ use host_core::{Acted, Answer, MOST_CONNECTIONS, PanelSet, Ticket};
 use job_streams::Fault;
 use jobs::ReplyTime;
 use mio::net::TcpStream;
-use server::{Server, Watcher};
+use server::{Server, ServerPort, Watcher};
 use service_events::Notice;
 use std::alloc::{AllocError, Global};
 use std::io;
@@ -50,7 +50,8 @@ enum Outcome {
 struct Watched<'a, N, W> {
     net: &'a N,
     address: SocketAddr,
-    server: &'a mut Server,
+    server: &'a mut Server<TcpStream>,
+    port: &'a ServerPort,
     watcher: &'a mut W,
     outcome: Outcome,
 }
@@ -92,7 +93,7 @@ impl<N: Net, W: Watcher> AskingServer for Watched<'_, N, W> {
         let mut socket = TcpStream::connect(self.net, self.address)?;
         // If one of these calls fails, the stream is used anyway, with some delay.
         let _ = socket.set_nodelay(true);
-        let _ = self.server.register(&mut socket, EXCHANGE_TOKEN);
+        let _ = self.port.register(&mut socket, EXCHANGE_TOKEN);
         Ok(socket)
     }
 
@@ -165,12 +166,13 @@ impl Application {
     pub(crate) fn turn<N: Net, W: Watcher>(
         &mut self,
         net: &N,
-        server: &mut Server,
+        server: &mut Server<TcpStream>,
+        port: &ServerPort,
         watcher: &mut W,
     ) -> Result<bool, Fault> {
         let mut moved = false;
         for conn in 0..MOST_CONNECTIONS {
-            moved |= self.serve(net, server, conn, watcher)?;
+            moved |= self.serve(net, server, port, conn, watcher)?;
         }
         Ok(moved)
     }
@@ -179,7 +181,8 @@ impl Application {
     fn serve<N: Net, W: Watcher>(
         &mut self,
         net: &N,
-        server: &mut Server,
+        server: &mut Server<TcpStream>,
+        port: &ServerPort,
         conn: usize,
         watcher: &mut W,
     ) -> Result<bool, Fault>
@@ -198,6 +201,7 @@ impl Application {
             net,
             address: self.endpoint.address(),
             server,
+            port,
             watcher,
             outcome: Outcome::Open,
         };

@@ -4,8 +4,8 @@ use crate::reply::{IoProgress, Reply};
 use control::{Answer, COMMAND_LIMIT, Command, LineBuffer, LineFault, Recipient, Status};
 use host_core::{Host, LinkRead, MOST_CONNECTIONS};
 use job_streams::Fault;
-use mio::net::{UnixListener, UnixStream};
-use server::{Orders, Server, Watcher};
+use mio::net::{TcpStream, UnixListener, UnixStream};
+use server::{Orders, Server, ServerPort, Watcher};
 use service_events::{Commanded, Notice, PanelCounts, is_late};
 use socket_links::read_once;
 use std::alloc::{AllocError, Global};
@@ -47,7 +47,8 @@ struct Commanding<'a, 'x, R, W> {
     alloc: Global,
     source: PanelSource<'x>,
     orders: &'a mut Orders,
-    server: &'a mut Server,
+    server: &'a mut Server<TcpStream>,
+    port: &'a mut ServerPort,
     watcher: &'a mut W,
 }
 
@@ -101,7 +102,7 @@ fn line_of(alloc: Global, done: bool, text: &str) -> Result<String, AllocError> 
 }
 
 /// The sessions, as one line.
-fn sessions_of(alloc: Global, server: &Server) -> Result<String, AllocError> {
+fn sessions_of(alloc: Global, server: &Server<TcpStream>) -> Result<String, AllocError> {
     let mut rows = String::new(alloc);
     let mut count: usize = 0;
     for conn in 0..MOST_CONNECTIONS {
@@ -160,9 +161,9 @@ impl<R: Files, W: Watcher> Commanding<'_, '_, R, W> {
         if let Command::Reload = command {
             return self.reload();
         }
-        let done = self.orders.take(command, self.server.core());
+        let done = self.orders.take(command, self.server);
         if let Command::Drain { .. } = command {
-            self.server.close_port();
+            self.port.close();
         }
         let notice = Notice::Commanded(commanded(command, done));
         self.watcher.notice(&notice)?;
@@ -338,26 +339,26 @@ impl ControlSocket {
     }
 
     /// Adds the socket to the server's poll. If that fails, a client waits at most 10 milliseconds.
-    pub(crate) fn register(&mut self, server: &Server) {
-        let _ = server.register_listener(&mut self.listener, SOCKET_TOKEN);
+    pub(crate) fn register(&mut self, polled: &ServerPort) {
+        let _ = polled.register_listener(&mut self.listener, SOCKET_TOKEN);
     }
 
     /// Accepts the waiting clients.
-    fn accept_all(&mut self, server: &Server, now: u64) {
+    fn accept_all(&mut self, polled: &ServerPort, now: u64) {
         for _ in 0..MOST_ACCEPTED {
             match self.listener.accept() {
-                Ok((socket, _)) => self.admit(server, socket, now),
+                Ok((socket, _)) => self.admit(polled, socket, now),
                 Err(_) => break,
             }
         }
     }
 
     /// Takes a client, unless there are 4 already, or memory is refused.
-    fn admit(&mut self, server: &Server, mut socket: UnixStream, now: u64) {
+    fn admit(&mut self, polled: &ServerPort, mut socket: UnixStream, now: u64) {
         if self.clients.len() >= MOST_CLIENTS {
             return;
         }
-        let _ = server.register(&mut socket, CLIENT_TOKEN);
+        let _ = polled.register(&mut socket, CLIENT_TOKEN);
         if let Ok(client) = ControlClient::new(self.alloc, socket, now) {
             let _ = self.clients.push(client);
         }
@@ -371,16 +372,18 @@ impl ControlSocket {
         now: u64,
         source: PanelSource<'x>,
         orders: &mut Orders,
-        server: &mut Server,
+        server: &mut Server<TcpStream>,
+        port: &mut ServerPort,
         watcher: &mut W,
     ) -> Result<bool, Fault> {
-        self.accept_all(server, now);
+        self.accept_all(port, now);
         let mut commanding = Commanding {
             rt,
             alloc: self.alloc,
             source,
             orders,
             server,
+            port,
             watcher,
         };
         let mut moved = false;

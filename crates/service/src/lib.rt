@@ -4,7 +4,8 @@
 //! The connections are those of crate `server`. In each turn `serve` also applies time limits, asks the application
 //! and obeys the control socket, and serves clients of the metrics port.
 //!
-//! `specs/ServiceTurns` defines a turn of `serve`, `Serving` what commands change in it, and `Uptimes` the time.
+//! `specs/Serving` defines what commands change in a turn of `serve`, and `Uptimes` its time; the turn itself is defined
+//! in `server`'s `specs/ServiceTurns`.
 #![tactic(auto)]
 
 mod application;
@@ -14,7 +15,6 @@ mod metered;
 mod metrics_port;
 mod reload;
 mod reply;
-mod service_turn;
 mod serving;
 mod session_page;
 mod tell;

@@ -3,7 +3,8 @@ use applications::{ApplicationFault, Replaced};
 use host_core::Host;
 use jiff::Timestamp;
 use job_streams::{Fault, Sink};
-use server::{Server, Watcher};
+use mio::net::TcpStream;
+use server::{Server, ServerPort, Watcher};
 use service_events::{Client, Notice};
 use std::alloc::{AllocError, Global};
 use std::time::Clock;
@@ -91,7 +92,7 @@ impl<C: Clock, E: Sink> Watcher for Log<'_, C, E> {
         Ok(())
     }
 
-    fn after_turn(&mut self, _server: &Server, _now: u64) -> bool {
+    fn after_turn(&mut self, _server: &Server<TcpStream>, _port: &ServerPort, _now: u64) -> bool {
         false
     }
 }

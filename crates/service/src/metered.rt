@@ -7,7 +7,8 @@ use applications::{ApplicationFault, Replaced};
 use host_core::{Host, MOST_CONNECTIONS};
 use job_streams::Fault;
 use jobs::ServicePort;
-use server::{Server, Watcher};
+use mio::net::TcpStream;
+use server::{Server, ServerPort, Watcher};
 use service_events::{Client, MetricsPage, Notice};
 use std::alloc::Global;
 use std::net::Net;
@@ -25,13 +26,13 @@ impl<'a, W: Watcher> MetricsObserver<'a, W> {
     pub(crate) fn new(
         net: &impl Net,
         alloc: Global,
-        server: &Server,
+        polled: &ServerPort,
         port: ServicePort,
         page: MetricsPage,
         watcher: &'a mut W,
     ) -> Result<MetricsObserver<'a, W>, Fault> {
         let mut port = MetricsPort::listen(net, alloc, port)?;
-        port.register(server);
+        port.register(polled);
         Ok(MetricsObserver {
             watcher,
             page,
@@ -40,7 +41,7 @@ impl<'a, W: Watcher> MetricsObserver<'a, W> {
     }
 
     /// The page, with what open connections have used so far.
-    fn page(&self, server: &Server) -> MetricsPage {
+    fn page(&self, server: &Server<TcpStream>) -> MetricsPage {
         let mut metrics = self.page.metrics;
         for conn in 0..MOST_CONNECTIONS {
             match server.usage(conn) {
@@ -92,8 +93,8 @@ impl<W: Watcher> Watcher for MetricsObserver<'_, W> {
         self.watcher.shown(host, conn)
     }
 
-    fn after_turn(&mut self, server: &Server, now: u64) -> bool {
-        if !self.port.accept_all(server, now) {
+    fn after_turn(&mut self, server: &Server<TcpStream>, port: &ServerPort, now: u64) -> bool {
+        if !self.port.accept_all(port, now) {
             return false;
         }
         let page = &self.page(server);

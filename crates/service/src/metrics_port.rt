@@ -5,7 +5,7 @@ use host_core::{LinkRead, MOST_CONNECTIONS};
 use job_streams::Fault;
 use jobs::ServicePort;
 use mio::net::{TcpListener, TcpStream};
-use server::Server;
+use server::{Server, ServerPort};
 use service_events::{HttpStatus, MetricsPage, RequestHead, Resource, is_late, response_of};
 use socket_links::read_once;
 use std::alloc::{AllocError, Global};
@@ -42,7 +42,7 @@ struct MetricsClient {
 pub(crate) struct Served<'a> {
     /// The counts, with those of open connections.
     pub(crate) page: &'a MetricsPage,
-    pub(crate) server: &'a Server,
+    pub(crate) server: &'a Server<TcpStream>,
 }
 
 impl Served<'_> {
@@ -176,16 +176,16 @@ impl MetricsPort {
         }
     }
 
-    /// Adds the port to the server's poll. If that fails, a client waits at most 10 milliseconds.
-    pub(crate) fn register(&mut self, server: &Server) {
-        let _ = server.register_listener(&mut self.listener, PORT_TOKEN);
+    /// Adds this port to the server's poll. If that fails, a client waits at most 10 milliseconds.
+    pub(crate) fn register(&mut self, polled: &ServerPort) {
+        let _ = polled.register_listener(&mut self.listener, PORT_TOKEN);
     }
 
     /// Accepts the waiting clients. Answers whether the port has clients.
-    pub(crate) fn accept_all(&mut self, server: &Server, now: u64) -> bool {
+    pub(crate) fn accept_all(&mut self, polled: &ServerPort, now: u64) -> bool {
         for _ in 0..MOST_ACCEPTED {
             match self.listener.accept() {
-                Ok((socket, _)) => self.admit(server, socket, now),
+                Ok((socket, _)) => self.admit(polled, socket, now),
                 Err(_) => break,
             }
         }
@@ -193,11 +193,11 @@ impl MetricsPort {
     }
 
     /// Takes a client, unless there are 4 already, or memory is refused.
-    fn admit(&mut self, server: &Server, mut socket: TcpStream, now: u64) {
+    fn admit(&mut self, polled: &ServerPort, mut socket: TcpStream, now: u64) {
         if self.clients.len() >= MOST_CLIENTS {
             return;
         }
-        let _ = server.register(&mut socket, CLIENT_TOKEN);
+        let _ = polled.register(&mut socket, CLIENT_TOKEN);
         let client = MetricsClient::new(self.alloc, socket, now);
         let _ = self.clients.push(client);
     }

@@ -8,7 +8,6 @@ use crate::control_socket::ControlSocket;
 use crate::log::Log;
 use crate::metered::MetricsObserver;
 use crate::reload::PanelSource;
-use crate::service_turn::{TurnParts, take_turns};
 use crate::uptime::Uptime;
 use application_http::{Endpoint, EndpointFault};
 use applications::{JobWithoutApplication, draw_boot, first_asked, host_of, refuse_asking};
@@ -20,7 +19,8 @@ use jobs::{
 };
 use mio::net::TcpStream;
 use server::{
-    Listener, NoListener, Orders, PolledListener, ProxyListener, Server, Unwatched, Watcher,
+    Listener, NoListener, Orders, PolledListener, ProxyListener, Server, ServerPort, TurnParts,
+    Unwatched, Watcher, take_turns,
 };
 use service_events::{Metrics, MetricsPage, Notice};
 use socket_links::poll_timeout;
@@ -32,18 +32,29 @@ use std::net::{Ipv4Addr, Net, SocketAddr};
 use std::random::RandomSource;
 use std::time::{Clock, Instant};
 
-/// A server on a port of 127.0.0.1 for the host of a panel text. The system picks a free port if `port` is 0.
-pub fn server_of(net: &impl Net, alloc: Global, panels: &str, port: u16) -> Result<Server, Fault> {
+/// A server for the host of a panel text, and its port, of 127.0.0.1. The system picks a free port if `port` is 0.
+pub fn server_of(
+    net: &impl Net,
+    alloc: Global,
+    panels: &str,
+    port: u16,
+) -> Result<(Server<TcpStream>, ServerPort), Fault> {
     let host = host_of(alloc, Terminals::Waiting, panels)?;
     server_at(net, alloc, host, port)
 }
 
-/// A server of a host on a port of 127.0.0.1. The system picks a free port if `port` is 0.
-fn server_at(net: &impl Net, alloc: Global, host: Host, port: u16) -> Result<Server, Fault> {
+/// A server of a host, and its port, of 127.0.0.1. The system picks a free port if `port` is 0.
+fn server_at(
+    net: &impl Net,
+    alloc: Global,
+    host: Host,
+    port: u16,
+) -> Result<(Server<TcpStream>, ServerPort), Fault> {
     let address = SocketAddr::from((Ipv4Addr::LOCALHOST, port));
     // Its session names are not shown: it has neither a log nor an application.
-    match Server::new(net, alloc, host, 0, address) {
-        Ok(server) => Ok(server),
+    let server = Server::new(alloc, host, 0)?;
+    match ServerPort::listen(net, alloc, address) {
+        Ok(port) => Ok((server, port)),
         Err(Fault::CannotListen(_, _)) => Err(Fault::SocketFailed),
         Err(fault) => Err(fault),
     }
@@ -55,24 +66,21 @@ fn read_host<I: Source>(alloc: Global, input: &mut I) -> Result<Host, Fault> {
     host_of(alloc, Terminals::Waiting, text.as_str())
 }
 
-/// Serves this number of turns, and returns the fault that ended them.
-fn serve_turns(server: &mut Server, turns: Turns) -> Fault {
+/// Serves a host for this number of turns, and returns the fault that ended that.
+fn serve_host<N: Net>(
+    net: &N,
+    alloc: Global,
+    host: Host,
+    port: Port,
+    turns: Turns,
+) -> Result<(), Fault> {
+    let (mut server, mut port) = server_at(net, alloc, host, port.get())?;
     let mut moved = false;
     for _ in 0..turns.get() {
-        moved = match server.turn(poll_timeout(moved), &mut Unwatched) {
-            Ok(moved) => moved,
-            Err(fault) => return fault,
-        };
+        port.poll(poll_timeout(moved), server.now())?;
+        moved = server.turn(&mut port.arrivals, &mut Unwatched)?;
     }
-    Fault::TurnsOver
-}
-
-/// Serves a host for this number of turns, and returns the fault that ended that.
-fn serve_host<N: Net>(net: &N, alloc: Global, host: Host, port: Port, turns: Turns) -> Fault {
-    match server_at(net, alloc, host, port.get()) {
-        Ok(mut server) => serve_turns(&mut server, turns),
-        Err(fault) => fault,
-    }
+    Err(Fault::TurnsOver)
 }
 
 /// Serves the panels of the input on a port of 127.0.0.1, 1024 to 65535, for this number of turns. A turn with nothing
@@ -92,7 +100,10 @@ pub fn run_host<N: Net, I: Source, E: Sink>(
     match read_host(alloc, input) {
         Ok(host) => match first_asked(host.panels()) {
             Some((panel, key)) => refuse_asking(panel, key, JobWithoutApplication::Host, faults),
-            None => report_and_exit_code(serve_host(net, alloc, host, port, turns), faults),
+            None => match serve_host(net, alloc, host, port, turns) {
+                Ok(()) => 0,
+                Err(fault) => report_and_exit_code(fault, faults),
+            },
         },
         Err(fault) => report_and_exit_code(fault, faults),
     }
@@ -117,15 +128,14 @@ impl fmt::Display for Exposed {
     }
 }
 
-/// A server of a host at an address, with session names that no other start of the host uses.
-fn server_on<R: Net + RandomSource>(
+/// A server of a host, with session names that no other start of the host uses.
+fn server_with_names<R: RandomSource>(
     rt: &R,
     alloc: Global,
     host: Host,
-    address: SocketAddr,
-) -> Result<Server, Fault> {
+) -> Result<Server<TcpStream>, Fault> {
     match draw_boot(rt) {
-        Ok(boot) => Server::new(rt, alloc, host, boot, address),
+        Ok(boot) => Ok(Server::new(alloc, host, boot)?),
         Err(_) => Err(Fault::NotRandom),
     }
 }
@@ -203,10 +213,11 @@ fn control_of<R: Files + Net>(
     }))
 }
 
-/// A server, the application that its host asks, and how operators command it.
+/// A server and its port, the application that its host asks, and how operators command it.
 #[derive(Drop)]
 struct Serving {
-    server: Server,
+    server: Server<TcpStream>,
+    port: ServerPort,
     application: Option<Application>,
     control: Option<Control>,
 }
@@ -215,7 +226,7 @@ impl Serving {
     /// Continues the exchanges with the application. Answers whether it did something.
     fn consult<N: Net, W: Watcher>(&mut self, net: &N, watcher: &mut W) -> Result<bool, Fault> {
         match &mut self.application {
-            Some(application) => application.turn(net, &mut self.server, watcher),
+            Some(application) => application.turn(net, &mut self.server, &self.port, watcher),
             None => Ok(false),
         }
     }
@@ -232,10 +243,11 @@ impl Serving {
             return Ok(false);
         };
         let orders = &mut control.orders;
+        let (server, port) = (&mut self.server, &mut self.port);
         let moved = control
             .socket
-            .serve_all(rt, now, source, orders, &mut self.server, watcher)?;
-        Ok(moved | self.server.deliver(&mut orders.notes))
+            .serve_all(rt, now, source, orders, server, port, watcher)?;
+        Ok(moved | orders.notes.deliver_each(server))
     }
 
     /// Whether no new session is taken.
@@ -243,7 +255,7 @@ impl Serving {
         ensures { result ≡ is_closed self.now.control }
     {
         match &self.control {
-            Some(control) => control.orders.drained.is_some(),
+            Some(control) => control.orders.is_closed(),
             None => false,
         }
     }
@@ -253,7 +265,7 @@ impl Serving {
         ensures { result ≡ is_over self.now.control self.now.server }
     {
         match &self.control {
-            Some(control) => control.orders.have_ended(control.drain, self.server.core()),
+            Some(control) => control.orders.have_ended(control.drain, &self.server),
             None => false,
         }
     }
@@ -262,7 +274,7 @@ impl Serving {
     fn tell<W: Watcher>(&self, now: u64, watcher: &mut W) -> bool
         ensures { W.ended_turn watcher.old self.now.server now result watcher.new }
     {
-        watcher.after_turn(&self.server, now)
+        watcher.after_turn(&self.server, &self.port, now)
     }
 
     /// Reports to the watcher that the server listens, and takes a turn for each item of `turns`. Returns the fault
@@ -308,7 +320,7 @@ impl Serving {
         requires can { T.can_next turns }
         requires ends { IsFinite (T.remaining turns) }
     {
-        match MetricsObserver::new(rt, alloc, &self.server, port, page, watcher) {
+        match MetricsObserver::new(rt, alloc, &self.port, port, page, watcher) {
             Ok(mut metered) => {
                 self.serve_watched(rt, turns, service, source, address, &mut metered)
             }
@@ -368,12 +380,13 @@ impl<R: Net + Clock + Files, W: Watcher> TurnParts for Shift<'_, R, W> {
         × (answer ≡ done did) };
 
     fn serve_all(&mut self, busy: bool) -> Result<bool, Fault> {
+        let Serving { server, port, .. } = &mut *self.serving;
+        port.poll(poll_timeout(busy), server.now())?;
         if self.serving.is_closed() {
-            self.serving
-                .server
-                .turn_closed(poll_timeout(busy), self.watcher)
+            self.serving.server.turn(&mut NoListener, self.watcher)
         } else {
-            self.serving.server.turn(poll_timeout(busy), self.watcher)
+            let Serving { server, port, .. } = &mut *self.serving;
+            server.turn(&mut port.arrivals, self.watcher)
         }
     }
 
@@ -432,15 +445,16 @@ fn serve<'x, R: Net + Clock + RandomSource + Files, T: Iterator<Item = ()>, E: S
         let _ = faults.write_line(Exposed(address));
     }
     let mut serving = Serving {
-        server: server_on(rt, alloc, host, address)?,
+        server: server_with_names(rt, alloc, host)?,
+        port: ServerPort::listen(rt, alloc, address)?,
         application,
         control,
     };
     if let Some(control) = &mut serving.control {
-        control.socket.register(&serving.server);
+        control.socket.register(&serving.port);
     }
     if service.proxy_protocol {
-        serving.server.expect_headers();
+        serving.port.expect_headers();
     }
     let page = MetricsPage {
         metrics: Metrics::new(),

@@ -1,6 +1,7 @@
 //! The sessions of a service, for its operators: as a page, and as data.
 use host_core::{MOST_CONNECTIONS, Turn};
 use jiff::Timestamp;
+use mio::net::TcpStream;
 use server::{Server, SessionRow};
 use std::alloc::{AllocError, Global};
 
@@ -54,7 +55,7 @@ fn put_row(text: &mut String, row: &SessionRow, started: Option<i64>) -> Result<
 /// The open sessions as JSON, in the order of their connections' numbers.
 pub(crate) fn session_data(
     alloc: Global,
-    server: &Server,
+    server: &Server<TcpStream>,
     started: Option<i64>,
 ) -> Result<String, AllocError> {
     let mut text = String::from_str(alloc, "{\"sessions\":[")?;
@@ -73,7 +74,7 @@ pub(crate) fn session_data(
 /// The open sessions as a page in HTML, in the order of their connections' numbers.
 pub(crate) fn session_page(
     alloc: Global,
-    server: &Server,
+    server: &Server<TcpStream>,
     started: Option<i64>,
 ) -> Result<String, AllocError> {
     let mut text = String::from_str(

@@ -6,10 +6,8 @@ ghost use Rattle.socket_links.specs.Sockets.{IsValidReadCount, Gives, IsReadOnce
 
 use host_core::{LinkRead, LinkWrite};
 use job_streams::{RawRead, RawWrite};
-use mio::net::TcpStream;
 use std::io::{self, ErrorKind};
 use std::marker::Model;
-use std::net::SocketAddr;
 
 /// Reads of a connection pause while more bytes than this are unsent on it.
 const MOST_WAITING: usize = 65_536;
@@ -143,13 +141,6 @@ impl<S> Model for SocketSlot<S> {
     } };
 }
 
-impl SocketSlot<TcpStream> {
-    /// The address of the peer; None if there is no connection, or if the system can't report the address.
-    pub fn peer(&self) -> Option<SocketAddr> {
-        self.socket.as_ref()?.peer_addr().ok()
-    }
-}
-
 impl<S: RawRead + RawWrite + Drop> SocketSlot<S> {
     /// The slot of a number that never had a connection.
     pub fn unused() -> SocketSlot<S>
@@ -202,13 +193,6 @@ impl<S: RawRead + RawWrite + Drop> SocketSlot<S> {
     {
         self.socket = None;
         self.waiting = 0;
-    }
-
-    /// The socket, if there is a connection.
-    pub fn into_socket(self) -> Option<S>
-        ensures { result ≡ self.socket }
-    {
-        self.socket
     }
 
     /// Sets the number of bytes that are not sent yet.

@@ -6,10 +6,8 @@ ghost use Rattle.socket_links.specs.Sockets.{emptied, has_got, has_taken, is_con
 use crate::socket_slot::SocketSlot;
 use host_core::{LinkRead, LinkWrite, Links, MOST_CONNECTIONS};
 use job_streams::{RawRead, RawWrite};
-use mio::net::TcpStream;
 use std::alloc::{AllocError, Global};
 use std::marker::Model;
-use std::net::SocketAddr;
 
 /// The sockets, of type `S`, of a host's 64 connection numbers, and whether a byte moved since `take_moved`.
 ///
@@ -58,13 +56,6 @@ fn has_taken(answer: LinkWrite) -> bool
     ensures { result ≡ has_taken answer }
 {
     matches!(answer, LinkWrite::Took(_))
-}
-
-impl Sockets<TcpStream> {
-    /// The address of a connection's peer; None if there is no connection, or if the system can't report the address.
-    pub fn peer(&self, conn: usize) -> Option<SocketAddr> {
-        self.slots.get(conn)?.peer()
-    }
 }
 
 impl<S: RawRead + RawWrite + Drop> Sockets<S> {

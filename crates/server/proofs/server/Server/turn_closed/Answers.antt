@@ -1,5 +1,0 @@
-use Rattle.server.specs.ServerTurns.{polled}
-use Rattle.server.proofs.server.Server.turn_closed.Goals as goal
-
-pub returns : goal.returns
-returns g c = rw (← c.self.view_is) (polled _ _ c.turn.ensures)
