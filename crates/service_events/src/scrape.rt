@@ -191,7 +191,7 @@ impl HttpStatus {
     }
 }
 
-/// The response for a status. Only 200 has a body: the resource, which is `page`; HEAD is told only its length (RFC
+/// The response for a status. Only 200 has a body: the resource, which is `page`; HEAD gets only its length (RFC
 /// 9110, section 9.3.2).
 pub fn response_of(alloc: Global, status: HttpStatus, page: &str) -> Result<String, AllocError> {
     let (body, sent) = match status {
