@@ -4,3 +4,4 @@ pub mod AnswerWords
 pub mod AskedKeys
 pub mod SessionTexts
 pub mod Exchanging
+pub mod PlainForms

@@ -11,8 +11,8 @@ use Rattle.panels.specs.Characters.{AreCharacters, codes_of, is_character}
 use Rattle.panels.specs.Panel.{Panels}
 use Rattle.panels.specs.Screen.{Values}
 use Rattle.panels.specs.Values.{HasToGrow}
-use Rattle.plain_text.proofs.PlainForms.{empty_is_plain}
-use Rattle.plain_text.specs.PlainTexts.{plain_text}
+use Rattle.applications.proofs.PlainForms.{empty_is_plain}
+use Rattle.applications.specs.PlainTexts.{plain_text}
 use Rattle.applications.specs.Applications.{AreKnownArrays, AreKnownTexts, HasItsNames, IsAnswerFault, IsArrayFault, IsFirstArrayFault, IsFirstTextFault, IsFirstValueFault, IsTextFault, TakesMemory, as_byte, message_bytes, message_in, most_characters, value_by, with_arrays, with_text}
 use Rattle.applications.specs.declared.application_reply.AnswerFault.{AnswerFault}
 use Rattle.applications.specs.declared.application_reply.AnswerFault.TheVariants as flaw

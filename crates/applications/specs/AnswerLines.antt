@@ -15,7 +15,7 @@ use Rattle.panels.specs.Values.{value_of}
 use Rattle.panels.specs.declared.message_text.MessageText.{MessageText}
 use Rattle.panels.specs.declared.panel.Field.{Field}
 use Rattle.presentation.specs.Glyph.{blank}
-use Rattle.plain_text.specs.PlainTexts.{lacks_code}
+use Rattle.applications.specs.PlainTexts.{lacks_code}
 use Rattle.applications.specs.Applications.{message_bytes, value_by}
 
 -- ---- words

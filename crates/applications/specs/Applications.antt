@@ -6,7 +6,7 @@ use Rattle.std.specs.Fmt.{decimal}
 use Rattle.std.specs.Option.{option_and_then, option_map_or}
 use Rattle.std.specs.List.{filter_map}
 use Rattle.codes3270.specs.CodePage.{character_of}
-use Rattle.plain_text.specs.PlainTexts.{lacks_code, plain_text}
+use Rattle.applications.specs.PlainTexts.{lacks_code, plain_text}
 use Rattle.codes3270.specs.declared.attention.Aid.{Aid}
 use Rattle.codes3270.specs.declared.attention.Aid.TheVariants as aid
 use Rattle.applications.specs.declared.application_fault.ApplicationFault.{ApplicationFault}

@@ -1,3 +1,4 @@
+pub mod PlainTexts
 pub mod AnswerLines
 pub mod AnswerDrafts
 pub mod QuestionLines

@@ -6,9 +6,9 @@ ghost use Rattle.applications.specs.AnswerLines.{answer_in, answer_of_parts, cut
 ghost use Rattle.panels.specs.Names.{field_named, number_named};
 
 use crate::application_reply::{message_bytes, set_text};
+use crate::plain_text::lacks_code;
 use host_core::Answer;
 use panels::{MessageText, PanelSet, Values};
-use plain_text::lacks_code;
 use std::alloc::{AllocError, Global};
 
 // ---- words

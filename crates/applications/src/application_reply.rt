@@ -7,14 +7,14 @@ ghost use Rattle.panels.specs.Characters.{codes_of};
 ghost use Rattle.panels.specs.MessageText.{message_of};
 ghost use Rattle.panels.specs.Values.{value_of};
 ghost use Rattle.applications.specs.Applications.{AreKnownArrays, AreKnownTexts, IsAnswerFault, IsAnswerFor, IsArrayFault, IsFirstArrayFault, IsFirstTextFault, IsFirstValueFault, IsKnown, IsTextFault, IsUnknown, TakesMemory, as_byte, first_field_replaced, first_replaced, is_known_array, is_known_text, message_bytes, message_in, most_characters, most_copies, number_on, panel_number, panel_of_reply, telling, value_by, values_of_reply, with_arrays, with_copies_emptied, with_copy_emptied, with_text, with_texts};
-ghost use Rattle.plain_text.specs.PlainTexts.{plain_text};
+ghost use Rattle.applications.specs.PlainTexts.{plain_text};
 ghost use Rattle.applications.specs.declared.application_reply.AnswerFault.TheVariants as flaw;
 
+use crate::plain_text::{count_without_code, lacks_code, plain_text};
 use application_http::{FieldText, Reply, copy_of};
 use codes3270::from_latin1;
 use host_core::Answer;
 use panels::{MessageText, PanelSet, Values};
-use plain_text::{count_without_code, lacks_code, plain_text};
 use std::alloc::{AllocError, Global};
 
 /// The most characters of a field's text: the number of cells of the largest screen, model 5.

@@ -5,7 +5,7 @@
 //! that were received; [`Host::act`], [`Host::answer`] or [`Host::note`] sends a command; [`Host::out`] has the Telnet
 //! bytes to send, and [`Host::sent`] drops them; [`Host::next_event`] reports; [`Host::closed`] frees the number.
 //!
-//! The host has no sockets and never waits: that is for its caller, as the crate `socket_links`. The Telnet stream is
+//! The host has no sockets and never waits: that is for its caller, as the crate `job_streams`. The Telnet stream is
 //! that of `telnet_wire`, the negotiation and headers are those of `tn3270e_msg`, panels of `panels`, LUs of `lu_pool`,
 //! and what is believed of a screen of `shadow`.
 //!

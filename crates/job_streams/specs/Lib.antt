@@ -5,3 +5,4 @@ pub mod RawCalls
 pub mod Counted
 pub mod Runs
 pub mod LiveFaults
+pub mod Sockets

@@ -6,7 +6,7 @@ use Rattle.host_core.specs.declared.links.LinkRead.{LinkRead}
 use Rattle.host_core.specs.declared.links.LinkRead.TheVariants as read
 use Rattle.job_streams.specs.Counting.{chunk_size}
 use Rattle.operate.specs.LiveSessions.{AfterRead, ReadsHost, Session, got_count}
-use Rattle.socket_links.specs.Sockets.{Gives, SocketSlot}
+use Rattle.job_streams.specs.Sockets.{Gives, SocketSlot}
 
 -- the bytes are so many of the buffer
 counted : (answer : LinkRead) (buffer : List ℕ) → bytes_got answer buffer ≡ take (got_count answer) buffer

@@ -4,19 +4,18 @@ ghost use Rattle.term_core.specs.State.{is_bound, phase_of};
 ghost use Rattle.job_streams.specs.Counting.{chunk_size};
 ghost use Rattle.operate.specs.LiveSessions.{AfterRead, Draws, Loses, ReadsHost, ReadsKeys, Rests, SendsOnce, SendsOver, TakesBytes, TakesInput, TakesTurnOver, TakesTurnTyped, Works, WritesTty, got_count, is_quiet};
 ghost use Rattle.host_core.specs.Serves.{GotWithin, bytes_got};
-ghost use Rattle.socket_links.specs.Sockets.{Gives};
+ghost use Rattle.job_streams.specs.Sockets.{Gives};
 
 use crate::live::{LiveTerminal, OperatorRequest};
 use codes3270::Model;
 use host_core::{LinkRead, LinkWrite};
 use job_streams::{
-    Answer, CHUNK, Fault, LiveFault, RawRead, RawWrite, Sink, Source, read_chunk,
-    report_and_exit_code,
+    Answer, CHUNK, Fault, LiveFault, RawRead, RawWrite, Sink, SocketSlot, Source, poll_timeout,
+    read_chunk, report_and_exit_code,
 };
 use jobs::{OperateOptions, TtySize};
 use mio::net::TcpStream;
 use mio::{Events, Interest, Poll, Token};
-use socket_links::{SocketSlot, poll_timeout};
 use std::alloc::Global;
 use std::io::ErrorKind;
 use std::marker;

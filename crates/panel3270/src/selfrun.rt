@@ -2,7 +2,7 @@
 use crate::socket_terminal::SocketTerminal;
 use applications::{answer_in, put_question, question_on, ticket_on};
 use host_core::{Acted, Answer, MOST_CONNECTIONS};
-use job_streams::{Fault, Sink, Source, read_whole, report_and_exit_code};
+use job_streams::{Fault, Sink, Source, poll_timeout, read_whole, report_and_exit_code};
 use jobs::Turns;
 use keyboard::Key;
 use mio::net::TcpStream;
@@ -11,7 +11,6 @@ use scripts::{
 };
 use server::{Server, ServerPort, Unwatched};
 use service::server_of;
-use socket_links::poll_timeout;
 use std::alloc::{AllocError, Global};
 use std::net::Net;
 use tn3270e_msg::Lu;

@@ -4,10 +4,9 @@ ghost use Rattle.host_core.specs.Serves.{GotWithin};
 
 use codes3270::Model;
 use host_core::{LinkRead, LinkWrite};
-use job_streams::{CHUNK, Fault};
+use job_streams::{CHUNK, Fault, read_once, write_once};
 use keyboard::Key;
 use mio::net::TcpStream;
-use socket_links::{read_once, write_once};
 use std::alloc::{AllocError, Global};
 use std::net::SocketAddr;
 use term_core::{TermPhase, Terminal};

@@ -11,14 +11,14 @@ use Rattle.host_core.specs.Notes.{IsNoteText, is_graphic as is_note_character}
 use Rattle.host_core.specs.State.{Host, Service, phase_of}
 use Rattle.host_core.specs.declared.phase.Phase.{Phase}
 use Rattle.host_core.specs.declared.phase.Phase.TheVariants as phase
-use Rattle.hosts.specs.Apart.{service_at}
-use Rattle.hosts.specs.Hosts.{AreOwned, Hosts, IsFreePlace, most_earlier, reloaded}
-use Rattle.hosts.specs.declared.hosts.ReloadFault.{ReloadFault}
-use Rattle.hosts.specs.declared.hosts.ReloadFault.TheVariants as reload_fault
+use Rattle.server.specs.Apart.{service_at}
+use Rattle.server.specs.Hosts.{AreOwned, Hosts, IsFreePlace, most_earlier, reloaded}
+use Rattle.server.specs.declared.hosts.ReloadFault.{ReloadFault}
+use Rattle.server.specs.declared.hosts.ReloadFault.TheVariants as reload_fault
 use Rattle.job_streams.specs.declared.fault.Fault.{Fault}
 use Rattle.service_events.specs.declared.notice.Notice.{Notice}
 use Rattle.server.specs.Visits.{VisitsEach}
-use Rattle.socket_links.specs.Sockets.{is_connected, slot_at}
+use Rattle.job_streams.specs.Sockets.{is_connected, slot_at}
 use Rattle.server.specs.Control.{DeliversAt, DeliversBelow, EndsTalkingAt, NobodyTalksBelow, Reloads, has_recipient_below, is_open_below, is_talking, queued_below, recipient_at, refused, reloads, with_waiting}
 use Rattle.server.specs.declared.note_queue.WaitingNote.{WaitingNote}
 use Rattle.server.specs.declared.server.Server.{Server}

@@ -1,8 +1,8 @@
 -- What the host took is reported as of the hosts before it.
 use Rattle.std.proofs.Common.{◌≡◌, ◌∙◌, ℕ, Option, Some, None, Result, Ok, Err, ap}
 use Rattle.host_core.specs.State.{Host, with_reports}
-use Rattle.hosts.specs.Hosts.{Hosts, host_at, with_host}
-use Rattle.hosts.proofs.Lookups.{put_again}
+use Rattle.server.specs.Hosts.{Hosts, host_at, with_host}
+use Rattle.server.proofs.Lookups.{put_again}
 use Rattle.job_streams.specs.declared.fault.Fault.{Fault}
 use Rattle.service_events.specs.declared.notice.Notice.{Notice}
 use Rattle.server.specs.HostAnswers.{ReportsOf}

@@ -6,3 +6,7 @@ pub mod Doors
 pub mod Control
 pub mod Handing
 pub mod ServiceTurns
+pub mod Apart
+pub mod Lookups
+pub mod Places
+pub mod Reloads

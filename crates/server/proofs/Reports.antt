@@ -8,8 +8,8 @@ use Rattle.host_core.specs.declared.event.HostEvent.{HostEvent}
 use Rattle.host_core.specs.declared.event.HostEvent.TheVariants as event
 use Rattle.host_core.specs.declared.rejection.Rejection.{Rejection}
 use Rattle.shadow.specs.declared.rule_break.RuleBreak.{RuleBreak}
-use Rattle.hosts.specs.Hosts.{Hosts, host_at, with_host}
-use Rattle.hosts.proofs.Lookups.{put_again}
+use Rattle.server.specs.Hosts.{Hosts, host_at, with_host}
+use Rattle.server.proofs.Lookups.{put_again}
 use Rattle.job_streams.specs.declared.fault.Fault.{Fault}
 use Rattle.service_events.specs.declared.notice.Client.{Client}
 use Rattle.service_events.specs.declared.notice.Notice.{Notice}

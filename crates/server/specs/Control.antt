@@ -12,15 +12,15 @@ use Rattle.host_core.specs.declared.phase.Phase.{Phase}
 use Rattle.host_core.specs.declared.phase.Phase.TheVariants as phase
 use Rattle.host_core.specs.declared.acted.Acted.{Acted}
 use Rattle.host_core.specs.declared.acted.Acted.TheVariants as acted
-use Rattle.hosts.specs.Apart.{service_at}
-use Rattle.hosts.specs.Hosts.{AreOwned, Hosts, IsFreePlace, closed, host_at, most_earlier, reloaded, with_host}
-use Rattle.hosts.specs.declared.hosts.ReloadFault.{ReloadFault}
-use Rattle.hosts.specs.declared.hosts.ReloadFault.TheVariants as reload_fault
+use Rattle.server.specs.Apart.{service_at}
+use Rattle.server.specs.Hosts.{AreOwned, Hosts, IsFreePlace, closed, host_at, most_earlier, reloaded, with_host}
+use Rattle.server.specs.declared.hosts.ReloadFault.{ReloadFault}
+use Rattle.server.specs.declared.hosts.ReloadFault.TheVariants as reload_fault
 use Rattle.job_streams.specs.declared.fault.Fault.{Fault}
 use Rattle.service_events.specs.Timing.{is_over}
 use Rattle.service_events.specs.declared.notice.Ending.TheVariants as ending
 use Rattle.service_events.specs.declared.notice.Notice.{Notice}
-use Rattle.socket_links.specs.Sockets.{is_connected, slot_at}
+use Rattle.job_streams.specs.Sockets.{is_connected, slot_at}
 use Rattle.server.specs.NumberTurns.{open_at}
 use Rattle.server.specs.TimeTurns.{IsEnded}
 use Rattle.server.specs.Visits.{VisitsEach}

@@ -16,8 +16,8 @@ use Rattle.host_core.specs.Does.{DoesAnswer}
 use Rattle.host_core.specs.Questions.{HasTexts, answered_by, question_of}
 use Rattle.host_core.specs.Reports.{Reports}
 use Rattle.host_core.specs.State.{Host, connection_at, model_of, state_at, session_at, with_connection, with_reports}
-use Rattle.hosts.specs.Apart.{service_at}
-use Rattle.hosts.specs.Hosts.{host_at, with_host}
+use Rattle.server.specs.Apart.{service_at}
+use Rattle.server.specs.Hosts.{host_at, with_host}
 use Rattle.host_core.specs.declared.acted.Acted.{Acted}
 use Rattle.host_core.specs.declared.question.Answer.{Answer}
 use Rattle.host_core.specs.declared.question.Question.{Question}
@@ -28,7 +28,7 @@ use Rattle.service_events.specs.Notices.{ending_word}
 use Rattle.service_events.specs.declared.notice.Client.{Client}
 use Rattle.service_events.specs.declared.notice.Notice.{Notice}
 use Rattle.service_events.specs.declared.notice.Usage.{Usage}
-use Rattle.socket_links.specs.Sockets.{slot_at}
+use Rattle.job_streams.specs.Sockets.{slot_at}
 use Rattle.server.specs.ConnectionInfos.{session_end, usage_of, with_end, with_told}
 use Rattle.server.specs.NumberTurns.{info_after, open_at, reported, reports_of}
 use Rattle.server.specs.Watching.{FailsAmong, HearsEach}

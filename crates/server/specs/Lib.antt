@@ -1,3 +1,5 @@
+pub mod Hosts
+pub mod Apart
 pub mod ConnectionInfos
 pub mod Watching
 pub mod Visits

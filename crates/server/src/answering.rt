@@ -2,7 +2,7 @@
 //! session.
 ghost use Rattle.std.specs.Prelude.{◌≡◌, ◌<◌, None, slice_index_or};
 ghost use Rattle.host_core.specs.State.{most_connections};
-ghost use Rattle.hosts.specs.Hosts.{host_at};
+ghost use Rattle.server.specs.Hosts.{host_at};
 ghost use Rattle.server.specs.HostAnswers.{AsksHost, HandsAnswer, HearsFault, HearsReplaced, ReportsOf, TakesEnd, client_at, ended_if};
 
 use crate::connection_info::ConnectionInfo;

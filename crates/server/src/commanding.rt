@@ -2,15 +2,15 @@
 ghost use Rattle.std.specs.Prelude.{◌≡◌, ◌≢◌, ◌<◌, ℕ, OnOk};
 ghost use Rattle.host_core.specs.State.{most_connections, phase_of};
 ghost use Rattle.host_core.specs.declared.phase.Phase.TheVariants as phase;
-ghost use Rattle.hosts.specs.Apart.{NobodyTalks, service_at};
+ghost use Rattle.server.specs.Apart.{NobodyTalks, service_at};
 ghost use Rattle.server.specs.Control.{EndsTalkingAt, Reloads, SendsNote, StopsAt, is_open_below, is_talking};
 ghost use Rattle.server.specs.Visits.{VisitsEach};
 
+use crate::ReloadFault;
 use crate::server::Server;
 use crate::watcher::Watcher;
 use control::NoteText;
 use host_core::{Acted, Host, MOST_CONNECTIONS, Phase};
-use hosts::ReloadFault;
 use job_streams::{Fault, RawRead, RawWrite};
 use service_events::Ending;
 

@@ -5,10 +5,9 @@ ghost use Rattle.server.specs.ProxyListener.{HandsNext, Holds, Leaves, Looks, Re
 
 use crate::accepting::{Accepted, Arrival, Listener};
 use host_core::LinkRead;
-use job_streams::RawRead;
+use job_streams::{RawRead, read_once};
 use proxy_protocol::{Header, HeaderFault, HeaderReader, MOST_BYTES};
 use service_events::BadHeader;
-use socket_links::read_once;
 use std::net::SocketAddr;
 
 /// The most connections that are held at one time. Others wait in the system's queue.

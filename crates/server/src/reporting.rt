@@ -1,14 +1,14 @@
 //! Reports to the watcher what happened on a connection.
 ghost use Rattle.std.specs.Prelude.{◌≡◌, ◌<◌, OnOk};
 ghost use Rattle.host_core.specs.State.{most_connections, reports_at, with_reports};
-ghost use Rattle.hosts.specs.Hosts.{host_at, with_host};
+ghost use Rattle.server.specs.Hosts.{host_at, with_host};
 ghost use Rattle.server.specs.NumberTurns.{info_after, reported, reports_of, told_of};
 ghost use Rattle.server.specs.Watching.{Told};
 
 use crate::connection_info::ConnectionInfo;
+use crate::hosts::Hosts;
 use crate::watcher::Watcher;
 use host_core::{Host, HostEvent};
-use hosts::Hosts;
 use job_streams::Fault;
 use service_events::{Client, Notice};
 

@@ -58,7 +58,7 @@ struct Watched<'a, N, W> {
 
 impl<N: Net, W: Watcher> AskingServer for Watched<'_, N, W> {
     ghost use Rattle.std.specs.Prelude.{◌≡◌, ⊤};
-    ghost use Rattle.hosts.specs.Hosts.{host_at};
+    ghost use Rattle.server.specs.Hosts.{host_at};
     ghost use Rattle.server.specs.HostAnswers.{AsksHost, HandsAnswer, HearsFault, HearsReply, TakesEnd, client_at, ended_if};
 
     type Stream = TcpStream;

@@ -2,12 +2,11 @@
 use crate::reply::{IoProgress, Reply};
 use crate::session_page::{session_data, session_page};
 use host_core::{LinkRead, MOST_CONNECTIONS};
-use job_streams::Fault;
+use job_streams::{Fault, read_once};
 use jobs::ServicePort;
 use mio::net::{TcpListener, TcpStream};
 use server::{Server, ServerPort};
 use service_events::{HttpStatus, MetricsPage, RequestHead, Resource, is_late, response_of};
-use socket_links::read_once;
 use std::alloc::{AllocError, Global};
 use std::net::{Ipv4Addr, Net, Shutdown, SocketAddr};
 

@@ -1,7 +1,6 @@
 //! A reply to a client of the metrics port or of the control socket.
 use host_core::LinkWrite;
-use job_streams::RawWrite;
-use socket_links::write_once;
+use job_streams::{RawWrite, write_once};
 
 /// What one turn did for a client.
 #[derive(Clone, Copy)]

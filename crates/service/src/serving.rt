@@ -13,7 +13,7 @@ use application_http::{Endpoint, EndpointFault};
 use applications::{JobWithoutApplication, draw_boot, first_asked, host_of, refuse_asking};
 use host_core::{Host, Terminals};
 use jiff::Timestamp;
-use job_streams::{Fault, RawRead, RawWrite, Sink, Source, read_whole, report_and_exit_code};
+use job_streams::{Fault, RawRead, RawWrite, Sink, Source, poll_timeout, read_whole, report_and_exit_code};
 use jobs::{
     ApplicationChoice, ControlChoice, Port, Seconds, Service, ServicePort, TimeLimits, Turns,
 };
@@ -23,7 +23,6 @@ use server::{
     Unwatched, Watcher, take_turns,
 };
 use service_events::{Metrics, MetricsPage, Notice};
-use socket_links::poll_timeout;
 use std::alloc::Global;
 use std::fmt;
 use std::fs::{self, Files};

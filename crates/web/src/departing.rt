@@ -1,9 +1,8 @@
 //! A client that is still sent something, and then has only to close.
 use crate::page_link::{PageLink, write_front};
 use host_core::{LinkRead, LinkWrite};
-use job_streams::CHUNK;
+use job_streams::{CHUNK, read_once};
 use mio::net::TcpStream;
-use socket_links::read_once;
 use std::net::Shutdown;
 
 /// What one turn did for a client that departs.

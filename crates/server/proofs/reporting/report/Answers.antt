@@ -2,8 +2,8 @@ use Rattle.std.proofs.Common.{◌∙◌, ◌<◌, ap, length, sym, subst}
 use Rattle.std.proofs.lemmas.Result.{err_from_is_err_and}
 use Rattle.host_core.specs.Reports.{events_of}
 use Rattle.host_core.specs.State.{Host, reports_at}
-use Rattle.hosts.specs.Hosts.{host_at}
-use Rattle.hosts.proofs.Lookups.{put_same}
+use Rattle.server.specs.Hosts.{host_at}
+use Rattle.server.proofs.Lookups.{put_same}
 use Rattle.server.specs.NumberTurns.{told_of}
 use Rattle.server.specs.Watching.{FailsAmong, HearsEach}
 use Rattle.server.proofs.Reports.{IsReporting, all_known, all_taken, all_told, begins, fewer, just_taken, later_hosts, none_found, one_failed, one_told}

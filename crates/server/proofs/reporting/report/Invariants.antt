@@ -1,7 +1,7 @@
 use Rattle.std.proofs.Common.{◌≡◌, length}
 use Rattle.host_core.specs.Reports.{events_of}
 use Rattle.host_core.specs.State.{reports_at}
-use Rattle.hosts.specs.Hosts.{host_at, with_host}
+use Rattle.server.specs.Hosts.{host_at, with_host}
 use Rattle.server.proofs.Reports.{IsReporting}
 use Rattle.server.proofs.reporting.report.Given as goal
 

@@ -1,6 +1,6 @@
 use Rattle.std.proofs.Common.{Ok, Err, None, refl, slice_index_or}
 use Rattle.std.proofs.lemmas.Result.{err_from_is_err_and}
-use Rattle.hosts.specs.Hosts.{host_at}
+use Rattle.server.specs.Hosts.{host_at}
 use Rattle.server.proofs.Handing.{reports_moved}
 use Rattle.server.proofs.server.Server.answer.Goals as goal
 

@@ -1,4 +1,0 @@
-pub mod Apart
-pub mod Lookups
-pub mod Places
-pub mod Reloads

@@ -1,5 +1,0 @@
-use Rattle.hosts.specs.Hosts.{AreOwned}
-use Rattle.hosts.proofs.hosts.free_place.Given as goal
-
-abbrev pub invariant-loop-place : goal.invariant-loop-place
-invariant-loop-place l = AreOwned l.place l.owners

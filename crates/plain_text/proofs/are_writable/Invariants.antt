@@ -1,7 +1,0 @@
-use Rattle.std.proofs.Common.{◌≡◌, drop}
-use Rattle.std.specs.List.{list_all}
-use Rattle.plain_text.specs.PlainTexts.{is_writable}
-use Rattle.plain_text.proofs.are_writable.Given as goal
-
-abbrev pub invariant-loop-part : goal.invariant-loop-part
-invariant-loop-part l = list_all is_writable l.parts ≡ list_all is_writable (drop l.part-index l.parts)

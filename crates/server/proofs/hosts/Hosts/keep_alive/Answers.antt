@@ -1,0 +1,28 @@
+use Rattle.std.proofs.Common.{arith, subst, ◌∙◌}
+use Rattle.host_core.specs.OneNumber.{ChangesOne}
+use Rattle.host_core.specs.State.{Host}
+use Rattle.host_core.proofs.OneNumber.{keep_alive_changes}
+use Rattle.server.specs.Hosts.{Hosts}
+use Rattle.server.proofs.Apart.{current_changed, earlier_changed, host_got, of_changes, owner_got}
+use Rattle.server.proofs.hosts.Hosts.keep_alive.Goals as goal
+
+pub index_mut-requires : goal.index_mut-requires
+index_mut-requires c =
+    let hosts : Hosts = record { current = c.self.inside.current; earlier = c.self.inside.earlier.items; owners = c.self.inside.owners.items } in
+    let there = (c.self.invariant.earlier c.args.conn c.in-Some.place (owner_got c.args.conn hosts c.index.result.now c.requires.number c.self.invariant c.index.ensures ∙ c.in-Some.is)).there in
+    let len = c.self.inside.earlier.ok.0 in
+    omega (arith, there, len)
+
+pub invariant_of-self : goal.invariant_of-self
+invariant_of-self c =
+    let hosts : Hosts = record { current = c.self.inside.current; earlier = c.self.inside.earlier.items; owners = c.self.inside.owners.items } in
+    let owner = owner_got c.args.conn hosts c.index.result.now c.requires.number c.self.invariant c.index.ensures ∙ c.in-Some.is in
+    earlier_changed c.args.conn c.in-Some.place c.keep_alive.new.self hosts c.self.invariant owner
+    (subst (λ (host : Host). ChangesOne c.args.conn host c.keep_alive.new.self) (host_got c.in-Some.place hosts c.index_mut.result.now (c.self.invariant.earlier c.args.conn c.in-Some.place owner).there c.index_mut.ensures.value)
+    (keep_alive_changes c.args.conn c.index_mut.result.now c.keep_alive.new.self c.keep_alive.ensures.kept_alive))
+
+pub invariant_of-self-in-None : goal.invariant_of-self-in-None
+invariant_of-self-in-None c =
+    let hosts : Hosts = record { current = c.self.inside.current; earlier = c.self.inside.earlier.items; owners = c.self.inside.owners.items } in
+    current_changed c.args.conn c.keep_alive-in-None.new.self hosts c.requires.number c.self.invariant (owner_got c.args.conn hosts c.index.result.now c.requires.number c.self.invariant c.index.ensures ∙ c.in-None.is)
+    (of_changes c.args.conn c.self.inside.current c.keep_alive-in-None.new.self (keep_alive_changes c.args.conn c.self.inside.current c.keep_alive-in-None.new.self c.keep_alive-in-None.ensures.kept_alive))

@@ -1,2 +1,0 @@
-pub mod RawCalls
-pub mod SocketCalls
