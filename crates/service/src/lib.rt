@@ -9,12 +9,12 @@
 #![tactic(auto)]
 
 mod application;
+mod clients;
 mod control_socket;
 mod log;
 mod metered;
 mod metrics_port;
 mod reload;
-mod reply;
 mod serving;
 mod session_page;
 mod tell;

@@ -2,16 +2,18 @@
 ghost use Rattle.std.specs.Prelude.{◌<◌};
 ghost use Rattle.host_core.specs.State.{most_connections};
 
-use crate::metrics_port::{MetricsPort, Served};
+use crate::metrics_port::{MetricsPort, Served, listen};
 use applications::{ApplicationFault, Replaced};
-use host_core::{Host, MOST_CONNECTIONS};
+use host_core::Host;
+use jiff::Timestamp;
 use job_streams::Fault;
 use jobs::ServicePort;
 use mio::net::TcpStream;
 use server::{Server, ServerPort, Watcher};
-use service_events::{Client, MetricsPage, Notice};
+use service_events::{Client, Metrics, MetricsPage, Notice};
 use std::alloc::Global;
 use std::net::Net;
+use std::time::Clock;
 
 /// Counts notices and screens, serves the counts at a port of 127.0.0.1, and passes each call on to another watcher.
 #[derive(Drop)]
@@ -22,37 +24,27 @@ pub(crate) struct MetricsObserver<'a, W> {
 }
 
 impl<'a, W: Watcher> MetricsObserver<'a, W> {
-    /// Counts on from this page. CannotListen if the system can't listen on the port; NoMemory if memory is refused.
+    /// Nothing is counted yet. CannotListen if the system can't listen on the port.
     pub(crate) fn new(
-        net: &impl Net,
+        rt: &(impl Net + Clock),
         alloc: Global,
         polled: &ServerPort,
         port: ServicePort,
-        page: MetricsPage,
+        version: &'static str,
         watcher: &'a mut W,
     ) -> Result<MetricsObserver<'a, W>, Fault> {
-        let mut port = MetricsPort::listen(net, alloc, port)?;
+        let page = MetricsPage {
+            metrics: Metrics::new(),
+            version,
+            started: Timestamp::now(rt).ok().map(|now| now.as_second()),
+        };
+        let mut port = listen(rt, alloc, port)?;
         port.register(polled);
         Ok(MetricsObserver {
             watcher,
             page,
             port,
         })
-    }
-
-    /// The page, with what open connections have used so far.
-    fn page(&self, server: &Server<TcpStream>) -> MetricsPage {
-        let mut metrics = self.page.metrics;
-        for conn in 0..MOST_CONNECTIONS {
-            match server.usage(conn) {
-                Some(usage) => metrics.count_usage(usage.turns, usage.received, usage.sent),
-                None => {}
-            }
-        }
-        MetricsPage {
-            metrics,
-            ..self.page
-        }
     }
 }
 
@@ -94,10 +86,12 @@ impl<W: Watcher> Watcher for MetricsObserver<'_, W> {
     }
 
     fn after_turn(&mut self, server: &Server<TcpStream>, port: &ServerPort, now: u64) -> bool {
-        if !self.port.accept_all(port, now) {
-            return false;
-        }
-        let page = &self.page(server);
-        self.port.serve_all(now, Served { page, server })
+        self.port.accept_all(port, now);
+        let served = Served {
+            alloc: self.port.alloc,
+            page: &self.page,
+            server,
+        };
+        self.port.serve_all(now, served).unwrap_or(false)
     }
 }

@@ -4,7 +4,7 @@ ghost use Rattle.std.specs.Prelude.{◌≡◌};
 ghost use Rattle.service.specs.Serving.{is_closed, is_over};
 
 use crate::application::Application;
-use crate::control_socket::ControlSocket;
+use crate::control_socket::{self, Commanding, ControlSocket};
 use crate::log::Log;
 use crate::metered::MetricsObserver;
 use crate::reload::PanelSource;
@@ -12,19 +12,17 @@ use crate::uptime::Uptime;
 use application_http::{Endpoint, EndpointFault};
 use applications::{JobWithoutApplication, draw_boot, first_asked, host_of, refuse_asking};
 use host_core::{Host, Terminals};
-use jiff::Timestamp;
-use job_streams::{Fault, RawRead, RawWrite, Sink, Source, poll_timeout, read_whole, report_and_exit_code};
-use jobs::{
-    ApplicationChoice, ControlChoice, Port, Seconds, Service, ServicePort, TimeLimits, Turns,
+use job_streams::{
+    Fault, RawRead, RawWrite, Sink, Source, poll_timeout, read_whole, report_and_exit_code,
 };
+use jobs::{ApplicationChoice, ControlChoice, Port, Seconds, Service, TimeLimits, Turns};
 use mio::net::TcpStream;
 use server::{
     Listener, NoListener, Orders, PolledListener, ProxyListener, Server, ServerPort, TurnParts,
     Unwatched, Watcher, take_turns,
 };
-use service_events::{Metrics, MetricsPage, Notice};
+use service_events::Notice;
 use std::alloc::Global;
-use std::fmt;
 use std::fs::{self, Files};
 use std::io::{self, ErrorKind};
 use std::net::{Ipv4Addr, Net, SocketAddr};
@@ -113,20 +111,6 @@ pub fn run_host<N: Net, I: Source, E: Sink>(
 /// The name of the standard input in reports.
 const STANDARD_INPUT: &str = "standard input";
 
-/// A warning that prints the address at which other machines can connect.
-#[derive(Clone, Copy)]
-struct Exposed(SocketAddr);
-
-impl fmt::Display for Exposed {
-    fn fmt<W: fmt::Write>(&self, f: &mut fmt::Formatter<W>) -> fmt::Result {
-        let address = self.0;
-        write!(
-            f,
-            "warning: other machines can connect to {address}, and nothing is encrypted"
-        )
-    }
-}
-
 /// A server of a host, with session names that no other start of the host uses.
 fn server_with_names<R: RandomSource>(
     rt: &R,
@@ -163,36 +147,18 @@ struct Control {
     drain: Seconds,
 }
 
-/// A control socket that can't be made, and why. Prints as the line on standard error.
-#[derive(Clone, Copy)]
-struct NoSocket<'a> {
-    name: &'a str,
-    why: ErrorKind,
-}
-
-impl fmt::Display for NoSocket<'_> {
-    fn fmt<W: fmt::Write>(&self, f: &mut fmt::Formatter<W>) -> fmt::Result {
-        let reason = match self.why {
-            ErrorKind::AddrInUse => "is in use",
-            ErrorKind::NotFound => "no such folder",
-            ErrorKind::PermissionDenied => "permission denied",
-            ErrorKind::InvalidInput => "the name is too long for a socket",
-            _ => "refused by the system",
-        };
-        let name = self.name;
-        write!(f, "--control {name}: {reason}")
-    }
-}
-
 /// Prints why a control socket can't be made, and returns the exit status.
 fn refuse_socket<E: Sink>(name: &str, why: ErrorKind, faults: &mut E) -> u8 {
-    match why {
-        ErrorKind::OutOfMemory => report_and_exit_code(Fault::NoMemory, faults),
-        _ => {
-            let _ = faults.write_line(NoSocket { name, why });
-            4
-        }
-    }
+    let reason = match why {
+        ErrorKind::OutOfMemory => return report_and_exit_code(Fault::NoMemory, faults),
+        ErrorKind::AddrInUse => "is in use",
+        ErrorKind::NotFound => "no such folder",
+        ErrorKind::PermissionDenied => "permission denied",
+        ErrorKind::InvalidInput => "the name is too long for a socket",
+        _ => "refused by the system",
+    };
+    let _ = faults.write_line(format_args!("--control {name}: {reason}"));
+    4
 }
 
 /// The chosen control socket, if there is one.
@@ -206,7 +172,7 @@ fn control_of<R: Files + Net>(
     };
     let orders = Orders::new(alloc)?;
     Ok(Some(Control {
-        socket: ControlSocket::listen(rt, alloc, name.as_str())?,
+        socket: control_socket::listen(rt, alloc, name.as_str())?,
         orders,
         drain: choice.drain,
     }))
@@ -222,14 +188,6 @@ struct Serving {
 }
 
 impl Serving {
-    /// Continues the exchanges with the application. Answers whether it did something.
-    fn consult<N: Net, W: Watcher>(&mut self, net: &N, watcher: &mut W) -> Result<bool, Fault> {
-        match &mut self.application {
-            Some(application) => application.turn(net, &mut self.server, &self.port, watcher),
-            None => Ok(false),
-        }
-    }
-
     /// Does what operators command, and sends the notes that can be sent. Answers whether it did something.
     fn obey<'x, R: Files, W: Watcher>(
         &mut self,
@@ -241,12 +199,18 @@ impl Serving {
         let Some(control) = &mut self.control else {
             return Ok(false);
         };
-        let orders = &mut control.orders;
-        let (server, port) = (&mut self.server, &mut self.port);
-        let moved = control
-            .socket
-            .serve_all(rt, now, source, orders, server, port, watcher)?;
-        Ok(moved | orders.notes.deliver_each(server))
+        control.socket.accept_all(&self.port, now);
+        let commanding = Commanding {
+            rt,
+            alloc: control.socket.alloc,
+            source,
+            orders: &mut control.orders,
+            server: &mut self.server,
+            port: &mut self.port,
+            watcher,
+        };
+        let moved = control.socket.serve_all(now, commanding)?;
+        Ok(moved | control.orders.notes.deliver_each(&mut self.server))
     }
 
     /// Whether no new session is taken.
@@ -257,23 +221,6 @@ impl Serving {
             Some(control) => control.orders.is_closed(),
             None => false,
         }
-    }
-
-    /// Whether operators ended the service.
-    fn is_over(&self) -> bool
-        ensures { result ≡ is_over self.now.control self.now.server }
-    {
-        match &self.control {
-            Some(control) => control.orders.have_ended(control.drain, &self.server),
-            None => false,
-        }
-    }
-
-    /// Lets the watcher do its work at this time, in milliseconds. Answers whether it did something.
-    fn tell<W: Watcher>(&self, now: u64, watcher: &mut W) -> bool
-        ensures { W.ended_turn watcher.old self.now.server now result watcher.new }
-    {
-        watcher.after_turn(&self.server, &self.port, now)
     }
 
     /// Reports to the watcher that the server listens, and takes a turn for each item of `turns`. Returns the fault
@@ -300,31 +247,6 @@ impl Serving {
             watcher,
         };
         take_turns(&mut shift, turns)
-    }
-
-    /// Reports to the watcher that the server listens, takes a turn for each item of `turns`, and serves metrics at
-    /// this port. Returns the fault that ended that; Ok if operators did.
-    fn serve_metered<'x, R: Net + Clock + Files, W: Watcher, T: Iterator<Item = ()>>(
-        &mut self,
-        rt: &'x R,
-        alloc: Global,
-        turns: T,
-        service: &Service,
-        source: PanelSource<'x>,
-        address: SocketAddr,
-        port: ServicePort,
-        page: MetricsPage,
-        watcher: &mut W,
-    ) -> Result<(), Fault>
-        requires can { T.can_next turns }
-        requires ends { IsFinite (T.remaining turns) }
-    {
-        match MetricsObserver::new(rt, alloc, &self.port, port, page, watcher) {
-            Ok(mut metered) => {
-                self.serve_watched(rt, turns, service, source, address, &mut metered)
-            }
-            Err(fault) => Err(fault),
-        }
     }
 }
 
@@ -398,7 +320,13 @@ impl<R: Net + Clock + Files, W: Watcher> TurnParts for Shift<'_, R, W> {
     }
 
     fn consult(&mut self) -> Result<bool, Fault> {
-        self.serving.consult(self.rt, self.watcher)
+        let serving = &mut *self.serving;
+        match &mut serving.application {
+            Some(application) => {
+                application.turn(self.rt, &mut serving.server, &serving.port, self.watcher)
+            }
+            None => Ok(false),
+        }
     }
 
     fn obey(&mut self) -> Result<bool, Fault> {
@@ -407,11 +335,16 @@ impl<R: Net + Clock + Files, W: Watcher> TurnParts for Shift<'_, R, W> {
     }
 
     fn tell(&mut self) -> bool {
-        self.serving.tell(self.uptime.millis(), self.watcher)
+        let now = self.uptime.millis();
+        let Serving { server, port, .. } = &*self.serving;
+        self.watcher.after_turn(server, port, now)
     }
 
     fn is_over(&self) -> bool {
-        self.serving.is_over()
+        match &self.serving.control {
+            Some(Control { orders, drain, .. }) => orders.have_ended(*drain, &self.serving.server),
+            None => false,
+        }
     }
 
     fn finish(&mut self) -> Result<(), Fault> {
@@ -441,7 +374,9 @@ fn serve<'x, R: Net + Clock + RandomSource + Files, T: Iterator<Item = ()>, E: S
 {
     let address = SocketAddr::new(service.listen, service.port.get());
     if !service.listen.is_loopback() {
-        let _ = faults.write_line(Exposed(address));
+        let _ = faults.write_line(format_args!(
+            "warning: other machines can connect to {address}, and nothing is encrypted"
+        ));
     }
     let mut serving = Serving {
         server: server_with_names(rt, alloc, host)?,
@@ -455,11 +390,6 @@ fn serve<'x, R: Net + Clock + RandomSource + Files, T: Iterator<Item = ()>, E: S
     if service.proxy_protocol {
         serving.port.expect_headers();
     }
-    let page = MetricsPage {
-        metrics: Metrics::new(),
-        version,
-        started: Timestamp::now(rt).ok().map(|now| now.as_second()),
-    };
     let mut log = Log {
         clock: rt,
         alloc,
@@ -468,9 +398,12 @@ fn serve<'x, R: Net + Clock + RandomSource + Files, T: Iterator<Item = ()>, E: S
     };
     match service.metrics {
         Some(port) => {
-            serving.serve_metered(
-                rt, alloc, turns, service, source, address, port, page, &mut log,
-            )
+            match MetricsObserver::new(rt, alloc, &serving.port, port, version, &mut log) {
+                Ok(mut metered) => {
+                    serving.serve_watched(rt, turns, service, source, address, &mut metered)
+                }
+                Err(fault) => Err(fault),
+            }
         }
         None => serving.serve_watched(rt, turns, service, source, address, &mut log),
     }

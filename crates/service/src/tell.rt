@@ -34,7 +34,7 @@ enum NoAnswer {
     NotReceived,
     /// The answer is invalid, for this reason.
     #[error("{0}")]
-    Invalid(LineFault),
+    Invalid(#[from] LineFault),
 }
 
 impl NoAnswer {
@@ -75,18 +75,12 @@ fn add_word(line: &mut String, word: &Option<Operand<'_>>) -> Result<(), AllocEr
     }
 }
 
-/// The line of the words.
-fn line_of(alloc: Global, words: &CommandWords<'_>) -> Result<String, AllocError> {
+/// The command of the words.
+fn command_of(alloc: Global, words: &CommandWords<'_>) -> Result<Command, NoAnswer> {
     let mut line = String::new(alloc);
     line.push_str(words.name.as_str())?;
     add_word(&mut line, &words.first)?;
     add_word(&mut line, &words.second)?;
-    Ok(line)
-}
-
-/// The command of the words.
-fn command_of(alloc: Global, words: &CommandWords<'_>) -> Result<Command, NoAnswer> {
-    let line = line_of(alloc, words)?;
     match Command::read(line.as_str()) {
         Ok(command) => Ok(command),
         Err(fault) => Err(NoAnswer::NoCommand(fault)),
@@ -102,14 +96,6 @@ fn connect(net: &impl Net, socket: &str) -> io::Result<UnixStream> {
     Ok(stream)
 }
 
-/// Whether an answer's line is complete.
-fn is_complete(line: &LineBuffer) -> Result<bool, NoAnswer> {
-    match line.line() {
-        Ok(text) => Ok(text.is_some()),
-        Err(fault) => Err(NoAnswer::Invalid(fault)),
-    }
-}
-
 /// Reads until the answer's line is complete, or is invalid.
 fn receive<D: Source>(down: &mut D, line: &mut LineBuffer) -> Result<(), NoAnswer> {
     let mut chunk = [0; CHUNK];
@@ -122,7 +108,7 @@ fn receive<D: Source>(down: &mut D, line: &mut LineBuffer) -> Result<(), NoAnswe
                 return Err(NoAnswer::NotReceived);
             }
         }
-        if is_complete(line)? {
+        if !matches!(line.line(), Ok(None)) {
             return Ok(());
         }
     }
@@ -155,14 +141,7 @@ fn print_answer<O: Sink, E: Sink>(
     out: &mut O,
     faults: &mut E,
 ) -> Result<u8, NoAnswer> {
-    let answer = match line.line() {
-        Ok(text) => Answer::read(text.unwrap_or("")),
-        Err(fault) => Err(fault),
-    };
-    let answer = match answer {
-        Ok(answer) => answer,
-        Err(fault) => return Err(NoAnswer::Invalid(fault)),
-    };
+    let answer = Answer::read(line.line()?.unwrap_or(""))?;
     if out.write_line(answer).is_err() {
         return Ok(report_and_exit_code(Fault::OutputFailed, faults));
     }
@@ -170,14 +149,6 @@ fn print_answer<O: Sink, E: Sink>(
         Status::Done => 0,
         Status::Failed => 1,
     })
-}
-
-/// A socket without an answer, and the reason. Prints as the line on standard error.
-#[derive(Debug, Drop, Error)]
-#[error("{socket}: {why}")]
-struct Unanswered<'a> {
-    socket: &'a str,
-    why: NoAnswer,
 }
 
 /// Sends the command of these words to the service that has this control socket, and prints its answer as one line. A
@@ -207,7 +178,7 @@ pub fn run_tell<N: Net, O: Sink, E: Sink>(
         }
         Err(why) => {
             let status = why.status();
-            let _ = faults.write_line(Unanswered { socket, why });
+            let _ = faults.write_line(format_args!("{socket}: {why}"));
             status
         }
     }
