@@ -1,4 +1,5 @@
 mod Chunks
 mod Contents
 mod Readings
+mod Replies
 mod Texts

@@ -26,11 +26,7 @@ fn reply_at(alloc: Global, bytes: &[u8], is_closed: bool) -> Result<Option<Reply
 fn front_of(bytes: &[u8], room: usize) -> &[u8]
     ensures { result.now ≡ take room bytes.now }
 {
-    if bytes.len() < room {
-        bytes
-    } else {
-        &bytes[..room]
-    }
+    bytes.get(..room).unwrap_or(bytes)
 }
 
 /// Adds received bytes, up to 65,536 in all, and returns the reply if they complete it.

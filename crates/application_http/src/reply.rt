@@ -88,7 +88,7 @@ fn end_flaw<'a>(key: &'a str, value: &Value) -> Option<(KeyFault, &'a str)>
 fn names_text(key: &str) -> bool
     ensures { result ≡ names_text key.now }
 {
-    key == "panel" || key == "message" || key == "cursor"
+    matches!(key, "panel" | "message" | "cursor")
 }
 
 /// What is wrong with one key and its value.
@@ -211,11 +211,10 @@ fn add_texts(
     ensures refused { OnErr result (0 < length (texts_in (member name.now (view value.now) no_members))) }
 {
     match value {
-        Value::String(text) => texts.push(field_of(alloc, name, text.as_str())?)?,
-        Value::Array(values) => add_copies(alloc, name, values.as_slice(), texts)?,
-        _ => {}
+        Value::String(text) => Ok(texts.push(field_of(alloc, name, text.as_str())?)?),
+        Value::Array(values) => add_copies(alloc, name, values.as_slice(), texts),
+        _ => Ok(()),
     }
-    Ok(())
 }
 
 /// The names of an object's arrays.

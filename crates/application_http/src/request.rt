@@ -5,7 +5,7 @@ ghost use Rattle.serde_json.specs.View.{members_view, view};
 ghost use Rattle.application_http.specs.Requests.{body_text, copies_of, copy_name, cursor_data, fields_data, is_copy_of, post_bytes, question_data, request_bytes, strings, terminal_data, with_client, with_field};
 
 use crate::endpoint::Endpoint;
-use serde_json::{Map, Value, json};
+use serde_json::{Map, Value};
 use std::alloc::{AllocError, Global};
 
 /// A field's name and its text, in Unicode.
@@ -66,7 +66,10 @@ fn copy_name(name: &str) -> Option<(&str, &str)>
 fn is_copy_of(stem: &str, name: &str) -> bool
     ensures { result ≡ is_copy_of stem.now name.now }
 {
-    copy_name(name).is_some_and(|parts| parts.0 == stem)
+    match copy_name(name) {
+        Some((field, _)) => field == stem,
+        None => false,
+    }
 }
 
 /// The JSON array of the texts of a field's copies.
@@ -129,6 +132,19 @@ pub(crate) fn put_text(
     serde_json::put(members, alloc, key, value)
 }
 
+/// Puts a number into an object.
+fn put_number(
+    members: &mut Map<String, Value>,
+    alloc: Global,
+    key: &str,
+    value: u64,
+) -> Result<(), AllocError>
+    ensures { OnOk result
+        (members_view members.new.entries ≡ put key.now (number (unsigned value)) (members_view members.old.entries)) }
+{
+    serde_json::put(members, alloc, key, Value::from(value))
+}
+
 /// Puts the LU, the panel and the key into an object.
 fn put_question(
     members: &mut Map<String, Value>,
@@ -141,8 +157,7 @@ fn put_question(
 {
     put_text(members, alloc, "lu", request.lu)?;
     put_text(members, alloc, "panel", request.panel)?;
-    put_text(members, alloc, "key", request.key)?;
-    Ok(())
+    put_text(members, alloc, "key", request.key)
 }
 
 /// Puts the name of the session and the number of the turn into an object.
@@ -156,15 +171,17 @@ fn put_ticket(
         (put (codes "session") (string session.now) (members_view members.old.entries))) }
 {
     put_text(members, alloc, "session", session)?;
-    serde_json::put(members, alloc, "turn", Value::from(u64::from(turn)))?;
-    Ok(())
+    put_number(members, alloc, "turn", u64::from(turn))
 }
 
 /// The JSON object of the cursor.
 fn cursor_value(alloc: Global, row: u16, col: u16) -> Result<Value, AllocError>
     ensures { IfOk result (λ value. view value ≡ cursor_data row col) }
 {
-    json!(in alloc; {"row": u64::from(row), "col": u64::from(col)})
+    let mut members = Map::new(alloc);
+    put_number(&mut members, alloc, "row", u64::from(row))?;
+    put_number(&mut members, alloc, "col", u64::from(col))?;
+    Ok(Value::Object(members))
 }
 
 /// Puts the cursor and the fields into an object.
@@ -180,16 +197,18 @@ fn put_screen(
     let cursor = cursor_value(alloc, request.row, request.col)?;
     serde_json::put(members, alloc, "cursor", cursor)?;
     let fields = fields_value(alloc, request.fields)?;
-    serde_json::put(members, alloc, "fields", fields)?;
-    Ok(())
+    serde_json::put(members, alloc, "fields", fields)
 }
 
 /// The JSON object of the terminal.
 fn terminal_value(alloc: Global, terminal: Terminal) -> Result<Value, AllocError>
     ensures { IfOk result (λ value. view value ≡ terminal_data terminal) }
 {
-    let Terminal { model, rows, cols } = terminal;
-    json!(in alloc; {"model": u64::from(model), "rows": u64::from(rows), "cols": u64::from(cols)})
+    let mut members = Map::new(alloc);
+    put_number(&mut members, alloc, "model", u64::from(terminal.model))?;
+    put_number(&mut members, alloc, "rows", u64::from(terminal.rows))?;
+    put_number(&mut members, alloc, "cols", u64::from(terminal.cols))?;
+    Ok(Value::Object(members))
 }
 
 /// Puts the address of the client into an object, if there is one.
