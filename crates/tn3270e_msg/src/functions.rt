@@ -5,7 +5,7 @@ ghost use Rattle.tn3270e_msg.specs.Functions.{functions_of, offer};
 use crate::codes::RESPONSES;
 
 /// How a set of functions compares with the one that both ends want: RESPONSES alone (our profile).
-#[derive(Clone, Copy, Debug, PartialEq, Eq)]
+#[derive(Clone, Copy)]
 pub enum FunctionsOffer {
     /// RESPONSES and no other function.
     ResponsesAlone,
@@ -20,7 +20,7 @@ impl FunctionsOffer {
     pub fn of(list: &[u8]) -> FunctionsOffer
         ensures { result ≡ offer (functions_of list.now) }
     {
-        if !list.iter().any(|function| *function == RESPONSES) {
+        if !list.contains(&RESPONSES) {
             return FunctionsOffer::NoResponses;
         }
         if list.iter().all(|function| *function == RESPONSES) {

@@ -15,7 +15,7 @@ use telnet_wire::{Item, Verb};
 pub const MOST_REFUSALS: u8 = 8;
 
 /// What an item of the wire means for a talk.
-#[derive(Clone, Copy, Debug)]
+#[derive(Clone, Copy)]
 pub enum Heard<'a> {
     /// WILL TN3270E.
     Will,
@@ -38,7 +38,6 @@ pub enum Heard<'a> {
 }
 
 /// How a talk reacts to an item.
-#[derive(Clone, Copy, Debug)]
 pub enum Transition<S> {
     /// It replies, and its state stays as it is.
     Stays(Reply),

@@ -105,7 +105,7 @@ impl HostState {
                     FunctionsOffer::of(list),
                 ),
                 SubMessage::FunIs(list)
-                    if FunctionsOffer::of(list) == FunctionsOffer::ResponsesAlone => {
+                    if matches!(FunctionsOffer::of(list), FunctionsOffer::ResponsesAlone) => {
                     Transition::Goes(HostState::Agreed(device, lu), Reply::Agreed)
                 }
                 _ => Transition::Closes(Cause::BadTalk),

@@ -85,5 +85,5 @@ fn is_name(name: &[u8]) -> bool
 fn is_lu_letter(letter: u8) -> bool
     ensures { result ≡ is_lu_letter letter }
 {
-    letter.is_ascii_uppercase() || letter.is_ascii_digit() || matches!(letter, b'@' | b'#' | b'$')
+    matches!(letter, b'A'..=b'Z' | b'0'..=b'9' | b'@' | b'#' | b'$')
 }

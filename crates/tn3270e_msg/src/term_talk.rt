@@ -163,13 +163,13 @@ fn grant_transition(
     let (true, Some(lu)) = (is_own_type, name) else {
         return Transition::Closes(Cause::BadTalk);
     };
-    if wanted.is_some_and(|wanted| wanted != lu) {
-        return Transition::Closes(Cause::BadTalk);
+    match wanted {
+        Some(wanted) if wanted != lu => Transition::Closes(Cause::BadTalk),
+        _ => Transition::Goes(
+            TermState::FunctionsAsked(lu),
+            Reply::Sub(OwnedMessage::FunRequest, After::Going),
+        ),
     }
-    Transition::Goes(
-        TermState::FunctionsAsked(lu),
-        Reply::Sub(OwnedMessage::FunRequest, After::Going),
-    )
 }
 
 /// The terminal's side of the negotiation. Contracts see its model, the LU that it wants, its
