@@ -11,11 +11,7 @@ use std::marker::Model;
 fn front_of(bytes: &[u8], room: usize) -> &[u8]
     ensures { result.now ≡ take room bytes.now }
 {
-    if bytes.len() < room {
-        bytes
-    } else {
-        &bytes[..room]
-    }
+    bytes.get(..room).unwrap_or(bytes)
 }
 
 /// What a client sent so far: at most its first 8,192 bytes. Contracts see the bytes.
