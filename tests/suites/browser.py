@@ -1,7 +1,7 @@
 """The page in a real Chromium, at a `web` beside a host. If Chromium isn't installed, the suite says so.
 
 That the page shows what is sent, and sends what is typed, isn't proved: so screens are compared with
-those of `panel3270 term`, whose keys are the same, and keys with the bytes of crates/tty_keys."""
+those of `panel3270 term`, whose keys are the same, and keys with the bytes of crates/tty."""
 import contextlib
 import random
 import subprocess
@@ -32,7 +32,7 @@ def terminal(words="model=2", *options):
         expect("complaints", page.complaints(), [])
 
 
-# A key, its code and modifiers, and the bytes of crates/tty_keys for what it does.
+# A key, its code and modifiers, and the bytes of crates/tty for what it does.
 FUNCTION_KEYS = [
     *(b"\x1bO" + it for it in (b"P", b"Q", b"R", b"S")),
     *(b"\x1b[%d~" % it for it in (15, 17, 18, 19, 20, 21, 23, 24)),

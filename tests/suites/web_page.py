@@ -132,7 +132,7 @@ def of_node(script, given):
     return json.loads(done.stdout)
 
 
-# Looks, by the SGR that selects each, as crates/tty_screen/specs/Spelling has them.
+# Looks, by the SGR that selects each, as crates/tty/specs/Spelling has them.
 LOOKS = {
     "0": "",
     "0;4;32": "green underlined",
@@ -184,7 +184,7 @@ def it_is_a_tty() -> None:
         expect(f"bells, {seed=}", found["bells"], screen.bells)
 
 
-# What each key sends: the bytes by which a tty says the function (crates/tty_keys/specs/Table).
+# What each key sends: the bytes by which a tty says the function (crates/tty/specs/KeySequences).
 SHIFT, CTRL, ALT = {"shiftKey": True}, {"ctrlKey": True}, {"altKey": True}
 F_KEYS = "OP OQ OR OS [15~ [17~ [18~ [19~ [20~ [21~ [23~ [24~"
 SHIFTED = "[1;2P [1;2Q [1;2R [1;2S [15;2~ [17;2~ [18;2~ [19;2~ [20;2~ [21;2~ [23;2~ [24;2~"

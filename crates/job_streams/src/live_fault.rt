@@ -6,7 +6,7 @@ use std::io::ErrorKind;
 use std::net::SocketAddr;
 use thiserror::Error;
 use tn3270e_msg::{Cause, Reason};
-use tty_screen::TooSmall;
+use tty::TooSmall;
 
 /// Why a live terminal ends. Prints as the line on standard error.
 #[derive(Debug, Drop, PartialEq, Eq, Error)]

@@ -2,10 +2,10 @@
 use Rattle.std.proofs.Common.{◌≡◌, ◌∙◌, refl, sym, ap, subst, ℕ, ◌+◌, ◌<◌, ◌≤◌, Bool, true, false, if◌then◌else◌, List, [], ◌∷◌, ◌++◌, length, drop, get_or, Option, None, Some}
 use Rattle.std.proofs.lemmas.List.{drop_more, drop_all}
 use Rattle.std.specs.Option.{option_to_list}
-use Rattle.tty_keys.specs.Reading.{after_pause, keystrokes_of, read_byte, read_bytes}
-use Rattle.tty_keys.specs.declared.keystroke.Keystroke.{Keystroke}
-use Rattle.tty_keys.specs.declared.keystroke.Keystroke.TheVariants.{Unknown}
-use Rattle.tty_keys.specs.declared.keystroke.PushResult.{PushResult}
+use Rattle.tty.specs.KeyReading.{after_pause, keystrokes_of, read_byte, read_bytes}
+use Rattle.tty.specs.declared.keystroke.Keystroke.{Keystroke}
+use Rattle.tty.specs.declared.keystroke.Keystroke.TheVariants.{Unknown}
+use Rattle.tty.specs.declared.keystroke.PushResult.{PushResult}
 use Rattle.keyboard.specs.declared.key.Key.{Key}
 use Rattle.operate.specs.Live.{Live, ReadsTyped, Seat, Types, after_keystroke, after_keystrokes, after_typing, all_typed, is_quit}
 

@@ -1,4 +1,4 @@
--- The page that tells an operator the keys (our profile): tty_keys's Table, in words.
+-- The page that tells an operator the keys (our profile): tty's KeySequences, in words.
 use Rattle.std.specs.Prelude.{ℕ, List, [], ◌∷◌, codes}
 
 abbrev pub key_table : List (List ℕ)

@@ -20,18 +20,18 @@ use Rattle.codes3270.specs.declared.size.Model.{Model}
 use Rattle.jobs.specs.declared.tty_size.TtySize.{TtySize}
 use Rattle.tn3270e_msg.specs.declared.cause.Fed.{Fed}
 use Rattle.tn3270e_msg.specs.declared.cause.Stop.TheVariants as stop
-use Rattle.tty_keys.specs.Reading.{after_pause, read_bytes}
-use Rattle.tty_keys.specs.declared.keystroke.Keystroke.{Keystroke}
-use Rattle.tty_keys.specs.declared.keystroke.Keystroke.TheVariants as stroke
-use Rattle.tty_screen.specs.Changes.{drawing_of}
-use Rattle.tty_screen.specs.Painting.{notice_of, page_of, picture_of}
-use Rattle.tty_screen.specs.Pictures.{PictureParts}
-use Rattle.tty_screen.specs.Spelling.{all_spelt, encoded}
-use Rattle.tty_screen.specs.Tty.{Control}
-use Rattle.tty_screen.specs.TtyRoom.{too_small_text}
-use Rattle.tty_screen.specs.declared.room.TooSmall.{TooSmall}
-use Rattle.tty_screen.specs.declared.status.StatusPlace.{StatusPlace}
-use Rattle.tty_screen.specs.declared.status.StatusPlace.TheVariants as place
+use Rattle.tty.specs.KeyReading.{after_pause, read_bytes}
+use Rattle.tty.specs.declared.keystroke.Keystroke.{Keystroke}
+use Rattle.tty.specs.declared.keystroke.Keystroke.TheVariants as stroke
+use Rattle.tty.specs.Changes.{drawing_of}
+use Rattle.tty.specs.Painting.{notice_of, page_of, picture_of}
+use Rattle.tty.specs.Pictures.{PictureParts}
+use Rattle.tty.specs.Spelling.{all_spelt, encoded}
+use Rattle.tty.specs.Tty.{Control}
+use Rattle.tty.specs.TtyRoom.{too_small_text}
+use Rattle.tty.specs.declared.room.TooSmall.{TooSmall}
+use Rattle.tty.specs.declared.status.StatusPlace.{StatusPlace}
+use Rattle.tty.specs.declared.status.StatusPlace.TheVariants as place
 use Rattle.operate.specs.KeyTable.{key_table}
 use Rattle.operate.specs.declared.live.Overlay.{Overlay}
 use Rattle.operate.specs.declared.live.Overlay.TheVariants as over

@@ -2,8 +2,8 @@
 //!
 //! It has no thread and no timer. A [`LiveTerminal`] takes the bytes of the host and of the keys, and produces the
 //! bytes that draw the changes. An [`OperatorSession`] reads the connection and the keys once in each turn, and writes
-//! to both. This crate does not decode keys (crate `tty_keys`), compose the tty's screen (`tty_screen`), or define the
-//! terminal (`term_core`). `specs/Live` and `LiveSessions` define a turn.
+//! to both. This crate does not decode keys or compose the tty's screen (crate `tty`), or define the terminal
+//! (`term_core`). `specs/Live` and `LiveSessions` define a turn.
 #![tactic(auto)]
 
 mod key_table;

@@ -3,9 +3,9 @@ ghost use Rattle.std.specs.Prelude.{◌≡◌, ◌++◌, ◌<◌, ◌≤◌, [],
 ghost use Rattle.term_core.specs.Presses.{after_key, answer_to_key};
 ghost use Rattle.term_core.specs.Room.{out_room};
 ghost use Rattle.term_core.specs.State.{phase_of, connected, lost, model_of};
-ghost use Rattle.tty_keys.specs.Reading.{read_byte};
-ghost use Rattle.tty_screen.specs.Painting.{notice_of, page_of};
-ghost use Rattle.tty_screen.specs.TtyRoom.{too_small_text};
+ghost use Rattle.tty.specs.KeyReading.{read_byte};
+ghost use Rattle.tty.specs.Painting.{notice_of, page_of};
+ghost use Rattle.tty.specs.TtyRoom.{too_small_text};
 ghost use Rattle.operate.specs.KeyTable.{key_table};
 ghost use Rattle.operate.specs.Live.{Draws, Hears, ReadsTyped, Resumes, Sounds, TakesTurn, Types, after_help, after_key_at, after_keystroke, after_keystrokes, after_meaning, after_press, after_typing, all_typed, asks_after, first_seat, is_connected, is_enter, is_idle, is_keys, is_quit, is_reset, is_status, is_wait, lack_at, lu_place, page_at, picture_at, refusal_after, resized, screen_at, status_place, waits, with_key};
 
@@ -18,8 +18,9 @@ use std::alloc::{AllocError, Global};
 use std::marker;
 use term_core::{TermPhase, Terminal};
 use tn3270e_msg::{Lu, Stop};
-use tty_keys::{KeyReader, Keystroke};
-use tty_screen::{Drawing, Picture, Status, StatusPlace, TooSmall, check_room, put_bell};
+use tty::{
+    Drawing, KeyReader, Keystroke, Picture, Status, StatusPlace, TooSmall, check_room, put_bell,
+};
 
 /// What an operator asks of the program.
 #[derive(Clone, Copy)]

@@ -22,7 +22,7 @@ use std::marker;
 use std::net::{Net, SocketAddr};
 use term_core::TermPhase;
 use tn3270e_msg::Lu;
-use tty_screen::check_room;
+use tty::check_room;
 
 /// The most events of one poll. A socket without an event is also read.
 const MOST_EVENTS: usize = 8;

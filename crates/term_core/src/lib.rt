@@ -1,8 +1,8 @@
 //! A whole TN3270E display terminal: Telnet bytes and keystrokes go in, Telnet bytes and a printed screen come out. It
 //! has no socket and no clock: its caller feeds it the host's bytes ([`Terminal::feed`]) and keys
 //! ([`Terminal::press`]), and sends what is in [`Terminal::out`]. It joins `telnet_wire` (the stream), `tn3270e_msg`
-//! (the negotiation), `presentation` (the screen) and `keyboard`. Drawing on a tty and reading its keys are the parts
-//! of `tty_screen` and `tty_keys`.
+//! (the negotiation), `presentation` (the screen) and `keyboard`. Drawing on a tty and reading its keys are the part of
+//! `tty`.
 //!
 //! ```rust
 //! let mut terminal = Terminal::new(alloc, Model::M2)?;

@@ -12,7 +12,7 @@ use web_wire::{Closing, Received, SendFault};
 /// A terminal whose drawings are sent to a page.
 pub(crate) type PageTerminal<H> = OperatorSession<H, (), ()>;
 
-/// Ctrl-L, by which the whole screen is drawn (see crate `tty_keys`).
+/// Ctrl-L, by which the whole screen is drawn (see crate `tty`).
 const REDRAW: u8 = 12;
 
 /// What a turn of a page was.

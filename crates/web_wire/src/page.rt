@@ -1,9 +1,9 @@
-//! The page: a tty in a browser (our profile). It draws what `tty_screen` writes, by its definitions Tty and Reading,
-//! and sends the bytes of keys that `tty_keys` reads. The text has no quotation mark and no backslash, so that the
+//! The page: a tty in a browser (our profile). It draws what `tty` writes, by its definitions Tty and Reading,
+//! and sends the bytes of keys that it reads. The text has no quotation mark and no backslash, so that the
 //! literal is the page.
 
 /// The SHA-256 of what is in the page's element `script`, in base64.
-pub const SCRIPT_HASH: &str = "6aboThDEQfYGrV5JRr+I4nssDmZ7L4erOxAfXdCtCGE=";
+pub const SCRIPT_HASH: &str = "YRuazCLElZCgdfZq4plAGwpOxnNerYuwIo2M4cUMCa8=";
 
 /// The SHA-256 of what is in the page's element `style`, in base64.
 pub const STYLE_HASH: &str = "gXTTJ/fXXHYSP8KCVhuIdOSYTYdZ2vZFQL2rdOJCQKs=";
@@ -46,7 +46,7 @@ html, body { margin: 0; background: #101418; color: #d8dee4; }
 const code = String.fromCharCode, ESC = code(27), CSI = ESC + '[';
 const [screen, typed, state, said, keys] =
   ['screen', 'typed', 'state', 'said', 'keys'].map(name => document.getElementById(name));
-// ---- A tty: characters, CUP, SGR and ED, as crates/tty_screen/specs/Tty and Reading define them.
+// ---- A tty: characters, CUP, SGR and ED, as crates/tty/specs/Tty and Reading define them.
 let rows, columns, grid, cursor, look, changed;
 const plain = () => ({ colour: '', bold: '', underlined: '' });
 
@@ -139,7 +139,7 @@ function ring() {
   document.body.classList.add('bell');
   setTimeout(() => document.body.classList.remove('bell'), 300);
 }
-// ---- Keys: the bytes that crates/tty_keys reads. The browser keeps Ctrl-C, by which a selection is copied.
+// ---- Keys: the bytes that crates/tty reads. The browser keeps Ctrl-C, by which a selection is copied.
 const numbers = [15, 17, 18, 19, 20, 21, 23, 24], letters = ['P', 'Q', 'R', 'S'];
 const functionKeys = [letters.map(it => ESC + 'O' + it), numbers.map(it => CSI + it + '~'),
   letters.map(it => CSI + '1;2' + it), numbers.map(it => CSI + it + ';2~')].flat();

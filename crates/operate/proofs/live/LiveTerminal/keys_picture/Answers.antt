@@ -1,6 +1,6 @@
 use Rattle.std.proofs.Common.{IfOk, subst, ◌≡◌}
 use Rattle.presentation.specs.Sizes.{SizedScreen}
-use Rattle.tty_screen.specs.Painting.{page_of}
+use Rattle.tty.specs.Painting.{page_of}
 use Rattle.operate.specs.KeyTable.{key_table}
 use Rattle.operate.specs.Live.{Live}
 use Rattle.operate.proofs.live.LiveTerminal.keys_picture.Goals as goal

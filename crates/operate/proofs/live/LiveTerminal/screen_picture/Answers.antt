@@ -1,7 +1,7 @@
 use Rattle.std.proofs.Common.{IfOk, subst, ◌≡◌}
 use Rattle.presentation.specs.Sizes.{SizedScreen}
 use Rattle.term_core.specs.State.{Terminal, phase_of}
-use Rattle.tty_screen.specs.Painting.{picture_of}
+use Rattle.tty.specs.Painting.{picture_of}
 use Rattle.operate.specs.Live.{Live, is_connected, lu_place, screen_at, status_place}
 use Rattle.operate.proofs.live.LiveTerminal.screen_picture.Goals as goal
 

@@ -1,0 +1,15 @@
+pub mod Characters
+pub mod Pieces
+pub mod Single
+pub mod ControlSequences
+pub mod Reports
+pub mod Listed
+pub mod Encoded
+pub mod LongSequences
+pub mod Columns
+pub mod Changing
+pub mod Showing
+pub mod ReadBack
+pub mod AllRead
+pub mod Graphics
+pub mod Hiding

@@ -1,0 +1,15 @@
+pub mod KeySequences
+pub mod KeyForms
+pub mod KeyReading
+pub mod KeyLaws
+pub mod Looks
+pub mod Pictures
+pub mod StatusRow
+pub mod Painting
+pub mod Tty
+pub mod Spelling
+pub mod Reading
+pub mod Changes
+pub mod Drawn
+pub mod TtyRoom
+pub mod DrawingLaws

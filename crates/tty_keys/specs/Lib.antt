@@ -1,4 +1,0 @@
-pub mod Table
-pub mod Forms
-pub mod Reading
-pub mod Laws

@@ -1,7 +1,0 @@
-pub mod Columns
-pub mod Changing
-pub mod Showing
-pub mod ReadBack
-pub mod AllRead
-pub mod Graphics
-pub mod Hiding

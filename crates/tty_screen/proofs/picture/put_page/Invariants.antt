@@ -1,6 +1,0 @@
-use Rattle.std.proofs.Common.{◌≡◌, ◌++◌, map}
-use Rattle.tty_screen.specs.Painting.{page_cells}
-use Rattle.tty_screen.proofs.picture.put_page.Given as goal
-
-abbrev pub invariant-loop-row : goal.invariant-loop-row
-invariant-loop-row l = l.cells.items ≡ l.fn.cells.items ++ page_cells l.row l.columns (map (λ line. line.now) l.lines)

@@ -1,6 +1,0 @@
-use Rattle.std.proofs.Common.{◌≡◌, ◌++◌}
-use Rattle.tty_screen.specs.StatusRow.{in_columns}
-use Rattle.tty_screen.proofs.picture.put_text.Given as goal
-
-abbrev pub invariant-loop-column : goal.invariant-loop-column
-invariant-loop-column l = l.cells.items ≡ l.fn.cells.items ++ in_columns l.column l.text
