@@ -16,8 +16,8 @@ use Rattle.host_core.specs.declared.acted.Acted.TheVariants as acted
 use Rattle.host_core.specs.declared.question.Answer.{Answer}
 use Rattle.host_core.specs.declared.question.Question.{Question}
 use Rattle.host_core.specs.declared.question.Ticket.{Ticket}
-use Rattle.job_streams.specs.declared.fault.Fault.{Fault}
-use Rattle.job_streams.specs.declared.fault.Fault.TheVariants.{NoMemory}
+use Rattle.jobs.specs.declared.fault.Fault.{Fault}
+use Rattle.jobs.specs.declared.fault.Fault.TheVariants.{NoMemory}
 use Rattle.panels.specs.Panel.{Panels}
 use Rattle.applications.specs.ApplicationRequests.{IsNotificationOf, IsRequestFor}
 use Rattle.applications.specs.Applications.{IsAnswerFault, IsAnswerFor, failure_text, is_reply_late, message_for, telling}

@@ -12,8 +12,8 @@ use Rattle.panels.specs.Panel.{Panels as PanelsRead}
 use Rattle.panels.specs.Passes.{IsReason}
 use Rattle.panels.specs.declared.fault.PanelFault.{PanelFault}
 use Rattle.panels.specs.declared.fault.PanelFault.TheVariants as panel_fault
-use Rattle.job_streams.specs.declared.fault.Fault.{Fault}
-use Rattle.job_streams.specs.declared.fault.Fault.TheVariants.{Panels, Pool, NoMemory}
+use Rattle.jobs.specs.declared.fault.Fault.{Fault}
+use Rattle.jobs.specs.declared.fault.Fault.TheVariants.{Panels, Pool, NoMemory}
 
 -- the panels' LUs, each parsed as an LU name
 abbrev pub lus_of : PanelsRead → List (Option (List ℕ))

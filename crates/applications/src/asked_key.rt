@@ -4,11 +4,11 @@ ghost use Rattle.std.specs.List.{range_with_len};
 ghost use Rattle.codes3270.specs.declared.attention.Aid.TheVariants.{Pa, Pf};
 ghost use Rattle.panels.specs.Panel.{is_asked};
 ghost use Rattle.applications.specs.AskedKeys.{advice_of, asked_among, asked_key, asked_text, first_asked, panels_ask};
-ghost use Rattle.job_streams.specs.Runs.{IsToldIn};
+ghost use Rattle.jobs.specs.Runs.{IsToldIn};
 
 use crate::application_request::KeyName;
 use codes3270::{Aid, PaNo, PfNo};
-use job_streams::Sink;
+use jobs::Sink;
 use panels::{Next, Panel, PanelSet};
 use std::fmt;
 

@@ -6,7 +6,7 @@ ghost use Rattle.applications.specs.ExchangeTurns.{GoesOn, Hears, Reads, Serves,
 
 use crate::application_fault::{Absence, ApplicationFault};
 use application_http::{Reply, ReplyFault, ReplyReader};
-use job_streams::{RawRead, RawWrite};
+use jobs::{RawRead, RawWrite};
 use std::alloc::Global;
 use std::io::{Error, ErrorKind};
 use std::marker::Model;

@@ -12,7 +12,7 @@ use crate::ended_session::EndedSession;
 use crate::exchange::{Exchange, IoProgress, absence_of};
 use application_http::{Endpoint, Reply};
 use host_core::{Acted, Answer, MOST_CONNECTIONS, Ticket};
-use job_streams::{Fault, RawRead, RawWrite};
+use jobs::{Fault, RawRead, RawWrite};
 use panels::PanelSet;
 use std::alloc::{AllocError, Global};
 use std::io;

@@ -8,7 +8,7 @@ use crate::application_fault::Absence;
 use crate::ended_session::{EndedSession, notification_of};
 use crate::exchange::{Exchange, IoProgress, absence_of};
 use crate::exchanges::{Asking, AskingServer, empty_slots};
-use job_streams::{RawRead, RawWrite};
+use jobs::{RawRead, RawWrite};
 use std::alloc::{AllocError, Global};
 use std::marker::Model;
 

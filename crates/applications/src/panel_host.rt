@@ -3,7 +3,7 @@ ghost use Rattle.std.specs.Prelude.{◌≡◌, IfOk, IfErr};
 ghost use Rattle.applications.specs.PanelHosts.{DefinesNoHost, IsApplicationOf, IsHostOf, of_panels, of_pool};
 
 use host_core::{Host, Terminals};
-use job_streams::Fault;
+use jobs::Fault;
 use lu_pool::{Pool, PoolFault};
 use panels::{PanelFault, PanelSet};
 use std::alloc::Global;

@@ -1,8 +1,8 @@
 -- How `help` and `version` end (our profile).
 use Rattle.std.specs.Prelude.{◌≡◌, ◌⊎◌, ℕ}
-use Rattle.job_streams.specs.Counting.{Output, Untouched, more}
-use Rattle.job_streams.specs.Faults.{status_of}
-use Rattle.job_streams.specs.declared.fault.Fault.TheVariants.{OutputFailed}
+use Rattle.jobs.specs.Counting.{Output, Untouched, more}
+use Rattle.jobs.specs.Faults.{status_of}
+use Rattle.jobs.specs.declared.fault.Fault.TheVariants.{OutputFailed}
 
 -- holds if the status is 0 and no write failed, or if it is that of a failed output and the write failed
 abbrev pub PrintsLine : (out_old out_new faults_old faults_new : Output) → (status : ℕ) → Type 0

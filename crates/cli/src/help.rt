@@ -2,8 +2,7 @@
 ghost use Rattle.cli.specs.Helps.{PrintsLine};
 
 use crate::job_table::{JOBS, JobOption, name_of, options_of};
-use job_streams::{Fault, Sink, WriteFailed, report_and_exit_code};
-use jobs::HelpTopic;
+use jobs::{Fault, HelpTopic, Sink, WriteFailed, report_and_exit_code};
 use std::fmt;
 
 /// The program's version.

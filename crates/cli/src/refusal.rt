@@ -9,10 +9,9 @@ use crate::command_line::{ends_by_dashes, is_given, topic_of};
 use crate::job_table::{ValueKind, name_of, options_of};
 use clap::ArgMatches;
 use clap::error::ErrorKind;
-use job_streams::Sink;
 use jobs::{
-    HelpTopic, HostEndpoint, Port, ReplyTime, Seconds, ServicePort, SessionCount, TtySize, Turns,
-    address_of, model_of,
+    HelpTopic, HostEndpoint, Port, ReplyTime, Seconds, ServicePort, SessionCount, Sink, TtySize,
+    Turns, address_of, model_of,
 };
 use std::alloc::Global;
 use std::fmt;

@@ -5,9 +5,9 @@
 //! that were received; [`Host::act`], [`Host::answer`] or [`Host::note`] sends a command; [`Host::out`] has the Telnet
 //! bytes to send, and [`Host::sent`] drops them; [`Host::next_event`] reports; [`Host::closed`] frees the number.
 //!
-//! The host has no sockets and never waits: that is for its caller, as the crate `job_streams`. The Telnet stream is
-//! that of `telnet_wire`, the negotiation and headers are those of `tn3270e_msg`, panels of `panels`, LUs of `lu_pool`,
-//! and what is believed of a screen of `shadow`.
+//! The host has no sockets and never waits: that is for its caller, as the crate `jobs`. The Telnet stream is that of
+//! `telnet_wire`, the negotiation and headers are those of `tn3270e_msg`, panels of `panels`, LUs of `lu_pool`, and what
+//! is believed of a screen of `shadow`.
 //!
 //! ```rust
 //! let panels = PanelSet::read(alloc, text)?;

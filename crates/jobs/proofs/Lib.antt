@@ -2,3 +2,9 @@ pub mod Pieces
 pub mod HexWords
 pub mod LineParts
 pub mod Addresses
+pub mod Known
+pub mod InputEnds
+pub mod ReadsOn
+pub mod WriteCalls
+pub mod RawCalls
+pub mod SocketCalls

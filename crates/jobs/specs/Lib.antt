@@ -1,3 +1,11 @@
 pub mod HexLines
 pub mod LineParts
 pub mod OptionValues
+pub mod Faults
+pub mod FileFaults
+pub mod Counting
+pub mod RawCalls
+pub mod Counted
+pub mod Runs
+pub mod LiveFaults
+pub mod Sockets

@@ -4,9 +4,9 @@ use Rattle.std.specs.declared.io.Error.{Error}
 use Rattle.host_core.specs.Serves.{bytes_got}
 use Rattle.host_core.specs.declared.links.LinkRead.{LinkRead}
 use Rattle.host_core.specs.declared.links.LinkRead.TheVariants as read
-use Rattle.job_streams.specs.Counting.{chunk_size}
+use Rattle.jobs.specs.Counting.{chunk_size}
 use Rattle.operate.specs.LiveSessions.{AfterRead, ReadsHost, Session, got_count}
-use Rattle.job_streams.specs.Sockets.{Gives, SocketSlot}
+use Rattle.jobs.specs.Sockets.{Gives, SocketSlot}
 
 -- the bytes are so many of the buffer
 counted : (answer : LinkRead) (buffer : List ℕ) → bytes_got answer buffer ≡ take (got_count answer) buffer

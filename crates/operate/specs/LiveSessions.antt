@@ -6,10 +6,10 @@ use Rattle.host_core.specs.declared.links.LinkRead.TheVariants as read
 use Rattle.host_core.specs.declared.links.LinkWrite.{LinkWrite}
 use Rattle.host_core.specs.declared.links.LinkWrite.TheVariants as write
 use Rattle.term_core.specs.State.{is_bound, lost, phase_of}
-use Rattle.job_streams.specs.Counting.{Output, Written, chunk_size}
+use Rattle.jobs.specs.Counting.{Output, Written, chunk_size}
 use Rattle.operate.specs.Live.{Live, TakesTurn, Types}
-use Rattle.job_streams.specs.Sockets.{SocketSlot, Gives, Takes, emptied, has_taken}
-use Rattle.job_streams.specs.declared.streams.Answer.{Answer}
+use Rattle.jobs.specs.Sockets.{SocketSlot, Gives, Takes, emptied, has_taken}
+use Rattle.jobs.specs.declared.streams.Answer.{Answer}
 
 -- the live terminal after a write: the bytes that it took are dropped from the output
 abbrev pub sent_by : LinkWrite → Live → Live

@@ -1,19 +1,18 @@
 //! `operate`: a terminal at a host, for an operator at a tty.
 ghost use Rattle.std.specs.Prelude.{◌≡◌, ◌≤◌, ◌||◌, IfOk, OnOk, length, take};
 ghost use Rattle.term_core.specs.State.{is_bound, phase_of};
-ghost use Rattle.job_streams.specs.Counting.{chunk_size};
+ghost use Rattle.jobs.specs.Counting.{chunk_size};
 ghost use Rattle.operate.specs.LiveSessions.{AfterRead, Draws, Loses, ReadsHost, ReadsKeys, Rests, SendsOnce, SendsOver, TakesBytes, TakesInput, TakesTurnOver, TakesTurnTyped, Works, WritesTty, got_count, is_quiet};
 ghost use Rattle.host_core.specs.Serves.{GotWithin, bytes_got};
-ghost use Rattle.job_streams.specs.Sockets.{Gives};
+ghost use Rattle.jobs.specs.Sockets.{Gives};
 
 use crate::live::{LiveTerminal, OperatorRequest};
 use codes3270::Model;
 use host_core::{LinkRead, LinkWrite};
-use job_streams::{
-    Answer, CHUNK, Fault, LiveFault, RawRead, RawWrite, Sink, SocketSlot, Source, poll_timeout,
-    read_chunk, report_and_exit_code,
+use jobs::{
+    Answer, CHUNK, Fault, LiveFault, OperateOptions, RawRead, RawWrite, Sink, SocketSlot, Source,
+    TtySize, poll_timeout, read_chunk, report_and_exit_code,
 };
-use jobs::{OperateOptions, TtySize};
 use mio::net::TcpStream;
 use mio::{Events, Interest, Poll, Token};
 use std::alloc::Global;

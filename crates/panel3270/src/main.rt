@@ -10,10 +10,10 @@ ghost use Rattle.std.specs.Iterator.{IsFinite};
 
 use crate::selfrun::run_selfrun;
 use cli::{VERSION, WordFault, refuse_words, run_help, run_version, words};
-use job_streams::{
-    CountedReader, CountedWriter, Fault, Sink, UntilClosed, refuse_file, report_and_exit_code,
+use jobs::{
+    ApplicationChoice, ControlChoice, CountedReader, CountedWriter, Fault, Job, Operand,
+    OperateOptions, Service, Sink, UntilClosed, refuse_file, report_and_exit_code,
 };
-use jobs::{ApplicationChoice, ControlChoice, Job, Operand, OperateOptions, Service};
 use operate::run_operate;
 use scripts::{run_check, run_script, run_show, run_term};
 use service::{run_host, run_serve, run_tell};

@@ -2,8 +2,7 @@
 use crate::socket_terminal::SocketTerminal;
 use applications::{answer_in, put_question, question_on, ticket_on};
 use host_core::{Acted, Answer, MOST_CONNECTIONS};
-use job_streams::{Fault, Sink, Source, poll_timeout, read_whole, report_and_exit_code};
-use jobs::Turns;
+use jobs::{Fault, Sink, Source, Turns, poll_timeout, read_whole, report_and_exit_code};
 use keyboard::Key;
 use mio::net::TcpStream;
 use scripts::{

@@ -4,7 +4,7 @@ ghost use Rattle.host_core.specs.Serves.{GotWithin};
 
 use codes3270::Model;
 use host_core::{LinkRead, LinkWrite};
-use job_streams::{CHUNK, Fault, read_once, write_once};
+use jobs::{CHUNK, Fault, read_once, write_once};
 use keyboard::Key;
 use mio::net::TcpStream;
 use std::alloc::{AllocError, Global};

@@ -6,10 +6,10 @@ use Rattle.panels.specs.PanelText.{panel_text}
 use Rattle.panel_check.specs.Report.{HasFirstCause, IsFaultlessIfAccepted, fault_count}
 use Rattle.panel_check.specs.declared.report.Report.{Report}
 use Rattle.scripts.specs.Checks.{EndsReporting, HasCheckCause, WritesReport}
-use Rattle.job_streams.specs.Counting.{Input, Output, Written}
-use Rattle.job_streams.specs.Runs.{IsInput, RefusesInput}
-use Rattle.job_streams.specs.declared.fault.Fault.{Fault}
-use Rattle.job_streams.specs.declared.fault.Fault.TheVariants.{InputNotRead, Panels, Pool, NotHex, NotUnderstood, NoMemory, SocketFailed, NotRandom, CannotListen, NotAnApplication, TurnsOver, OutputFailed, Live}
+use Rattle.jobs.specs.Counting.{Input, Output, Written}
+use Rattle.jobs.specs.Runs.{IsInput, RefusesInput}
+use Rattle.jobs.specs.declared.fault.Fault.{Fault}
+use Rattle.jobs.specs.declared.fault.Fault.TheVariants.{InputNotRead, Panels, Pool, NotHex, NotUnderstood, NoMemory, SocketFailed, NotRandom, CannotListen, NotAnApplication, TurnsOver, OutputFailed, Live}
 
 -- where there is no input nothing is written
 pub unread : (Came : List ℕ → Type 0) (fault : Fault) (in_old in_new : Input) (out : Output) → RefusesInput fault in_old in_new

@@ -1,11 +1,11 @@
 -- How a run ends, from the ends of its parts.
 use Rattle.std.proofs.Common.{ℕ, List, Option, None, Some, refl}
 use Rattle.std.proofs.KnownBytes.{Keeps-refl}
-use Rattle.job_streams.specs.Counting.{Input, Output}
-use Rattle.job_streams.specs.Runs.{RefusesInput, IsInput}
+use Rattle.jobs.specs.Counting.{Input, Output}
+use Rattle.jobs.specs.Runs.{RefusesInput, IsInput}
 use Rattle.scripts.specs.PageJobRuns.{EndsPrinting, HasCause}
-use Rattle.job_streams.specs.declared.fault.Fault.{Fault}
-use Rattle.job_streams.specs.declared.fault.Fault.TheVariants.{InputNotRead, Panels, Pool, NotHex, NotUnderstood, NoMemory, SocketFailed, NotRandom, CannotListen, NotAnApplication, TurnsOver, OutputFailed, Live}
+use Rattle.jobs.specs.declared.fault.Fault.{Fault}
+use Rattle.jobs.specs.declared.fault.Fault.TheVariants.{InputNotRead, Panels, Pool, NotHex, NotUnderstood, NoMemory, SocketFailed, NotRandom, CannotListen, NotAnApplication, TurnsOver, OutputFailed, Live}
 use Rattle.scripts.specs.declared.page_job.PageJob.{PageJob}
 
 -- where there is no input nothing is written

@@ -11,14 +11,14 @@ use Rattle.telnet_wire.specs.Items.{sent_bytes}
 use Rattle.term_core.specs.Bytes.{TakesByte, TakesBytes, goes_on, completes, breaks, link_after}
 use Rattle.term_core.specs.Feeds.{IsAttached, StopsFor}
 use Rattle.term_core.specs.State.{Link, Terminal, Detached, Attached, Closed, lost, phase_of}
-use Rattle.job_streams.specs.Counting.{CutShort, Output, Written, bytes_given}
+use Rattle.jobs.specs.Counting.{CutShort, Output, Written, bytes_given}
 use Rattle.scripts.specs.Operating.{IsWaitOver, is_wait_over}
 use Rattle.scripts.specs.Waits.{Exchanges, GaveOn, GoesOn, HasClosed, HasExchanged, HasWaited, IsFed, SendsAll, SendsLast, ended, is_memory, most_waits, sound, unsent, read_room}
 use Rattle.scripts.specs.declared.operator.WaitEnd.{WaitEnd}
 use Rattle.scripts.specs.declared.operator.WaitEnd.TheVariants.{Over, ReadsUsedUp}
-use Rattle.job_streams.specs.declared.streams.Answer.{Answer}
-use Rattle.job_streams.specs.declared.streams.Answer.TheVariants.{Ended, Failed}
-use Rattle.job_streams.proofs.ReadsOn.{reads_nothing, reads_on}
+use Rattle.jobs.specs.declared.streams.Answer.{Answer}
+use Rattle.jobs.specs.declared.streams.Answer.TheVariants.{Ended, Failed}
+use Rattle.jobs.proofs.ReadsOn.{reads_nothing, reads_on}
 
 -- ---- a terminal, and what it had to send before
 

@@ -3,11 +3,11 @@ use Rattle.std.specs.Prelude.{◌≡◌, ◌==◌, ℕ, Bool, true, false, List,
 use Rattle.panels.specs.PanelText.{panel_text}
 use Rattle.panel_check.specs.Report.{HasFirstCause, IsFaultlessIfAccepted, fault_count}
 use Rattle.panel_check.specs.declared.report.Report.{Report}
-use Rattle.job_streams.specs.Counting.{Input, Output, Untouched, Written, CutShort}
-use Rattle.job_streams.specs.Faults.{status_of}
-use Rattle.job_streams.specs.Runs.{IsSilent, NotRead, OnInput}
-use Rattle.job_streams.specs.declared.fault.Fault.{Fault}
-use Rattle.job_streams.specs.declared.fault.Fault.TheVariants.{InputNotRead, NoMemory, OutputFailed}
+use Rattle.jobs.specs.Counting.{Input, Output, Untouched, Written, CutShort}
+use Rattle.jobs.specs.Faults.{status_of}
+use Rattle.jobs.specs.Runs.{IsSilent, NotRead, OnInput}
+use Rattle.jobs.specs.declared.fault.Fault.{Fault}
+use Rattle.jobs.specs.declared.fault.Fault.TheVariants.{InputNotRead, NoMemory, OutputFailed}
 
 -- holds for a report on the panel text of an input; `clean`: it has no fault
 pub record IsReportOf (input : List ℕ) (report : Report) (clean : Bool) : Type 0 where

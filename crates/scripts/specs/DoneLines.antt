@@ -3,11 +3,11 @@ use Rattle.std.specs.Prelude.{◌≡◌, ℕ, List, [], chars}
 use Rattle.term_core.specs.Presses.{after_key, answer_to_key}
 use Rattle.term_core.specs.ScreenText.{screen_text}
 use Rattle.term_core.specs.State.{Terminal, phase_of}
-use Rattle.job_streams.specs.Counting.{Output}
+use Rattle.jobs.specs.Counting.{Output}
 use Rattle.scripts.specs.Operating.{after_text, phase_line, said_of_key, said_of_text}
 use Rattle.jobs.specs.LineParts.{behind}
 use Rattle.scripts.specs.Waits.{HasWaited}
-use Rattle.job_streams.specs.declared.streams.Answer.{Answer}
+use Rattle.jobs.specs.declared.streams.Answer.{Answer}
 use Rattle.scripts.specs.declared.term_line.TerminalCommand.{TerminalCommand}
 use Rattle.scripts.specs.declared.term_line.TerminalCommand.TheVariants as command
 

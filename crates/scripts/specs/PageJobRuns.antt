@@ -1,15 +1,15 @@
 -- How a run of `script` or `show` ends: its page, its fault and its exit status (our profile).
 use Rattle.std.specs.Prelude.{◌≡◌, ℕ, List, Option, Some, None}
 use Rattle.scripts.specs.Pages.{IsPage}
-use Rattle.job_streams.specs.Counting.{Input, Output, Untouched, Written, CutShort}
-use Rattle.job_streams.specs.declared.fault.Fault.{Fault}
-use Rattle.job_streams.specs.declared.fault.Fault.TheVariants.{InputNotRead, Panels, Pool, NotHex, NotUnderstood, NoMemory, SocketFailed, NotRandom, CannotListen, NotAnApplication, TurnsOver, OutputFailed, Live}
+use Rattle.jobs.specs.Counting.{Input, Output, Untouched, Written, CutShort}
+use Rattle.jobs.specs.declared.fault.Fault.{Fault}
+use Rattle.jobs.specs.declared.fault.Fault.TheVariants.{InputNotRead, Panels, Pool, NotHex, NotUnderstood, NoMemory, SocketFailed, NotRandom, CannotListen, NotAnApplication, TurnsOver, OutputFailed, Live}
 use Rattle.scripts.specs.declared.page_job.PageJob.{PageJob}
 use Rattle.scripts.specs.declared.page_job.PageJob.TheVariants.{Script, Show}
 use Rattle.applications.specs.PanelHosts.{HasPanelFault, HasPoolFault}
 use Rattle.panels.specs.PanelText.{panel_text}
 use Rattle.scripts.specs.Scripts.{IsScriptPage}
-use Rattle.job_streams.specs.Runs.{IsSilent, NotRead, OnInput, status_after}
+use Rattle.jobs.specs.Runs.{IsSilent, NotRead, OnInput, status_after}
 
 -- ---- the output
 

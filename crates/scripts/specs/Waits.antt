@@ -6,12 +6,12 @@ use Rattle.tn3270e_msg.specs.declared.cause.Stop.TheVariants.{Going, Memory, Clo
 use Rattle.term_core.specs.Bytes.{TakesBytes}
 use Rattle.term_core.specs.Feeds.{Feeds}
 use Rattle.term_core.specs.State.{Link, Terminal, Detached, Attached, Closed, lost}
-use Rattle.job_streams.specs.Counting.{CutShort, Output, Reads, Written}
+use Rattle.jobs.specs.Counting.{CutShort, Output, Reads, Written}
 use Rattle.scripts.specs.Operating.{IsWaitOver}
 use Rattle.scripts.specs.declared.operator.WaitEnd.{WaitEnd}
 use Rattle.scripts.specs.declared.operator.WaitEnd.TheVariants.{Over, ReadsUsedUp}
-use Rattle.job_streams.specs.declared.streams.Answer.{Answer}
-use Rattle.job_streams.specs.declared.streams.Answer.TheVariants.{Gave, Ended, Interrupted, Failed}
+use Rattle.jobs.specs.declared.streams.Answer.{Answer}
+use Rattle.jobs.specs.declared.streams.Answer.TheVariants.{Gave, Ended, Interrupted, Failed}
 
 -- the most reads of one wait
 abbrev pub most_waits : ℕ

@@ -1,8 +1,8 @@
 //! `check`: prints all faults and warnings of a panel text.
 ghost use Rattle.scripts.specs.Checks.{EndsReporting, HasCheckCause, IsCheckEnd};
-ghost use Rattle.job_streams.specs.Runs.{InPieces};
+ghost use Rattle.jobs.specs.Runs.{InPieces};
 
-use job_streams::{Fault, Sink, Source, read_whole, report_and_exit_code};
+use jobs::{Fault, Sink, Source, read_whole, report_and_exit_code};
 use std::alloc::Global;
 
 /// Prints the report on the panel text of an input with this name. Answers whether the text has no fault.

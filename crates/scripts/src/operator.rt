@@ -4,10 +4,10 @@ ghost use Rattle.term_core.specs.Presses.{after_key, answer_to_key};
 ghost use Rattle.term_core.specs.ScreenText.{screen_text};
 ghost use Rattle.term_core.specs.State.{phase_of};
 ghost use Rattle.scripts.specs.Operating.{after_text, is_wait_over, phase_line, refusal_in, refusal_text, said_of_key, said_of_text};
-ghost use Rattle.job_streams.specs.Counting.{GivesWithin, bytes_given};
+ghost use Rattle.jobs.specs.Counting.{GivesWithin, bytes_given};
 ghost use Rattle.scripts.specs.Waits.{FeedsAll, HasExchanged, HasWaited, IsFed, SendsAll, SendsLast, is_memory, read_room};
 
-use job_streams::{Answer, Sink, Source};
+use jobs::{Answer, Sink, Source};
 use keyboard::{Key, Lock, Pressed, Refusal};
 use std::alloc::{AllocError, Global};
 use term_core::{TermPhase, Terminal};

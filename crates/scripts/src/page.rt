@@ -1,6 +1,6 @@
 //! The page that `show` prints.
 ghost use Rattle.std.specs.Prelude.{◌≡◌, ◌++◌, ℕ, List, Option, IfOk, OnOk, string_bytes};
-ghost use Rattle.job_streams.specs.Runs.{ending_of};
+ghost use Rattle.jobs.specs.Runs.{ending_of};
 ghost use Rattle.scripts.specs.Pages.{first_screen, sense_text, TakesCommand, IsPage};
 ghost use Rattle.scripts.specs.ScreenText.{screen_text};
 ghost use Rattle.scripts.specs.PageJobRuns.{EndsPrinting};
@@ -8,8 +8,7 @@ ghost use Rattle.scripts.specs.declared.page_job.PageJob.TheVariants.{Show};
 
 use codes3270::Model;
 use datastream::{Sense, read_command};
-use job_streams::{Fault, Sink};
-use jobs::bytes_of_line;
+use jobs::{Fault, Sink, bytes_of_line};
 use presentation::Screen;
 use std::alloc::{AllocError, Global};
 use term_core::screen_lines;

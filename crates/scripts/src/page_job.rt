@@ -1,6 +1,6 @@
 //! `script` and `show`: read the whole input, print a page, and open no socket.
 ghost use Rattle.std.specs.Prelude.{◌≡◌};
-ghost use Rattle.job_streams.specs.Runs.{InPieces, ending_of};
+ghost use Rattle.jobs.specs.Runs.{InPieces, ending_of};
 ghost use Rattle.scripts.specs.PageJobRuns.{EndsPrinting, HasCause, IsEnd};
 ghost use Rattle.scripts.specs.declared.page_job.PageJob.TheVariants.{Script, Show};
 
@@ -8,7 +8,7 @@ use crate::page::print_page;
 use crate::script::print_script;
 use codes3270::Model;
 use host_core::Terminals;
-use job_streams::{Fault, Sink, Source, read_whole, report_and_exit_code};
+use jobs::{Fault, Sink, Source, read_whole, report_and_exit_code};
 use std::alloc::Global;
 
 /// A job that prints one page for its whole input.

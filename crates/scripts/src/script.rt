@@ -1,6 +1,6 @@
 //! `script`: plays a script in a world of panels and terminals, and prints what the operators see.
 ghost use Rattle.std.specs.Prelude.{◌≡◌, string_bytes, IfOk, IfErr};
-ghost use Rattle.job_streams.specs.Runs.{ending_of};
+ghost use Rattle.jobs.specs.Runs.{ending_of};
 ghost use Rattle.scripts.specs.PageJobRuns.{EndsPrinting};
 ghost use Rattle.applications.specs.PanelHosts.{DefinesNoHost};
 ghost use Rattle.panels.specs.PanelText.{panel_text};
@@ -10,7 +10,7 @@ ghost use Rattle.scripts.specs.declared.page_job.PageJob.TheVariants.{Script};
 use crate::player::{MODELS, play};
 use applications::application_of;
 use host_core::Terminals;
-use job_streams::{Fault, Sink};
+use jobs::{Fault, Sink};
 use panels::split_input;
 use std::alloc::Global;
 use world3270::World;

@@ -5,10 +5,10 @@ ghost use Rattle.scripts.specs.DoneLines.{DoesLine};
 use crate::operator::{press, put_display, put_phase, type_text, wait};
 use crate::term_line::TerminalCommand;
 use codes3270::Model;
-use job_streams::{
-    CountedReader, CountedWriter, Fault, Sink, Source, read_whole, report_and_exit_code,
+use jobs::{
+    CountedReader, CountedWriter, Fault, Port, Sink, Source, behind, read_whole,
+    report_and_exit_code,
 };
-use jobs::{Port, behind};
 use std::alloc::{AllocError, Global};
 use std::net::{Ipv4Addr, TcpStream};
 use term_core::Terminal;

@@ -3,9 +3,9 @@ use Rattle.std.proofs.Common.{◌≡◌, ◌∙◌, ◌+◌, add-one, ap, ℕ, L
 use Rattle.applications.specs.declared.session_name.SessionName.{SessionName}
 use Rattle.host_core.specs.State.{Host}
 use Rattle.server.specs.Hosts.{Hosts}
-use Rattle.job_streams.specs.declared.fault.Fault.{Fault}
+use Rattle.jobs.specs.declared.fault.Fault.{Fault}
 use Rattle.service_events.specs.declared.notice.Notice.{Notice}
-use Rattle.job_streams.specs.Sockets.{Sockets}
+use Rattle.jobs.specs.Sockets.{Sockets}
 use Rattle.server.specs.Accepting.{AdmitsSome, Door, Receives}
 use Rattle.server.specs.declared.accepting.Arrival.{Arrival}
 use Rattle.server.specs.declared.connection_info.ConnectionInfo.{ConnectionInfo}

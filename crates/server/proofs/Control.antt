@@ -15,10 +15,10 @@ use Rattle.server.specs.Apart.{service_at}
 use Rattle.server.specs.Hosts.{AreOwned, Hosts, IsFreePlace, most_earlier, reloaded}
 use Rattle.server.specs.declared.hosts.ReloadFault.{ReloadFault}
 use Rattle.server.specs.declared.hosts.ReloadFault.TheVariants as reload_fault
-use Rattle.job_streams.specs.declared.fault.Fault.{Fault}
+use Rattle.jobs.specs.declared.fault.Fault.{Fault}
 use Rattle.service_events.specs.declared.notice.Notice.{Notice}
 use Rattle.server.specs.Visits.{VisitsEach}
-use Rattle.job_streams.specs.Sockets.{is_connected, slot_at}
+use Rattle.jobs.specs.Sockets.{is_connected, slot_at}
 use Rattle.server.specs.Control.{DeliversAt, DeliversBelow, EndsTalkingAt, NobodyTalksBelow, Reloads, has_recipient_below, is_open_below, is_talking, queued_below, recipient_at, refused, reloads, with_waiting}
 use Rattle.server.specs.declared.note_queue.WaitingNote.{WaitingNote}
 use Rattle.server.specs.declared.server.Server.{Server}

@@ -3,7 +3,7 @@ use Rattle.std.proofs.Common.{◌≡◌, ◌∙◌, ℕ, Option, Some, None, Res
 use Rattle.host_core.specs.State.{Host, with_reports}
 use Rattle.server.specs.Hosts.{Hosts, host_at, with_host}
 use Rattle.server.proofs.Lookups.{put_again}
-use Rattle.job_streams.specs.declared.fault.Fault.{Fault}
+use Rattle.jobs.specs.declared.fault.Fault.{Fault}
 use Rattle.service_events.specs.declared.notice.Notice.{Notice}
 use Rattle.server.specs.HostAnswers.{ReportsOf}
 use Rattle.server.specs.NumberTurns.{reported}

@@ -10,7 +10,7 @@ use Rattle.host_core.specs.declared.rejection.Rejection.{Rejection}
 use Rattle.shadow.specs.declared.rule_break.RuleBreak.{RuleBreak}
 use Rattle.server.specs.Hosts.{Hosts, host_at, with_host}
 use Rattle.server.proofs.Lookups.{put_again}
-use Rattle.job_streams.specs.declared.fault.Fault.{Fault}
+use Rattle.jobs.specs.declared.fault.Fault.{Fault}
 use Rattle.service_events.specs.declared.notice.Client.{Client}
 use Rattle.service_events.specs.declared.notice.Notice.{Notice}
 use Rattle.server.specs.ConnectionInfos.{with_event, with_events}

@@ -3,7 +3,7 @@ use Rattle.std.proofs.Common.{◌≡◌, ◌∙◌, add-one, Bool, false, IfErr,
 use Rattle.std.proofs.lemmas.List.{length_push}
 use Rattle.std.specs.Result.{IsErrAnd}
 use Rattle.server.specs.ServiceTurns.{BreaksOff, TakesTurns, TakesWhole}
-use Rattle.job_streams.specs.declared.fault.Fault.{Fault}
+use Rattle.jobs.specs.declared.fault.Fault.{Fault}
 
 module _ {S : Type 0} (served timed : S → Bool → Result Bool Fault → S → Type 0) (consulted obeyed : S → Result Bool Fault → S → Type 0)
     (told : S → Bool → S → Type 0) where

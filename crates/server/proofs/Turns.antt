@@ -4,11 +4,11 @@ use Rattle.host_core.specs.State.{Host, connection_at}
 use Rattle.host_core.specs.declared.serving.Served.{Served}
 use Rattle.server.specs.Hosts.{Hosts, host_at, with_host}
 use Rattle.server.proofs.Lookups.{put_again}
-use Rattle.job_streams.specs.declared.fault.Fault.{Fault}
+use Rattle.jobs.specs.declared.fault.Fault.{Fault}
 use Rattle.service_events.specs.Notices.{ending_of}
 use Rattle.service_events.specs.declared.notice.Ending.{Ending}
 use Rattle.service_events.specs.declared.notice.Notice.{Notice}
-use Rattle.job_streams.specs.Sockets.{Sockets, slot_at, with_slot, with_waiting}
+use Rattle.jobs.specs.Sockets.{Sockets, slot_at, with_slot, with_waiting}
 use Rattle.server.specs.NumberTurns.{server_reported, end_in_turn, ended, ending_after, given_back, given_back_if, info_after, with_unsent}
 use Rattle.server.specs.Watching.{Event, HearsEach, if_any}
 use Rattle.server.specs.declared.connection_info.ConnectionInfo.{ConnectionInfo}

@@ -1,6 +1,6 @@
 -- How visits to the numbers go on.
 use Rattle.std.proofs.Common.{◌||◌, ◌+◌, add-one, refl, subst, sym, ℕ, Bool, false, Result, Ok}
-use Rattle.job_streams.specs.declared.fault.Fault.{Fault}
+use Rattle.jobs.specs.declared.fault.Fault.{Fault}
 use Rattle.server.specs.Visits.{VisitsBelow}
 
 module _ {A W : Type 0} (visited : ℕ → A → W → Result Bool Fault → A → W → Type 0) where

@@ -5,12 +5,12 @@ use Rattle.host_core.specs.State.{Host, most_connections, phase_of}
 use Rattle.host_core.specs.declared.phase.Phase.TheVariants as phase
 use Rattle.server.specs.Apart.{service_at}
 use Rattle.server.specs.Hosts.{Hosts, opened as with_opened}
-use Rattle.job_streams.specs.declared.fault.Fault.{Fault}
-use Rattle.job_streams.specs.declared.fault.Fault.TheVariants as fault
+use Rattle.jobs.specs.declared.fault.Fault.{Fault}
+use Rattle.jobs.specs.declared.fault.Fault.TheVariants as fault
 use Rattle.service_events.specs.declared.notice.Client.{Client}
 use Rattle.service_events.specs.declared.notice.Notice.{Notice}
 use Rattle.service_events.specs.declared.notice.Notice.TheVariants as notice
-use Rattle.job_streams.specs.Sockets.{opened, slot_at, with_slot}
+use Rattle.jobs.specs.Sockets.{opened, slot_at, with_slot}
 use Rattle.server.specs.ConnectionInfos.{new_info}
 use Rattle.server.specs.Watching.{Noticed, Told}
 use Rattle.server.specs.declared.accepting.Accepted.{Accepted}

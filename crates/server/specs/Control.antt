@@ -16,11 +16,11 @@ use Rattle.server.specs.Apart.{service_at}
 use Rattle.server.specs.Hosts.{AreOwned, Hosts, IsFreePlace, closed, host_at, most_earlier, reloaded, with_host}
 use Rattle.server.specs.declared.hosts.ReloadFault.{ReloadFault}
 use Rattle.server.specs.declared.hosts.ReloadFault.TheVariants as reload_fault
-use Rattle.job_streams.specs.declared.fault.Fault.{Fault}
+use Rattle.jobs.specs.declared.fault.Fault.{Fault}
 use Rattle.service_events.specs.Timing.{is_over}
 use Rattle.service_events.specs.declared.notice.Ending.TheVariants as ending
 use Rattle.service_events.specs.declared.notice.Notice.{Notice}
-use Rattle.job_streams.specs.Sockets.{is_connected, slot_at}
+use Rattle.jobs.specs.Sockets.{is_connected, slot_at}
 use Rattle.server.specs.NumberTurns.{open_at}
 use Rattle.server.specs.TimeTurns.{IsEnded}
 use Rattle.server.specs.Visits.{VisitsEach}

@@ -22,13 +22,13 @@ use Rattle.host_core.specs.declared.acted.Acted.{Acted}
 use Rattle.host_core.specs.declared.question.Answer.{Answer}
 use Rattle.host_core.specs.declared.question.Question.{Question}
 use Rattle.host_core.specs.declared.question.Ticket.{Ticket}
-use Rattle.job_streams.specs.declared.fault.Fault.{Fault}
-use Rattle.job_streams.specs.declared.fault.Fault.TheVariants as fault
+use Rattle.jobs.specs.declared.fault.Fault.{Fault}
+use Rattle.jobs.specs.declared.fault.Fault.TheVariants as fault
 use Rattle.service_events.specs.Notices.{ending_word}
 use Rattle.service_events.specs.declared.notice.Client.{Client}
 use Rattle.service_events.specs.declared.notice.Notice.{Notice}
 use Rattle.service_events.specs.declared.notice.Usage.{Usage}
-use Rattle.job_streams.specs.Sockets.{slot_at}
+use Rattle.jobs.specs.Sockets.{slot_at}
 use Rattle.server.specs.ConnectionInfos.{session_end, usage_of, with_end, with_told}
 use Rattle.server.specs.NumberTurns.{info_after, open_at, reported, reports_of}
 use Rattle.server.specs.Watching.{FailsAmong, HearsEach}

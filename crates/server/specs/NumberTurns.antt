@@ -9,14 +9,14 @@ use Rattle.host_core.specs.declared.event.HostEvent.TheVariants as event
 use Rattle.host_core.specs.declared.serving.Served.{Served}
 use Rattle.host_core.specs.declared.serving.Served.TheVariants as served
 use Rattle.server.specs.Hosts.{closed, host_at, with_host}
-use Rattle.job_streams.specs.declared.fault.Fault.{Fault}
-use Rattle.job_streams.specs.declared.fault.Fault.TheVariants as fault
+use Rattle.jobs.specs.declared.fault.Fault.{Fault}
+use Rattle.jobs.specs.declared.fault.Fault.TheVariants as fault
 use Rattle.service_events.specs.Notices.{ending_of}
 use Rattle.service_events.specs.declared.notice.Client.{Client}
 use Rattle.service_events.specs.declared.notice.Ending.{Ending}
 use Rattle.service_events.specs.declared.notice.Notice.{Notice}
 use Rattle.service_events.specs.declared.notice.Notice.TheVariants as notice
-use Rattle.job_streams.specs.Sockets.{GivesAt, Sockets, TakesAt, emptied, is_connected, slot_at, with_slot, with_waiting}
+use Rattle.jobs.specs.Sockets.{GivesAt, Sockets, TakesAt, emptied, is_connected, slot_at, with_slot, with_waiting}
 use Rattle.server.specs.Watching.{Event, FailsAmong, HearsEach, Noticed, Showed, if_any}
 use Rattle.server.specs.ConnectionInfos.{usage_of, with_events}
 use Rattle.server.specs.declared.connection_info.ConnectionInfo.{ConnectionInfo}

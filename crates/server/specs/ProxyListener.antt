@@ -13,7 +13,7 @@ use Rattle.proxy_protocol.specs.declared.fault.HeaderFault.{HeaderFault}
 use Rattle.proxy_protocol.specs.declared.header.Header.{Header}
 use Rattle.service_events.specs.declared.notice.BadHeader.{BadHeader}
 use Rattle.service_events.specs.declared.notice.BadHeader.TheVariants as bad
-use Rattle.job_streams.specs.Sockets.{IsReadOnce}
+use Rattle.jobs.specs.Sockets.{IsReadOnce}
 use Rattle.server.specs.declared.accepting.Accepted.{Accepted}
 use Rattle.server.specs.declared.accepting.Arrival.{Arrival}
 use Rattle.server.specs.declared.accepting.Arrival.TheVariants as arrival

@@ -3,10 +3,10 @@ use Rattle.std.specs.Prelude.{◌≡◌, ◌||◌, ℕ, Bool, false, List, Optio
 use Rattle.std.specs.declared.io.Error.{Error}
 use Rattle.host_core.specs.State.{Host, most_connections}
 use Rattle.server.specs.Hosts.{only}
-use Rattle.job_streams.specs.declared.fault.Fault.{Fault}
-use Rattle.job_streams.specs.declared.fault.Fault.TheVariants as fault
+use Rattle.jobs.specs.declared.fault.Fault.{Fault}
+use Rattle.jobs.specs.declared.fault.Fault.TheVariants as fault
 use Rattle.service_events.specs.declared.notice.Notice.{Notice}
-use Rattle.job_streams.specs.Sockets.{new_sockets}
+use Rattle.jobs.specs.Sockets.{new_sockets}
 use Rattle.server.specs.Accepting.{AdmitsAll, Door, door, most_accepted}
 use Rattle.server.specs.NumberTurns.{ServesAt}
 use Rattle.server.specs.Visits.{VisitsEach}

@@ -1,8 +1,8 @@
 -- The turns of a service (our profile): the parts of a turn in their order, and one turn after another.
 use Rattle.std.specs.Prelude.{◌≡◌, ◌||◌, ℕ, zero, suc, Bool, true, false, List, length, Option, Result, Ok, Err}
 use Rattle.std.specs.Iterator.{Drains}
-use Rattle.job_streams.specs.declared.fault.Fault.{Fault}
-use Rattle.job_streams.specs.declared.fault.Fault.TheVariants as fault
+use Rattle.jobs.specs.declared.fault.Fault.{Fault}
+use Rattle.jobs.specs.declared.fault.Fault.TheVariants as fault
 
 module _ {S : Type 0} (served timed : S → Bool → Result Bool Fault → S → Type 0)
     (consulted obeyed : S → Result Bool Fault → S → Type 0)

@@ -4,7 +4,7 @@ use Rattle.std.specs.Prelude.{◌≡◌, ◌&&◌, ⊤, ℕ, Bool, true, false, 
 use Rattle.host_core.specs.KeepAlive.{kept_alive as with_nop, may_keep_alive}
 use Rattle.host_core.specs.State.{Host, connection_at, pending_of, phase_of, state_at, turn_of, with_connection}
 use Rattle.server.specs.Hosts.{host_at, with_host}
-use Rattle.job_streams.specs.declared.fault.Fault.{Fault}
+use Rattle.jobs.specs.declared.fault.Fault.{Fault}
 use Rattle.jobs.specs.declared.service.TimeLimits.{TimeLimits}
 use Rattle.service_events.specs.Timing.{are_applied, awaited_on, due, heard, is_operator, is_unanswered, kept_alive}
 use Rattle.service_events.specs.declared.limits.Activity.{Activity}
@@ -14,7 +14,7 @@ use Rattle.service_events.specs.declared.limits.Due.TheVariants as due_now
 use Rattle.service_events.specs.declared.notice.Ending.{Ending}
 use Rattle.service_events.specs.declared.notice.Ending.TheVariants as ending
 use Rattle.service_events.specs.declared.notice.Notice.{Notice}
-use Rattle.job_streams.specs.Sockets.{slot_at}
+use Rattle.jobs.specs.Sockets.{slot_at}
 use Rattle.server.specs.NumberTurns.{ended, given_back, open_at}
 use Rattle.server.specs.Visits.{VisitsEach}
 use Rattle.server.specs.Watching.{Told}

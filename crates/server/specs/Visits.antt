@@ -1,7 +1,7 @@
 -- A call for each connection number, one after another (our profile).
 use Rattle.std.specs.Prelude.{◌≡◌, ◌<◌, ◌||◌, ℕ, zero, suc, Bool, false, Result, Ok, Err}
 use Rattle.host_core.specs.State.{most_connections}
-use Rattle.job_streams.specs.declared.fault.Fault.{Fault}
+use Rattle.jobs.specs.declared.fault.Fault.{Fault}
 
 -- `visited` relates a number, a server and a watcher before a visit, the visit's answer, and both after it.
 module _ {A W : Type 0} (visited : ℕ → A → W → Result Bool Fault → A → W → Type 0) where

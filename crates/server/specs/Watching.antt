@@ -1,7 +1,7 @@
 -- What a watcher receives from a server, one call after another (our profile).
 use Rattle.std.specs.Prelude.{◌≡◌, ◌⊎◌, ℕ, List, [], ◌∷◌, Option, Some, None, Result, Ok, Err}
 use Rattle.host_core.specs.State.{Host}
-use Rattle.job_streams.specs.declared.fault.Fault.{Fault}
+use Rattle.jobs.specs.declared.fault.Fault.{Fault}
 use Rattle.service_events.specs.declared.notice.Notice.{Notice}
 
 -- A call of the watcher: a notice, or the report that the host, which it sees, showed a screen on a connection.

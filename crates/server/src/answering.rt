@@ -12,7 +12,7 @@ use crate::watcher::Watcher;
 use applications::{ApplicationFault, EndedSession, Query, Replaced};
 use codes3270::Model as TerminalModel;
 use host_core::{Acted, Answer, PanelSet, Ticket};
-use job_streams::{Fault, RawRead, RawWrite};
+use jobs::{Fault, RawRead, RawWrite};
 use service_events::Client;
 
 impl<S: RawRead + RawWrite + Drop> Server<S> {

@@ -11,7 +11,7 @@ use crate::server::Server;
 use crate::watcher::Watcher;
 use control::NoteText;
 use host_core::{Acted, Host, MOST_CONNECTIONS, Phase};
-use job_streams::{Fault, RawRead, RawWrite};
+use jobs::{Fault, RawRead, RawWrite};
 use service_events::Ending;
 
 impl<S: RawRead + RawWrite + Drop> Server<S> {

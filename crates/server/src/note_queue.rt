@@ -7,7 +7,7 @@ use crate::connection_info::{ConnectionInfo, none_for_each};
 use crate::server::Server;
 use control::{NoteText, Recipient};
 use host_core::{Acted, MOST_CONNECTIONS};
-use job_streams::{RawRead, RawWrite};
+use jobs::{RawRead, RawWrite};
 use std::alloc::{AllocError, Global};
 use std::marker::Model;
 

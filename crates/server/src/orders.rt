@@ -7,8 +7,7 @@ ghost use Rattle.server.specs.Control.{has_text, is_done, is_drained, is_ended, 
 use crate::note_queue::NoteQueue;
 use crate::server::Server;
 use control::{Command, NoteText, Recipient};
-use job_streams::{RawRead, RawWrite};
-use jobs::Seconds;
+use jobs::{RawRead, RawWrite, Seconds};
 use std::alloc::{AllocError, Global};
 
 /// What operators ordered so far.

@@ -5,7 +5,7 @@ ghost use Rattle.server.specs.ProxyListener.{HandsNext, Holds, Leaves, Looks, Re
 
 use crate::accepting::{Accepted, Arrival, Listener};
 use host_core::LinkRead;
-use job_streams::{RawRead, read_once};
+use jobs::{RawRead, read_once};
 use proxy_protocol::{Header, HeaderFault, HeaderReader, MOST_BYTES};
 use service_events::BadHeader;
 use std::net::SocketAddr;

@@ -9,7 +9,7 @@ use crate::connection_info::ConnectionInfo;
 use crate::hosts::Hosts;
 use crate::watcher::Watcher;
 use host_core::{Host, HostEvent};
-use job_streams::Fault;
+use jobs::Fault;
 use service_events::{Client, Notice};
 
 /// Hands the watcher one event of a connection, except a question, which the exchange with the application reports, and

@@ -9,7 +9,7 @@ ghost use Rattle.server.specs.NumberTurns.{ServesAt, ServesIfOpen, ended, given_
 ghost use Rattle.server.specs.ServerTurns.{TakesTurn, new_server};
 ghost use Rattle.server.specs.Visits.{VisitsEach};
 ghost use Rattle.server.specs.Watching.{Told};
-ghost use Rattle.job_streams.specs.Sockets.{is_connected, slot_at};
+ghost use Rattle.jobs.specs.Sockets.{is_connected, slot_at};
 
 use crate::accepting::{Accepted, Arrival, Listener};
 use crate::connection_info::{ConnectionInfo, ConnectionInfos};
@@ -18,7 +18,7 @@ use crate::reporting::report;
 use crate::watcher::Watcher;
 use applications::SessionName;
 use host_core::{Host, MOST_CONNECTIONS, Phase, Served, Turn};
-use job_streams::{Fault, RawRead, RawWrite, Sockets};
+use jobs::{Fault, RawRead, RawWrite, Sockets};
 use service_events::{Client, Ending, Notice, Usage, ending_of};
 use std::alloc::{AllocError, Global};
 use std::net::SocketAddr;

@@ -1,11 +1,11 @@
 //! The port at which a server listens, and the poll of all its sockets.
 ghost use Rattle.std.specs.Prelude.{◌≡◌, IfErr};
-ghost use Rattle.job_streams.specs.declared.fault.Fault.TheVariants as fault;
+ghost use Rattle.jobs.specs.declared.fault.Fault.TheVariants as fault;
 
 use crate::accepting::{Accepted, Arrival, Listener};
 use crate::proxy_listener::{ConnectionAwaitingHeader, MOST_HELD, ProxyListener};
 use host_core::MOST_CONNECTIONS;
-use job_streams::Fault;
+use jobs::Fault;
 use mio::event::Source;
 use mio::net::{TcpListener, TcpStream};
 use mio::{Events, Interest, Poll, Token};

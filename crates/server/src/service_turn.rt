@@ -3,7 +3,7 @@ ghost use Rattle.std.specs.Iterator.{IsFinite};
 ghost use Rattle.std.specs.Prelude.{◌≡◌, IfErr, IfOk};
 ghost use Rattle.server.specs.ServiceTurns.{BreaksOff, EndsBy, TakesWhole};
 
-use job_streams::Fault;
+use jobs::Fault;
 
 /// The parts of a turn of a service.
 ///
@@ -12,7 +12,7 @@ use job_streams::Fault;
 /// what it did with the answers.
 pub trait TurnParts {
     ghost use Rattle.std.specs.Prelude.{Bool, Result};
-    ghost use Rattle.job_streams.specs.declared.fault.Fault.{Fault};
+    ghost use Rattle.jobs.specs.declared.fault.Fault.{Fault};
 
     ghost served: { Self → Bool → Result Bool Fault → Self → Type 0 };
 

@@ -8,8 +8,7 @@ use crate::connection_info::ConnectionInfo;
 use crate::server::Server;
 use crate::watcher::Watcher;
 use host_core::{Acted, MOST_CONNECTIONS};
-use job_streams::{Fault, RawRead, RawWrite};
-use jobs::TimeLimits;
+use jobs::{Fault, RawRead, RawWrite, TimeLimits};
 use service_events::{Due, Ending, are_applied, awaited_on};
 
 impl<S: RawRead + RawWrite + Drop> Server<S> {

@@ -6,7 +6,7 @@ use crate::server::Server;
 use crate::server_port::ServerPort;
 use applications::{ApplicationFault, Replaced};
 use host_core::Host;
-use job_streams::Fault;
+use jobs::Fault;
 use mio::net::TcpStream;
 use service_events::{Client, Notice};
 
@@ -20,7 +20,7 @@ pub trait Watcher {
     ghost use Rattle.applications.specs.declared.application_fault.ApplicationFault.{ApplicationFault};
     ghost use Rattle.applications.specs.declared.application_reply.Replaced.{Replaced};
     ghost use Rattle.host_core.specs.State.{Host as HostValue};
-    ghost use Rattle.job_streams.specs.declared.fault.Fault.{Fault};
+    ghost use Rattle.jobs.specs.declared.fault.Fault.{Fault};
     ghost use Rattle.mio.specs.declared.net.stream.TcpStream.{TcpStream};
     ghost use Rattle.service_events.specs.declared.notice.Client.{Client};
     ghost use Rattle.service_events.specs.declared.notice.Notice.{Notice};

@@ -2,8 +2,8 @@
 use Rattle.std.proofs.Common.{ℕ, Bool, true, false, List, Option, Result, Err, refl}
 use Rattle.std.specs.declared.io.Error.{Error}
 use Rattle.host_core.specs.State.{Host}
-use Rattle.job_streams.specs.declared.fault.Fault.{Fault}
-use Rattle.job_streams.specs.declared.fault.Fault.TheVariants as fault
+use Rattle.jobs.specs.declared.fault.Fault.{Fault}
+use Rattle.jobs.specs.declared.fault.Fault.TheVariants as fault
 use Rattle.service_events.specs.declared.notice.Notice.{Notice}
 use Rattle.server.specs.ServerTurns.{poll_failed}
 use Rattle.server.specs.declared.accepting.Arrival.{Arrival}

@@ -8,8 +8,7 @@ use applications::{
     replaced_in,
 };
 use host_core::{Acted, Answer, MOST_CONNECTIONS, PanelSet, Ticket};
-use job_streams::Fault;
-use jobs::ReplyTime;
+use jobs::{Fault, ReplyTime};
 use mio::net::TcpStream;
 use server::{Server, ServerPort, Watcher};
 use service_events::Notice;

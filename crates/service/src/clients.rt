@@ -1,6 +1,6 @@
 //! The clients of the metrics port, or of the control socket: each sends one request, and gets one text.
 use host_core::{LinkRead, LinkWrite};
-use job_streams::{Fault, RawRead, RawWrite, read_once, write_once};
+use jobs::{Fault, RawRead, RawWrite, read_once, write_once};
 use mio::event::Source;
 use mio::net::{TcpListener, TcpStream, UnixListener, UnixStream};
 use server::ServerPort;

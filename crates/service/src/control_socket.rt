@@ -3,7 +3,7 @@ use crate::clients::{Clients, MOST_ACCEPTED, Request, Responder};
 use crate::reload::{PanelSource, Refusal, host_again};
 use control::{Answer, COMMAND_LIMIT, Command, LineBuffer, LineFault, Recipient, Status};
 use host_core::{Host, MOST_CONNECTIONS};
-use job_streams::Fault;
+use jobs::Fault;
 use mio::net::{TcpStream, UnixListener, UnixStream};
 use server::{Orders, Server, ServerPort, Watcher};
 use service_events::{Commanded, Notice, PanelCounts};

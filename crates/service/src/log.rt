@@ -2,7 +2,7 @@
 use applications::{ApplicationFault, Replaced};
 use host_core::Host;
 use jiff::Timestamp;
-use job_streams::{Fault, Sink};
+use jobs::{Fault, Sink};
 use mio::net::TcpStream;
 use server::{Server, ServerPort, Watcher};
 use service_events::{Client, Notice};

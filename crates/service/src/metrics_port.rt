@@ -2,8 +2,7 @@
 use crate::clients::{Clients, Request, Responder};
 use crate::session_page::{session_data, session_page};
 use host_core::MOST_CONNECTIONS;
-use job_streams::Fault;
-use jobs::ServicePort;
+use jobs::{Fault, ServicePort};
 use mio::net::{TcpListener, TcpStream};
 use server::Server;
 use service_events::{HttpStatus, MetricsPage, RequestHead, Resource, response_of};

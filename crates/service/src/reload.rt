@@ -2,7 +2,7 @@
 use applications::{AskedKey, JobWithoutApplication, first_asked, host_of};
 use control::ANSWER_LIMIT;
 use host_core::{Host, Terminals};
-use job_streams::{CountedReader, Fault, read_whole};
+use jobs::{CountedReader, Fault, read_whole};
 use server::ReloadFault;
 use std::alloc::{AllocError, Global};
 use std::fmt;

@@ -12,10 +12,10 @@ use crate::uptime::Uptime;
 use application_http::{Endpoint, EndpointFault};
 use applications::{JobWithoutApplication, draw_boot, first_asked, host_of, refuse_asking};
 use host_core::{Host, Terminals};
-use job_streams::{
-    Fault, RawRead, RawWrite, Sink, Source, poll_timeout, read_whole, report_and_exit_code,
+use jobs::{
+    ApplicationChoice, ControlChoice, Fault, Port, RawRead, RawWrite, Seconds, Service, Sink,
+    Source, TimeLimits, Turns, poll_timeout, read_whole, report_and_exit_code,
 };
-use jobs::{ApplicationChoice, ControlChoice, Port, Seconds, Service, TimeLimits, Turns};
 use mio::net::TcpStream;
 use server::{
     Listener, NoListener, Orders, PolledListener, ProxyListener, Server, ServerPort, TurnParts,
@@ -263,7 +263,7 @@ struct Shift<'a, R, W> {
 
 impl<R: Net + Clock + Files, W: Watcher> TurnParts for Shift<'_, R, W> {
     ghost use Rattle.std.specs.Prelude.{Bool, Result};
-    ghost use Rattle.job_streams.specs.declared.fault.Fault.{Fault};
+    ghost use Rattle.jobs.specs.declared.fault.Fault.{Fault};
     ghost use Rattle.server.specs.Control.{StopsAt};
     ghost use Rattle.service.specs.Serving.{PollsAndServesBy, is_closed, is_over};
     ghost use Rattle.server.specs.TimeTurns.{KeepsTime, done};

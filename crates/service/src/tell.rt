@@ -3,10 +3,10 @@
 //! Crate `control` has the lines of commands and answers; `control_socket` is the other end. No contract says what goes
 //! over the socket.
 use control::{ANSWER_LIMIT, Answer, Command, LineBuffer, LineFault, Status};
-use job_streams::{
-    CHUNK, CountedReader, CountedWriter, Fault, Sink, Source, read_chunk, report_and_exit_code,
+use jobs::{
+    CHUNK, CommandWords, CountedReader, CountedWriter, Fault, Operand, Sink, Source, read_chunk,
+    report_and_exit_code,
 };
-use jobs::{CommandWords, Operand};
 use std::alloc::{AllocError, Global};
 use std::io::{self, ErrorKind};
 use std::net::Net;
@@ -102,9 +102,9 @@ fn receive<D: Source>(down: &mut D, line: &mut LineBuffer) -> Result<(), NoAnswe
     // Each read but the last gives a byte.
     for _ in 0..ANSWER_LIMIT {
         match read_chunk(down, &mut chunk) {
-            job_streams::Answer::Gave(count) => line.push(&chunk[..count]),
-            job_streams::Answer::Interrupted => {}
-            job_streams::Answer::Ended | job_streams::Answer::Failed => {
+            jobs::Answer::Gave(count) => line.push(&chunk[..count]),
+            jobs::Answer::Interrupted => {}
+            jobs::Answer::Ended | jobs::Answer::Failed => {
                 return Err(NoAnswer::NotReceived);
             }
         }

@@ -5,8 +5,8 @@ use Rattle.host_core.specs.declared.links.LinkRead.{LinkRead}
 use Rattle.host_core.specs.declared.links.LinkRead.TheVariants as read
 use Rattle.host_core.specs.declared.links.LinkWrite.{LinkWrite}
 use Rattle.host_core.specs.declared.links.LinkWrite.TheVariants as write
-use Rattle.job_streams.specs.Counting.{chunk_size}
-use Rattle.job_streams.specs.Sockets.{IsReadOnce, IsWrittenOnce}
+use Rattle.jobs.specs.Counting.{chunk_size}
+use Rattle.jobs.specs.Sockets.{IsReadOnce, IsWrittenOnce}
 use Rattle.websocket.specs.Content.{Content, binary}
 use Rattle.web_wire.specs.Frames.{frame_of}
 use Rattle.web_wire.specs.Sockets.{SocketState, is_over, most_input}

@@ -1,7 +1,7 @@
 //! A client that is still sent something, and then has only to close.
 use crate::page_link::{PageLink, write_front};
 use host_core::{LinkRead, LinkWrite};
-use job_streams::{CHUNK, read_once};
+use jobs::{CHUNK, read_once};
 use mio::net::TcpStream;
 use std::net::Shutdown;
 

@@ -1,6 +1,6 @@
 //! The log of a server of pages.
 use jiff::Timestamp;
-use job_streams::Sink;
+use jobs::Sink;
 use std::alloc::{AllocError, Global};
 use std::fmt;
 use std::net::SocketAddr;

@@ -6,7 +6,7 @@ ghost use Rattle.websocket.specs.Content.{ping, text};
 ghost use Rattle.web.specs.Links.{IsTaken, ReadsPage, Receives, SendsPage, WritesFront, has_output, with_drawing, with_message};
 
 use host_core::{LinkRead, LinkWrite};
-use job_streams::{CHUNK, RawRead, RawWrite, read_once, write_once};
+use jobs::{CHUNK, RawRead, RawWrite, read_once, write_once};
 use std::alloc::Global;
 use std::marker::Model;
 use web_wire::{Notice, PageSocket, Received, SendFault, Stage};

@@ -4,7 +4,7 @@ ghost use Rattle.web.specs.Pages.{DrawsTurn, Exchanges, Serves, TakesPageTurn, h
 
 use crate::page_link::PageLink;
 use host_core::{LinkRead, LinkWrite};
-use job_streams::{Fault, RawRead, RawWrite};
+use jobs::{Fault, RawRead, RawWrite};
 use operate::OperatorSession;
 use std::alloc::Global;
 use web_wire::{Closing, Received, SendFault};

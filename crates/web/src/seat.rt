@@ -2,8 +2,7 @@
 use crate::page_link::PageLink;
 use crate::page_turn::{PageTerminal, PageTurn, draw_again, take_page_turn};
 use codes3270::Model;
-use job_streams::{Fault, LiveFault};
-use jobs::TtySize;
+use jobs::{Fault, LiveFault, TtySize};
 use mio::net::TcpStream;
 use operate::{OperatorRequest, OperatorSession};
 use std::alloc::Global;

@@ -6,7 +6,7 @@ ghost use Rattle.web_wire.specs.Responses.{response};
 use crate::page_link::{PageLink, write_front};
 use codes3270::Model;
 use host_core::{LinkRead, LinkWrite};
-use job_streams::{CHUNK, RawRead, RawWrite, read_once};
+use jobs::{CHUNK, RawRead, RawWrite, read_once};
 use std::alloc::{AllocError, Global};
 use std::net::SocketAddr;
 use tn3270e_msg::Lu;

@@ -10,7 +10,7 @@
 //! messages (`specs/model/World`, `Steps`) and carried over to the bytes (`specs/refinement/Refines`). Proofs use the
 //! [`laws`].
 //!
-//! Not here: sockets (`job_streams`), the host (`host_core`), the terminal (`term_core`), keys (`keyboard`), the
+//! Not here: sockets (`jobs`), the host (`host_core`), the terminal (`term_core`), keys (`keyboard`), the
 //! host's belief (`shadow`), the data stream (`datastream`), and negotiation and headers (`tn3270e_msg`).
 #![tactic(auto)]
 

@@ -31,7 +31,7 @@ pub(crate) fn read_service(words: &mut Words<'_>) -> Result<(Terminals, PanelSet
     let terminals = named(alloc, &TERMINALS, name)?;
     match application_of(alloc, text) {
         Ok((panels, pool)) => Ok((terminals, panels, pool)),
-        Err(job_streams::Fault::NoMemory) => Err(Fault::NoMemory(AllocError)),
+        Err(jobs::Fault::NoMemory) => Err(Fault::NoMemory(AllocError)),
         Err(_) => Err(Fault::Line),
     }
 }

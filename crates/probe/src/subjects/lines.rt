@@ -9,7 +9,7 @@ use crate::subjects::Subject;
 use crate::talk::{Answer, Done, Fault, Put, Words};
 use applications::{Absence, AnswerFault, ApplicationFault, application_of};
 use cli::words;
-use job_streams::{FileFault, LiveFault};
+use jobs::{FileFault, LiveFault};
 use panel_check::check;
 use scripts::{ScriptCommand, TerminalCommand, typed_text};
 use std::alloc::Global;
@@ -72,7 +72,7 @@ fn put_script(answer: &mut String, line: &str) -> Put {
 }
 
 fn put_faults(alloc: Global, answer: &mut Answer) -> Done {
-    use job_streams::Fault;
+    use jobs::Fault;
     // An address for documentation (RFC 5737).
     let peer = SocketAddr::from((Ipv4Addr::new(192, 0, 2, 1), 3270));
     answer.said(&Fault::SocketFailed)?;

@@ -1,5 +1,5 @@
 use Rattle.std.proofs.Common.{sym, subst}
-use Rattle.job_streams.specs.Runs.{InPieces, IsInput}
+use Rattle.jobs.specs.Runs.{InPieces, IsInput}
 use Rattle.scripts.proofs.Checking.{reported, unread}
 use Rattle.scripts.proofs.check.read_and_report.Goals as goal
 

@@ -1,6 +1,6 @@
 use Rattle.std.proofs.Common.{◌∙◌, ℕ, List, take, sym, subst, arith}
 use Rattle.scripts.specs.Waits.{read_room}
-use Rattle.job_streams.specs.declared.streams.Answer.TheVariants.{Gave, Interrupted}
+use Rattle.jobs.specs.declared.streams.Answer.TheVariants.{Gave, Interrupted}
 use Rattle.scripts.proofs.Waits.{after_all, after_bytes, after_nothing, after_wait_over, after_unsent, begins, ends_by_reads, ends_lost, is_over}
 use Rattle.scripts.proofs.operator.exchange.Goals.{in-Gave+in_ok-take-in-Gave, in-Interrupted}
 use Rattle.scripts.proofs.operator.exchange.Goals as goal

@@ -1,5 +1,5 @@
 use Rattle.std.proofs.Common.{sym, subst}
-use Rattle.job_streams.specs.Runs.{InPieces, IsInput, ending_of}
+use Rattle.jobs.specs.Runs.{InPieces, IsInput, ending_of}
 use Rattle.scripts.proofs.Endings.{with_input, without_input}
 use Rattle.scripts.proofs.page_job.read_and_print.Goals as goal
 

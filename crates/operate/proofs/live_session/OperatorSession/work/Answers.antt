@@ -1,7 +1,7 @@
 use Rattle.std.proofs.Common.{ℕ, List, ap, false, subst, sym}
 use Rattle.std.proofs.lemmas.Result.{on_ok_weaker}
 use Rattle.std.specs.Prelude.{OnOk}
-use Rattle.job_streams.specs.Counting.{Output}
+use Rattle.jobs.specs.Counting.{Output}
 use Rattle.operate.specs.Live.{Live, TakesTurn}
 use Rattle.operate.specs.LiveSessions.{Session, Works, WritesTty}
 use Rattle.operate.proofs.live_session.OperatorSession.work.Goals as goal

@@ -2,7 +2,7 @@ use Rattle.std.proofs.Common.{◌∙◌, Some, ap, refl, slice_set}
 use Rattle.applications.specs.SessionNames.{session_after}
 use Rattle.server.specs.Hosts.{opened as with_opened}
 use Rattle.service_events.specs.declared.notice.Notice.TheVariants as notice
-use Rattle.job_streams.specs.Sockets.{opened, slot_at, with_slot}
+use Rattle.jobs.specs.Sockets.{opened, slot_at, with_slot}
 use Rattle.server.specs.Accepting.{begins, client_of, starved}
 use Rattle.server.specs.ConnectionInfos.{new_info}
 use Rattle.server.specs.Watching.{Noticed}

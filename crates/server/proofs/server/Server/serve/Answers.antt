@@ -4,7 +4,7 @@ use Rattle.host_core.specs.Serves.{Serves}
 use Rattle.host_core.specs.State.{connection_at, reports_at}
 use Rattle.host_core.specs.declared.serving.Served.TheVariants as served
 use Rattle.server.specs.Hosts.{host_at, with_host}
-use Rattle.job_streams.specs.Sockets.{GivesAt, TakesAt}
+use Rattle.jobs.specs.Sockets.{GivesAt, TakesAt}
 use Rattle.server.specs.NumberTurns.{server_reported, end_failed, end_in_turn, given_back_if, info_after, report_failed, reported, reports_of, starved}
 use Rattle.server.specs.Watching.{FailsAmong, HearsEach}
 use Rattle.server.proofs.Reports.{none_found, told_after}

@@ -1,9 +1,0 @@
-use Rattle.std.proofs.Common.{◌∙◌, ◌++◌, ◌∷◌, [], List, sym, ap₂}
-use Rattle.std.proofs.lemmas.Grind.{replicate_next}
-use Rattle.job_streams.specs.Sockets.{SocketSlot, unused}
-use Rattle.job_streams.proofs.sockets.unused_slots.Goals as goal
-
-pub loop-preserved : goal.loop-preserved
-loop-preserved g c =
-    c.in_ok-push.ensures.items ∙ ap₂ (λ (slots : List (SocketSlot g.row.S.Denot)) (slot : SocketSlot g.row.S.Denot). slots ++ slot ∷ []) c.loop.invariant c.unused.ensures
-    ∙ sym (replicate_next c.loop.counter unused)

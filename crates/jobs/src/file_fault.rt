@@ -1,0 +1,39 @@
+//! The report that a file can't be opened.
+ghost use Rattle.std.specs.Prelude.{◌≡◌};
+ghost use Rattle.jobs.specs.FileFaults.{file_refused};
+
+use crate::streams::Sink;
+use std::io::ErrorKind;
+use thiserror::Error;
+
+/// The exit status if a file can't be opened.
+const FILE_REFUSED: u8 = 1;
+
+/// A file that can't be opened. Prints as its name and the reason.
+#[derive(Clone, Copy, Debug, Error)]
+#[error("{name}: {reason}", reason = reason_of(*.why))]
+pub struct FileFault<'a> {
+    /// The file's name.
+    pub name: &'a str,
+    /// The kind of the system's error.
+    pub why: ErrorKind,
+}
+
+/// Why a file can't be opened, in words.
+fn reason_of(why: ErrorKind) -> &'static str {
+    match why {
+        ErrorKind::NotFound => "no such file",
+        ErrorKind::PermissionDenied => "permission denied",
+        ErrorKind::IsADirectory => "is a directory",
+        ErrorKind::NotADirectory => "not a directory",
+        _ => "can't be opened",
+    }
+}
+
+/// Prints why a file can't be opened, and returns the exit status, 1. A line that can't be written is left out.
+pub fn refuse_file<E: Sink>(name: &str, why: ErrorKind, faults: &mut E) -> u8
+    ensures { result ≡ file_refused }
+{
+    let _ = faults.write_line(FileFault { name, why });
+    FILE_REFUSED
+}
