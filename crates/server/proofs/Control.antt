@@ -5,8 +5,8 @@ use Rattle.std.proofs.lemmas.Bool.Decides.{nat_tests}
 use Rattle.std.proofs.lemmas.List.Elements.{All-from_recursion}
 use Rattle.std.specs.Prelude.{OnErr, OnOk}
 use Rattle.std.specs.List.{AllByRecursion, list_all}
-use Rattle.control.specs.Texts.{is_graphic, is_text, longest_text}
-use Rattle.control.specs.declared.command.Recipient.{Recipient}
+use Rattle.service_wire.specs.Texts.{is_graphic, is_text, longest_text}
+use Rattle.service_wire.specs.declared.command.Recipient.{Recipient}
 use Rattle.host_core.specs.Notes.{IsNoteText, is_graphic as is_note_character}
 use Rattle.host_core.specs.State.{Host, Service, phase_of}
 use Rattle.host_core.specs.declared.phase.Phase.{Phase}

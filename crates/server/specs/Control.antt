@@ -2,10 +2,10 @@
 -- waits for its session.
 use Rattle.std.specs.Prelude.{◌≡◌, ◌≢◌, ◌<◌, ◌||◌, ◌-◌, ◌==◌, not, ℕ, zero, suc, Bool, true, false, List, [], ◌∷◌, bytes_eq, slice_index_or, slice_set, Option, Some, None, Result, Ok, Err, is_some, if◌then◌else◌}
 use Rattle.std.specs.Option.{option_and_then, option_map_or}
-use Rattle.control.specs.declared.command.Command.{Command}
-use Rattle.control.specs.declared.command.Command.TheVariants as command
-use Rattle.control.specs.declared.command.Recipient.{Recipient}
-use Rattle.control.specs.declared.command.Recipient.TheVariants as recipient
+use Rattle.service_wire.specs.declared.command.Command.{Command}
+use Rattle.service_wire.specs.declared.command.Command.TheVariants as command
+use Rattle.service_wire.specs.declared.command.Recipient.{Recipient}
+use Rattle.service_wire.specs.declared.command.Recipient.TheVariants as recipient
 use Rattle.host_core.specs.Does.{Does, noted_by}
 use Rattle.host_core.specs.State.{Host, connection_at, most_connections, phase_of, with_connection}
 use Rattle.host_core.specs.declared.phase.Phase.{Phase}

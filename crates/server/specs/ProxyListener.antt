@@ -7,10 +7,10 @@ use Rattle.std.specs.declared.io.Error.{Error}
 use Rattle.std.specs.declared.net.socket_addr.SocketAddr.{SocketAddr}
 use Rattle.host_core.specs.declared.links.LinkRead.{LinkRead}
 use Rattle.host_core.specs.declared.links.LinkRead.TheVariants as read
-use Rattle.proxy_protocol.specs.Header.{IsRefused, IsWholly}
-use Rattle.proxy_protocol.specs.Reader.{IsMissing}
-use Rattle.proxy_protocol.specs.declared.fault.HeaderFault.{HeaderFault}
-use Rattle.proxy_protocol.specs.declared.header.Header.{Header}
+use Rattle.service_wire.specs.Header.{IsRefused, IsWholly}
+use Rattle.service_wire.specs.HeaderReader.{IsMissing}
+use Rattle.service_wire.specs.declared.header_fault.HeaderFault.{HeaderFault}
+use Rattle.service_wire.specs.declared.header.Header.{Header}
 use Rattle.service_events.specs.declared.notice.BadHeader.{BadHeader}
 use Rattle.service_events.specs.declared.notice.BadHeader.TheVariants as bad
 use Rattle.jobs.specs.Sockets.{IsReadOnce}

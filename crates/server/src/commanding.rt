@@ -9,10 +9,10 @@ ghost use Rattle.server.specs.Visits.{VisitsEach};
 use crate::ReloadFault;
 use crate::server::Server;
 use crate::watcher::Watcher;
-use control::NoteText;
 use host_core::{Acted, Host, MOST_CONNECTIONS, Phase};
 use jobs::{Fault, RawRead, RawWrite};
 use service_events::Ending;
+use service_wire::NoteText;
 
 impl<S: RawRead + RawWrite + Drop> Server<S> {
     /// Whether any connection is open.

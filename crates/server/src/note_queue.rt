@@ -5,9 +5,9 @@ ghost use Rattle.server.specs.Control.{DeliversAt, DeliversBelow, Tries, after_t
 
 use crate::connection_info::{ConnectionInfo, none_for_each};
 use crate::server::Server;
-use control::{NoteText, Recipient};
 use host_core::{Acted, MOST_CONNECTIONS};
 use jobs::{RawRead, RawWrite};
+use service_wire::{NoteText, Recipient};
 use std::alloc::{AllocError, Global};
 use std::marker::Model;
 

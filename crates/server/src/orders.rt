@@ -6,8 +6,8 @@ ghost use Rattle.server.specs.Control.{has_text, is_done, is_drained, is_ended, 
 
 use crate::note_queue::NoteQueue;
 use crate::server::Server;
-use control::{Command, NoteText, Recipient};
 use jobs::{RawRead, RawWrite, Seconds};
+use service_wire::{Command, NoteText, Recipient};
 use std::alloc::{AllocError, Global};
 
 /// What operators ordered so far.

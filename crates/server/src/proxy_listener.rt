@@ -1,13 +1,13 @@
 //! A listener for connections from a proxy: each is held until its header of the PROXY protocol is complete.
 ghost use Rattle.std.specs.Prelude.{◌≡◌, ◌<◌, [], length, slice_set};
-ghost use Rattle.proxy_protocol.specs.Reader.{IsMissing};
+ghost use Rattle.service_wire.specs.HeaderReader.{IsMissing};
 ghost use Rattle.server.specs.ProxyListener.{HandsNext, Holds, Leaves, Looks, ReadsOn, ReadsPart, ServesAt, ServesHeld, TakesIn, VisitsAt, arrival_of, is_late, newly_held, outcome_of, progress_of};
 
 use crate::accepting::{Accepted, Arrival, Listener};
 use host_core::LinkRead;
 use jobs::{RawRead, read_once};
-use proxy_protocol::{Header, HeaderFault, HeaderReader, MOST_BYTES};
 use service_events::BadHeader;
+use service_wire::{Header, HeaderFault, HeaderReader, MOST_BYTES};
 use std::net::SocketAddr;
 
 /// The most connections that are held at one time. Others wait in the system's queue.

@@ -1,12 +1,12 @@
 //! The control socket of a service: a Unix socket at which operators command it.
 use crate::clients::{Clients, MOST_ACCEPTED, Request, Responder};
 use crate::reload::{PanelSource, Refusal, host_again};
-use control::{Answer, COMMAND_LIMIT, Command, LineBuffer, LineFault, Recipient, Status};
 use host_core::{Host, MOST_CONNECTIONS};
 use jobs::Fault;
 use mio::net::{TcpStream, UnixListener, UnixStream};
 use server::{Orders, Server, ServerPort, Watcher};
 use service_events::{Commanded, Notice, PanelCounts};
+use service_wire::{Answer, COMMAND_LIMIT, Command, LineBuffer, LineFault, Recipient, Status};
 use std::alloc::{AllocError, Global};
 use std::fmt::Display;
 use std::fs::{self, Files, Permissions};

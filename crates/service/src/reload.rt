@@ -1,9 +1,9 @@
 //! Reading the panels again while a service runs.
 use applications::{AskedKey, JobWithoutApplication, first_asked, host_of};
-use control::ANSWER_LIMIT;
 use host_core::{Host, Terminals};
 use jobs::{CountedReader, Fault, read_whole};
 use server::ReloadFault;
+use service_wire::ANSWER_LIMIT;
 use std::alloc::{AllocError, Global};
 use std::fmt;
 use std::fs::{File, Files, OpenFile};

@@ -2,11 +2,11 @@
 //!
 //! Crate `control` has the lines of commands and answers; `control_socket` is the other end. No contract says what goes
 //! over the socket.
-use control::{ANSWER_LIMIT, Answer, Command, LineBuffer, LineFault, Status};
 use jobs::{
     CHUNK, CommandWords, CountedReader, CountedWriter, Fault, Operand, Sink, Source, read_chunk,
     report_and_exit_code,
 };
+use service_wire::{ANSWER_LIMIT, Answer, Command, LineBuffer, LineFault, Status};
 use std::alloc::{AllocError, Global};
 use std::io::{self, ErrorKind};
 use std::net::Net;

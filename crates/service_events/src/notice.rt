@@ -5,7 +5,7 @@ ghost use Rattle.service_events.specs.Notices.{ending_of, ending_word};
 use crate::limits::Overdue;
 use applications::{KeyName, SessionName};
 use host_core::{DroppedKey, Rejection, Rule, RuleBreak, Served};
-use proxy_protocol::HeaderFault;
+use service_wire::HeaderFault;
 use std::fmt;
 use std::net::SocketAddr;
 use tn3270e_msg::{Cause, Lu};

@@ -1,4 +1,0 @@
-pub mod Texts
-pub mod Cuts
-mod Words
-mod ReadBack

@@ -1,5 +1,0 @@
-use Rattle.proxy_protocol.proofs.Headers.{block_behind}
-use Rattle.proxy_protocol.proofs.header.read_header.Goals as goal
-
-pub returns-in-Some-after-clause-found : goal.returns-in-Some-after-clause-found
-returns-in-Some-after-clause-found c = block_behind _ _ _ c.in-Some-after.ensures c.read_block.ensures.found

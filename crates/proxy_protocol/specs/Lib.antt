@@ -1,5 +1,0 @@
-pub mod Fronts
-pub mod Line
-pub mod Block
-pub mod Header
-pub mod Reader

@@ -1,0 +1,11 @@
+pub mod Faults
+pub mod Lines
+pub mod Texts
+pub mod Commands
+pub mod Answers
+pub mod Laws
+pub mod Fronts
+pub mod HeaderLine
+pub mod HeaderBlock
+pub mod Header
+pub mod HeaderReader
