@@ -11,7 +11,7 @@ use crate::characters::Characters;
 use crate::draft::{Draft, ItemDraft, PanelDraft};
 use crate::name::Name;
 use crate::names::{is_among, key_names};
-use crate::panel::{Content, Field, Panel, TextItem, Value};
+use crate::panel::{Content, Field, Panel, TextItem, Value, field_named};
 use crate::panel_set::PanelSet;
 use codes3270::Addr;
 use std::alloc::{AllocError, Global};
@@ -278,7 +278,7 @@ fn cursor_of(name: Option<&str>, fields: &[Field]) -> Addr
     ensures { IsCursorBy (option_map (λ n. n.now) name.entry) fields.now result }
 {
     let field = match name {
-        Some(name) => fields.iter().find(|field| field.name.as_str() == name),
+        Some(name) => field_named(fields, name),
         None => fields.first(),
     };
     field.map_or(Addr::first(), |field| field.extent.first_cell())

@@ -38,27 +38,38 @@ impl<'a> Draft<'a> {
         match (fault, part) {
             (UnknownKey | Missing | BadKind, _) => self.wrong_keys(part) == Some(fault),
             (TooMany, Location::Top) => MOST_PANELS < self.panels.len(),
-            (TooMany, Location::Panel(panel)) => self.panel(panel).is_some_and(|panel| {
-                MOST_TEXTS < panel.texts.len() || MOST_FIELDS < panel.fields.len()
-            }),
-            (BadName, _) => self.stem(part).is_some_and(|name| !is_name(part, name)),
-            (BadKey, Location::Keys(panel)) => self
-                .panel(panel)
-                .is_some_and(|panel| panel.has_strange_key()),
+            (TooMany, Location::Panel(panel)) => match self.panel(panel) {
+                Some(panel) => {
+                    MOST_TEXTS < panel.texts.len() || MOST_FIELDS < panel.fields.len()
+                }
+                None => false,
+            },
+            (BadName, _) => match self.stem(part) {
+                Some(name) => !is_name(part, name),
+                None => false,
+            },
+            (BadKey, Location::Keys(panel)) => match self.panel(panel) {
+                Some(panel) => panel.has_strange_key(),
+                None => false,
+            },
             (TwiceNamed, Location::Panel(_)) => is_later(&self.panel_names, self.name(part), part),
             (TwiceNamed, Location::Field(panel, field)) => self.is_field_twice(panel, field),
-            (TwiceNamed, Location::Keys(panel)) => {
-                self.panel(panel).is_some_and(|panel| panel.has_key_twice())
-            }
-            (BadModel, Location::Panel(panel)) => {
-                self.panel(panel).is_some_and(|panel| panel.has_bad_model())
-            }
-            (OutOfPlace, _) => {
-                let size = self.size(part);
-                self.item(part)
-                    .is_some_and(|item| !item.stands_in_place(size))
-            }
-            (NoCode, _) => self.item(part).is_some_and(|item| item.has_no_codes()),
+            (TwiceNamed, Location::Keys(panel)) => match self.panel(panel) {
+                Some(panel) => panel.has_key_twice(),
+                None => false,
+            },
+            (BadModel, Location::Panel(panel)) => match self.panel(panel) {
+                Some(panel) => panel.has_bad_model(),
+                None => false,
+            },
+            (OutOfPlace, _) => match self.item(part) {
+                Some(item) => !item.stands_in_place(self.size(part)),
+                None => false,
+            },
+            (NoCode, _) => match self.item(part) {
+                Some(item) => item.has_no_codes(),
+                None => false,
+            },
             (Overlap, _) => self.is_overlapping(part),
             (NoTarget, Location::Top) => self.panel_named(self.start).is_none(),
             (NoTarget, Location::Panel(panel)) => match self.panel(panel) {

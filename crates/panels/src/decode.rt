@@ -2,7 +2,7 @@
 ghost use Rattle.std.specs.Prelude.{◌≡◌, ◌++◌, codes, map, option_map, string_bytes, unwrap_or, IfOk, OnOk, Some};
 ghost use Rattle.toml.specs.Data.{no_members};
 ghost use Rattle.toml.specs.View.{table_view};
-ghost use Rattle.panels.specs.Draft.{copies_by, draft_of, has_place, has_sound_model, items_from, name_of_copy, panel_of, repeat_of};
+ghost use Rattle.panels.specs.Draft.{copies_by, draft_of, has_place, has_sound_model, items_from, name_of_copy, panel_of, repeat_of, size_by};
 ghost use Rattle.panels.specs.Rules.{item_in, items_in};
 ghost use Rattle.panels.specs.TableRules.{wrong_in_keys};
 ghost use Rattle.panels.specs.Tree.{items_under, table_under, tables_in, texts_in, texts_by_key};
@@ -48,6 +48,16 @@ fn name_of_copy(alloc: Global, stem: &str, copy: Option<u8>) -> Result<String, A
     }
 }
 
+/// How many characters an item has: those of its text, or if it has none, as many as its `length` says.
+fn size_by(text: Option<&str>, length: i64) -> i64
+    ensures { result ≡ size_by (option_map (λ text. text.now) text.entry) length }
+{
+    match text {
+        Some(text) => characters_in(text),
+        None => length,
+    }
+}
+
 /// The draft of a copy of an item, from the item's table, which has this index in its array; `array` is the key of that
 /// array, `text`, `field` or `value`.
 fn item_draft<'a>(
@@ -72,7 +82,7 @@ fn item_draft<'a>(
         has_show: has_text(table, "show"),
         row: number_at(table, "row"),
         column: number_at(table, "col"),
-        length: text.map_or_else(|| number_at(table, "length"), |text| characters_in(text)),
+        length: size_by(text, number_at(table, "length")),
         text,
         show: name_of_copy(alloc, text_or_empty(table, "show"), copy)?,
         stem,
@@ -199,14 +209,14 @@ fn key_drafts<'a>(alloc: Global, keys: &'a Table) -> Result<Vec<(&'a str, &'a st
 fn key_table<'a>(panel: &'a Table) -> Option<&'a Table>
     ensures { option_map (λ keys. table_view keys.now) result ≡ table_under (codes "keys") (table_view panel.now) }
 {
-    value_at(panel, "keys").and_then(|value| value.as_table())
+    value_at(panel, "keys")?.as_table()
 }
 
 /// What is wrong with a table of keys; `None` if the panel has no such table.
 fn wrong_in_table(keys: Option<&Table>) -> Option<TreeFault>
     ensures { result ≡ wrong_in_keys (unwrap_or (option_map (λ keys. table_view keys.now) keys.entry) no_members) }
 {
-    keys.and_then(|keys| wrong_keys(keys))
+    wrong_keys(keys?)
 }
 
 /// The texts in a table of keys, each with its key; none if the panel has no such table.

@@ -285,7 +285,10 @@ impl<'a> Draft<'a> {
     {
         match part {
             Location::Text(panel, _) | Location::Field(panel, _) => {
-                self.panel(panel).map_or(Size::base(), |panel| panel.size())
+                match self.panel(panel) {
+                    Some(panel) => panel.size(),
+                    None => Size::base(),
+                }
             }
             Location::Top | Location::Panel(_) | Location::Value(_, _) | Location::Keys(_) => {
                 Size::base()

@@ -40,6 +40,9 @@ impl Panel {
             return Next::Ask;
         }
         let target = self.targets.get(place).copied().flatten();
-        target.map_or(Next::Again, |panel| Next::Go(panel))
+        match target {
+            Some(panel) => Next::Go(panel),
+            None => Next::Again,
+        }
     }
 }

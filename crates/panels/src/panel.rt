@@ -1,5 +1,5 @@
 //! Panels and their items.
-ghost use Rattle.std.specs.Prelude.{◌≡◌, option_copied};
+ghost use Rattle.std.specs.Prelude.{◌≡◌, bytes_eq, find, option_copied};
 ghost use Rattle.panels.specs.Names.{field_in, number_in, value_in};
 ghost use Rattle.panels.specs.Panel.{is_shown, size_of};
 
@@ -149,7 +149,7 @@ impl Panel {
     pub fn field_named(&self, name: &str) -> Option<&Field>
         ensures { option_copied result ≡ field_in name.now self.now }
     {
-        self.fields.iter().find(|field| field.name.as_str() == name)
+        field_named(self.fields.as_slice(), name)
     }
 
     /// Its value with a name, if it has one.
@@ -165,7 +165,7 @@ impl Panel {
     {
         match self.field_named(name) {
             Some(field) => Some(field.number),
-            None => self.value_named(name).map(|value| value.number),
+            None => Some(self.value_named(name)?.number),
         }
     }
 
@@ -182,4 +182,11 @@ impl Panel {
     {
         self.fields.as_slice()
     }
+}
+
+/// The first of these fields with a name, if one has it.
+pub(crate) fn field_named<'a>(fields: &'a [Field], name: &str) -> Option<&'a Field>
+    ensures { option_copied result ≡ find (λ field. bytes_eq field.name name.now) fields.now }
+{
+    fields.iter().find(|field| field.name.as_str() == name)
 }

@@ -213,10 +213,10 @@ pub(crate) fn top_rules() -> &'static [KeyRule]
 pub(crate) fn panel_rules(panel: &Table) -> &'static [KeyRule]
     ensures { map rule_of result.now ≡ panel_rules (table_view panel.now) }
 {
-    match value_at(panel, "model").map(|value| value.as_integer()) {
-        None | Some(Some(2)) => &BASE_RULES,
-        Some(Some(_)) => &ALTERNATE_RULES,
-        Some(None) => &UNCLEAR_RULES,
+    match value_at(panel, "model") {
+        None | Some(Value::Integer(2)) => &BASE_RULES,
+        Some(Value::Integer(_)) => &ALTERNATE_RULES,
+        Some(_) => &UNCLEAR_RULES,
     }
 }
 
@@ -303,7 +303,10 @@ fn any_value_misfits(rules: &[KeyRule], table: &Table) -> bool
 {
     rules.iter().any(|rule| match rule {
         KeyRule::Must(key, kind) | KeyRule::May(key, kind) => {
-            value_at(table, *key).is_some_and(|value| !kind.fits(value))
+            match value_at(table, *key) {
+                Some(value) => !kind.fits(value),
+                None => false,
+            }
         }
     })
 }

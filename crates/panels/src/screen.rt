@@ -130,8 +130,10 @@ fn code_or_null(byte: Option<u8>) -> u8
     ensures code { result ≡ unwrap_or (option_and_then code_of byte) 0 }
     ensures storable { is_storable result ≡ true }
 {
-    byte.and_then(|byte| from_latin1(char::from(byte)))
-        .unwrap_or(0)
+    match byte {
+        Some(byte) => from_latin1(char::from(byte)).unwrap_or(0),
+        None => 0,
+    }
 }
 
 /// A byte, in the host's code, of the text of a message that names a field with this title; a null after its end.

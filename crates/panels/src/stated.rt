@@ -21,8 +21,14 @@ impl<'a> Draft<'a> {
         ensures { result ≡ is_named part self.now.panels }
     {
         match part {
-            Location::Panel(panel) => self.panel(panel).is_some_and(|panel| panel.is_named),
-            _ => self.item(part).is_some_and(|item| item.is_named),
+            Location::Panel(panel) => match self.panel(panel) {
+                Some(panel) => panel.is_named,
+                None => false,
+            },
+            _ => match self.item(part) {
+                Some(item) => item.is_named,
+                None => false,
+            },
         }
     }
 
@@ -30,15 +36,21 @@ impl<'a> Draft<'a> {
     fn is_laid_out(&self, part: Location) -> bool
         ensures { result ≡ is_laid_out part self.now.panels }
     {
-        self.item(part).is_some_and(|item| item.is_placed)
+        match self.item(part) {
+            Some(item) => item.is_placed,
+            None => false,
+        }
     }
 
     /// Whether the panel that has the part is of a known size.
     fn is_on_screen(&self, part: Location) -> bool
         ensures { result ≡ is_on_screen part self.now.panels }
     {
-        match part.panel() {
-            Some(panel) => self.panel(panel).is_some_and(|panel| panel.is_sized()),
+        let Some(panel) = part.panel() else {
+            return false;
+        };
+        match self.panel(panel) {
+            Some(panel) => panel.is_sized(),
             None => false,
         }
     }
@@ -60,7 +72,10 @@ impl<'a> Draft<'a> {
                 Some(panel) => panel.has_otherwise || panel.has_lost_cursor(),
                 None => false,
             },
-            Location::Text(_, _) => self.item(part).is_some_and(|item| item.has_show),
+            Location::Text(_, _) => match self.item(part) {
+                Some(text) => text.has_show,
+                None => false,
+            },
             Location::Field(_, _) | Location::Value(_, _) | Location::Keys(_) => true,
         }
     }

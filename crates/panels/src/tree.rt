@@ -81,16 +81,15 @@ pub(crate) fn number_at(table: &Table, key: &str) -> i64
 pub(crate) fn is_true_at(table: &Table, key: &str) -> bool
     ensures { result ≡ is_set key.now (table_view table.now) }
 {
-    value_at(table, key)
-        .and_then(|value| value.as_bool())
-        .unwrap_or(false)
+    matches!(value_at(table, key), Some(Value::Boolean(true)))
 }
 
 /// The values of the array at a key; none if there is no array.
 pub(crate) fn values_at<'a>(table: &'a Table, key: &str) -> &'a [Value]
     ensures { items_view result.now ≡ items_under key.now (table_view table.now) }
 {
-    value_at(table, key)
-        .and_then(|value| value.as_array())
-        .map_or(&[], |values| values.as_slice())
+    match value_at(table, key) {
+        Some(Value::Array(values)) => values.as_slice(),
+        _ => &[],
+    }
 }

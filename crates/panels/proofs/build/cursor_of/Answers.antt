@@ -1,8 +1,6 @@
 use Rattle.std.proofs.Common.{◌≡◌, ◌∙◌, ap, sym, subst, rules, tests}
 use Rattle.std.specs.Option.{option_map_or}
 use Rattle.std.specs.Prelude.{All, IfSome, None, Some, find, slice_get, bytes_eq, option_copied, option_map}
-use Rattle.std.proofs.lemmas.Iterator.{YieldsList-from_slice}
-use Rattle.std.proofs.lemmas.Iterator.Search.{find_from_yields_List}
 use Rattle.panels.specs.Defines.{IsCursorBy}
 use Rattle.panels.proofs.Linking.{cursor_found, cursor_first}
 use Rattle.panels.proofs.build.cursor_of.Goals.{in-Some, in-None}
@@ -15,10 +13,8 @@ returns c =
     elim c.match-name.branch [
       | in-Some w ↦
           let name = w.in-Some.name.now in
-          let found : option_copied w.find-field.result ≡ find (λ field. bytes_eq field.name name) fields =
-          find_from_yields_List (λ field. bytes_eq field.name name) _ _ _ w.find-field.ensures.ran (YieldsList-from_slice fields cc) (λ x b q k. search (rules, tests)) in
           let at : c.map_or.result ≡ option_map_or (λ field. field.extent.first) (find (λ field. bytes_eq field.name name) fields) 0 =
-          chosen ∙ ap (λ f. option_map_or (λ field. field.extent.first) (option_copied f) 0) w.field-is ∙ ap (λ f. option_map_or (λ field. field.extent.first) f 0) found in
+          chosen ∙ ap (λ f. option_map_or (λ field. field.extent.first) (option_copied f) 0) w.field-is ∙ ap (λ f. option_map_or (λ field. field.extent.first) f 0) w.field_named-field.ensures in
           let there : ¬ All (λ field. ¬ (field.name ≡ name)) fields =
           subst (λ o. IfSome o (λ name. ¬ All (λ field. ¬ (field.name ≡ name.now)) fields)) w.in-Some.is c.requires in
           subst (λ o. IsCursorBy o fields c.map_or.result) (sym (ap (option_map (λ name. name.now)) w.in-Some.is))

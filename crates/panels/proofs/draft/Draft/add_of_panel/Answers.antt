@@ -2,7 +2,7 @@ use Rattle.std.proofs.Common.{◌≡◌, ◌<◌, ap, length, arith}
 use Rattle.std.specs.Prelude.{is_some}
 use Rattle.panels.specs.Draft.{DraftPanel, DraftText}
 use Rattle.panels.proofs.Building.{read_below}
-use Rattle.panels.proofs.Turning.{texts_found, field_found, fields_found, keys_found, no_text_from, no_field_from, field_there}
+use Rattle.panels.proofs.Turning.{panel_found, text_found, texts_found, field_found, fields_found, keys_found, no_text_from, no_field_from, field_there}
 use Rattle.panels.proofs.draft.Draft.add_of_panel.Goals as goal
 
 pub loop-field-init : goal.loop-field-init
@@ -36,3 +36,9 @@ add_of_part-requires-2-clause-found c =
 
 pub returns : goal.returns
 returns c = keys_found c.args.pass c.args.panel c.args.self.now _ c.in_ok-add_of_part-4.ensures
+
+pub loop-text-init : goal.loop-text-init
+loop-text-init c = panel_found c.args.pass c.args.panel c.args.self.now _ c.in_ok-add_of_part.ensures
+
+pub loop-text-preserved : goal.loop-text-preserved
+loop-text-preserved c = text_found c.args.pass c.args.panel c.loop-text.text c.args.self.now _ c.in_ok-add_of_part-2.ensures
