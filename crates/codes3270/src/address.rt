@@ -156,7 +156,7 @@ const fn round_the_end(position: u16, cells: u16) -> u16
 
 /// An iterator over the addresses of the screen, in ascending order. Contracts see the list of the
 /// addresses that it has yet to yield.
-#[derive(Debug, Drop)]
+#[derive(Drop)]
 pub struct Addrs {
     next: u16,
     size: Size,

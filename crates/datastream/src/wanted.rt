@@ -28,7 +28,7 @@ pub enum Want {
 ///
 /// It is stored as a byte and two bits per cell, with room for the largest screen. Contracts see the size and the cells
 /// that a screen of this size has.
-#[derive(Clone, Debug, Drop)]
+#[derive(Clone, Drop)]
 pub struct Wanted {
     /// Holds a null character for each cell whose want is `Keep`.
     cells: PackedCells,

@@ -5,7 +5,7 @@ ghost use Rattle.host_core.specs.Items.{is_paint_or_read};
 ghost use Rattle.host_core.specs.Representation.{number_kept, pending_in};
 
 /// The command that waits for its answer, with its sequence number (our profile).
-#[derive(Clone, Copy, Debug, PartialEq, Eq)]
+#[derive(Clone, Copy, PartialEq, Eq)]
 pub(crate) enum Pending {
     /// There is none.
     Nothing,

@@ -11,7 +11,7 @@ use presentation::Screen;
 use std::marker::Model;
 
 /// A keyboard: its lock, and whether insert mode is on. Contracts see these two.
-#[derive(Clone, Copy, Debug, PartialEq, Eq)]
+#[derive(Clone, Copy, PartialEq, Eq)]
 pub struct Keyboard {
     lock: Lock,
     inserting: bool,

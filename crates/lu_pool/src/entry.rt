@@ -6,7 +6,7 @@ ghost use Rattle.lu_pool.specs.Pool.{entry, is_held_by};
 use tn3270e_msg::Lu;
 
 /// An LU, and the number of the connection that holds it, if one does.
-#[derive(Clone, Copy, Debug)]
+#[derive(Clone, Copy)]
 pub struct Entry {
     /// The LU.
     pub lu: Lu,

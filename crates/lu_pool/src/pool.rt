@@ -20,7 +20,7 @@ const MOST_LUS: usize = 64;
 
 /// A host's logical units, 1 to 64, and which connection holds which. Contracts see it as the list of
 /// its entries, each an LU and the number of its holder.
-#[derive(Drop, Debug)]
+#[derive(Drop)]
 pub struct Pool {
     entries: Vec<Entry>,
 }

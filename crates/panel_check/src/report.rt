@@ -39,7 +39,7 @@ impl Cause {
 }
 
 /// A fault of a panel text, or a warning. Prints as `33: panel MENU, field option: unknown key 'requird'`.
-#[derive(Debug, Drop)]
+#[derive(Drop)]
 pub struct Finding {
     /// What it is that was found.
     pub cause: Cause,
@@ -58,7 +58,7 @@ impl fmt::Display for Finding {
 }
 
 /// The numbers of panels, of fields of all panels, with all copies, and of LUs in a text.
-#[derive(Clone, Copy, Debug)]
+#[derive(Clone, Copy)]
 pub struct Sizes {
     pub panels: usize,
     pub fields: usize,
@@ -76,7 +76,7 @@ pub(crate) fn sizes_of(draft: &Draft) -> Sizes {
 }
 
 /// The findings in a panel text, in the order of its lines.
-#[derive(Debug, Drop)]
+#[derive(Drop)]
 pub struct Report {
     /// The faults and warnings.
     pub findings: Vec<Finding>,

@@ -11,7 +11,7 @@ use codes3270::{Addr, Model, Size};
 use std::marker;
 
 /// What a text item shows.
-#[derive(Debug, Drop)]
+#[derive(Drop)]
 pub(crate) enum Content {
     Literal(Characters),
     /// What the field or value with this number has, from 0 over the whole text.
@@ -19,7 +19,7 @@ pub(crate) enum Content {
 }
 
 /// A text of a panel.
-#[derive(Debug, Drop)]
+#[derive(Drop)]
 pub(crate) struct TextItem {
     pub extent: Extent,
     pub bright: bool,
@@ -50,7 +50,7 @@ pub struct Field {
 }
 
 /// A value of a panel: protected text that an application's reply fills.
-#[derive(Debug, Drop)]
+#[derive(Drop)]
 pub struct Value {
     /// Its number, from 0 on, among the fields and values of the whole text.
     pub number: usize,
@@ -62,7 +62,7 @@ pub struct Value {
 
 /// A panel: the texts, fields and values of a screen, and where each key leads. Its screen has the alternate size of
 /// its model.
-#[derive(Debug, Drop)]
+#[derive(Drop)]
 pub struct Panel {
     pub(crate) name: Name,
     pub(crate) model: Model,

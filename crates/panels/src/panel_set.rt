@@ -12,7 +12,7 @@ use codes3270::Model;
 use std::marker;
 
 /// The panels that a text defines. The first panel and each key's target are in the set.
-#[derive(Debug, Drop)]
+#[derive(Drop)]
 pub struct PanelSet {
     pub(crate) start: usize,
     pub(crate) lus: Vec<String>,

@@ -11,7 +11,7 @@ use std::marker;
 
 /// The cells of a screen (GA23-0059-07 on the character buffer), its model and its size, the cursor and the AID. Each
 /// character is one that a cell can hold (`codes3270::storable`).
-#[derive(Clone, Debug, Drop)]
+#[derive(Clone, Drop)]
 pub(crate) struct Buffer {
     pub(crate) cells: ScreenCells,
     pub(crate) model: Model,

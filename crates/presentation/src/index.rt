@@ -12,7 +12,7 @@ use codes3270::{Addr, MOST_CELLS, Size};
 use std::marker::Model;
 
 /// The addresses of a screen's attributes in ascending order, as an array and a count. Contracts see their list.
-#[derive(Clone, Debug, Drop)]
+#[derive(Clone, Drop)]
 pub(crate) struct AttributeIndex {
     /// There is room for the largest screen.
     places: [u16; MOST_CELLS],

@@ -26,7 +26,7 @@ use std::marker;
 /// the size, and the screen as the list of its cells, the cursor's address and the AID.
 ///
 /// Each address that is passed to a screen must be below its number of cells.
-#[derive(Clone, Debug, Drop)]
+#[derive(Clone, Drop)]
 pub struct Screen {
     pub(crate) buffer: Buffer,
     /// The addresses of its attributes, in ascending order.

@@ -17,7 +17,7 @@ use std::marker::Model;
 pub(crate) const BITS: usize = 64;
 
 /// The cells of a screen, each as a byte (its code) and a bit (whether it is an attribute). Contracts see their list.
-#[derive(Clone, Debug, Drop)]
+#[derive(Clone, Drop)]
 pub(crate) struct ScreenCells {
     packed: PackedCells,
 }

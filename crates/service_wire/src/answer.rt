@@ -9,7 +9,7 @@ use crate::line_fault::LineFault;
 use std::fmt;
 
 /// Whether a command was done.
-#[derive(Clone, Copy, Debug, PartialEq, Eq)]
+#[derive(Clone, Copy, PartialEq, Eq)]
 pub enum Status {
     /// It was done.
     Done,
@@ -29,7 +29,7 @@ fn status_of(word: &str) -> Option<Status>
 }
 
 /// The answer to a command.
-#[derive(Clone, Copy, Debug)]
+#[derive(Clone, Copy)]
 pub struct Answer<'a> {
     /// Whether the command was done.
     pub status: Status,

@@ -10,7 +10,7 @@ use std::fmt;
 use tn3270e_msg::Lu;
 
 /// Whom a note is for.
-#[derive(Clone, Copy, Debug)]
+#[derive(Clone, Copy)]
 pub enum Recipient {
     /// The operator of each session.
     Everyone,
@@ -19,7 +19,7 @@ pub enum Recipient {
 }
 
 /// A command to a running service.
-#[derive(Debug, Drop)]
+#[derive(Drop)]
 pub enum Command {
     /// Reads the panels again; new sessions get these.
     Reload,

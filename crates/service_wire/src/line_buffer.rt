@@ -15,7 +15,7 @@ pub const ANSWER_LIMIT: usize = 8_192;
 
 /// The first bytes that are received, up to a limit. It allocates its memory once. Contracts see the limit, and these
 /// bytes: so a line doesn't depend on how the bytes are cut into pieces.
-#[derive(Drop, Debug)]
+#[derive(Drop)]
 pub struct LineBuffer {
     bytes: Vec<u8>,
     limit: usize,

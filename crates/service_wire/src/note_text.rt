@@ -12,7 +12,7 @@ const LONGEST: usize = 131;
 
 /// A text for the last row of a screen: 0 to 131 characters of code page 037. Contracts see it as the list of their
 /// codes.
-#[derive(Debug, Drop)]
+#[derive(Drop)]
 pub struct NoteText {
     codes: [u8; LONGEST],
     size: usize,

@@ -6,7 +6,7 @@ use codes3270::Attr;
 use std::marker::Model;
 
 /// What is known of the text of a field.
-#[derive(Clone, Copy, Debug, PartialEq, Eq)]
+#[derive(Clone, Copy, PartialEq, Eq)]
 pub(crate) enum TextKnowledge {
     /// Each cell says itself whether its character is known.
     Cells,

@@ -20,7 +20,7 @@ use std::marker::Model;
 const SUB_LIMIT: usize = 256;
 
 /// Where in a token the stream is.
-#[derive(Clone, Copy, Debug)]
+#[derive(Clone, Copy)]
 enum DecoderState {
     /// After a whole token that is no item, or before the first byte.
     Between,
@@ -34,7 +34,7 @@ enum DecoderState {
 }
 
 /// The item that the last byte completed.
-#[derive(Clone, Copy, Debug)]
+#[derive(Clone, Copy)]
 enum Completed {
     Record,
     Opt(Verb, u8),
@@ -235,7 +235,7 @@ impl DecoderState {
 ///
 /// A byte costs the same however long the record is, and no byte needs memory: [`Decoder::new`] allocates room for
 /// a record of `limit` bytes and a subnegotiation of 256. The items don't depend on how the stream is cut into pieces.
-#[derive(Drop, Debug)]
+#[derive(Drop)]
 pub struct Decoder {
     state: DecoderState,
     record_buffer: Buffer,

@@ -164,7 +164,7 @@ fn functions_transition(device: Device, lu: Lu, offer: FunctionsOffer) -> Transi
 
 /// The host's side of the negotiation with one terminal. Contracts see its state, and how many
 /// rejections and counter-requests it may still send.
-#[derive(Drop, Debug)]
+#[derive(Drop)]
 pub struct HostTalk {
     state: HostState,
     refusals_left: u8,

@@ -174,7 +174,7 @@ fn grant_transition(
 
 /// The terminal's side of the negotiation. Contracts see its model, the LU that it wants, its
 /// state, and how many counter-requests it may still send.
-#[derive(Drop, Debug)]
+#[derive(Drop)]
 pub struct TermTalk {
     model: Model,
     wanted: Option<Lu>,

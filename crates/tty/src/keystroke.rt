@@ -2,7 +2,7 @@
 use keyboard::Key;
 
 /// What an operator's keystroke means (our profile).
-#[derive(Clone, Copy, Debug, PartialEq, Eq)]
+#[derive(Clone, Copy, PartialEq, Eq)]
 pub enum Keystroke {
     /// A key of the 3278. A character outside of code page 037 is one, too: the keyboard refuses it.
     Key(Key),
@@ -26,7 +26,7 @@ pub enum Keystroke {
 }
 
 /// What a byte does: the keystroke that it completes, and whether it breaks off another.
-#[derive(Clone, Copy, Debug, PartialEq, Eq)]
+#[derive(Clone, Copy, PartialEq, Eq)]
 pub struct PushResult {
     /// Whether the byte broke off a sequence or a character before its end. That counts as a
     /// [`Keystroke::Unknown`] before `keystroke`.

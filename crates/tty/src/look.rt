@@ -7,7 +7,7 @@ use codes3270::{Attr, Cell, Display};
 
 /// How a cell looks on the tty (our profile): the colours in which c3270 shows a host that names none. Unprotected
 /// cells are underlined, so that an empty field can be seen.
-#[derive(Clone, Copy, Debug, PartialEq, Eq)]
+#[derive(Clone, Copy, PartialEq, Eq)]
 pub enum Look {
     /// The tty's own colour: for attributes, cells outside of any field, and the status row.
     Plain,

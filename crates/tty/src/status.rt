@@ -5,7 +5,7 @@ ghost use Rattle.tty.specs.StatusRow.{connection_word, reason, refusal_reason, f
 use keyboard::{Lock, Refusal};
 
 /// Where a picture has the status row.
-#[derive(Clone, Copy, Debug, PartialEq, Eq)]
+#[derive(Clone, Copy, PartialEq, Eq)]
 pub enum StatusPlace {
     /// In a row of its own, below those of the screen.
     Below,
@@ -16,7 +16,7 @@ pub enum StatusPlace {
 }
 
 /// Where the status row is, and what it shows in addition to the state of screen and keyboard.
-#[derive(Clone, Copy, Debug)]
+#[derive(Clone, Copy)]
 pub struct Status<'a> {
     /// Where the status row is.
     pub place: StatusPlace,

@@ -23,7 +23,7 @@ const SILENCE: u64 = 60_000;
 const CONNECT_TIME: u64 = 10_000;
 
 /// Why a session ends. It prints as what the page says.
-#[derive(Debug, Drop)]
+#[derive(Drop)]
 pub(crate) enum SessionEnd {
     /// The host's connection failed, or memory was refused.
     Failed(Fault),

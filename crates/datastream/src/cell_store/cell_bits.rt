@@ -15,7 +15,7 @@ const WORDS: usize = (MOST_CELLS + BITS - 1) / BITS;
 
 /// One bit per cell of a screen of any size. Bits of cells that the screen doesn't have are meaningless. Contracts see
 /// the words: the bit of a cell is that at its address modulo 64, in the word at its address divided by 64.
-#[derive(Clone, Debug, Drop)]
+#[derive(Clone, Drop)]
 pub struct CellBits {
     words: [u64; WORDS],
 }

@@ -8,7 +8,7 @@ use codes3270::{Attr, Cell, attr_code};
 use std::marker::Model;
 
 /// A screen's cell in two bytes. Contracts see the cell.
-#[derive(Clone, Copy, Debug, PartialEq, Eq)]
+#[derive(Clone, Copy, PartialEq, Eq)]
 pub struct PackedCell {
     /// The code of its character, or that which its attribute is written as.
     code: u8,

@@ -14,7 +14,7 @@ use std::marker::Model;
 /// The cells of a screen of any size: a code per cell, and a bit that is set if the code is an attribute's.
 /// Anything else to be known of the cells is stored beside it. Contracts see the size, the codes of the
 /// cells that the screen has, and the bits.
-#[derive(Clone, Debug, Drop)]
+#[derive(Clone, Drop)]
 pub struct PackedCells {
     /// It has room for the largest screen.
     codes: [u8; MOST_CELLS],
