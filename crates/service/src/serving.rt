@@ -451,7 +451,7 @@ fn begin<I: Source>(
 /// If the input has faults as a panel text, prints all of them to `faults`, as `check` does. `file` is the input's
 /// name; None if it is the standard input.
 ///
-/// If a control socket is chosen, operators command the service there (see crate `control`). `reload` reads the file
+/// If a control socket is chosen, operators command the service there (see crate `service_wire`). `reload` reads the file
 /// again. The socket is removed when the service ends. The log has each command.
 ///
 /// Returns the exit status: 0 if operators ended the service; 1 if the input can't be read (as by [`read_whole`]), if
