@@ -1,5 +1,5 @@
 -- How the faults of a text are listed, and reported one by one (our profile; only for contracts of private functions).
-use Rattle.std.specs.Prelude.{◌≡◌, ◌⊎◌, ◌<◌, ◌++◌, ℕ, true, List, [], ◌∷◌, map, All, Contains, slice_index_or}
+use Rattle.std.specs.Prelude.{◌≡◌, ◌⊎◌, ◌<◌, ◌++◌, ℕ, true, List, [], ◌∷◌, length, map, All, Contains, IsPermutation, slice_index_or}
 use Rattle.tn3270e_msg.specs.Lu.{lu_of}
 use Rattle.lu_pool.specs.Reading.{AreFaultsOf as AreLuFaultsOf}
 use Rattle.lu_pool.specs.declared.fault.PoolFault.{PoolFault}
@@ -43,3 +43,8 @@ pub record AreReported (n : ℕ) (draft : DraftText) (causes : List Cause) (find
       → HasCause (in_table draft (slice_index_or causes j d)) findings
   pub nothing_else : All (λ finding. (fault : Cause) × Contains causes fault × (finding.cause ≡ in_table draft fault))
       findings
+
+-- the findings for all causes of the draft, in some order
+abbrev pub AreFindingsOf : DraftText → List Finding → Type 0
+AreFindingsOf draft findings = (causes : List Cause) × (reported : List Finding) × AreCausesOf draft causes
+    × AreReported (length causes) draft causes reported × IsPermutation reported findings

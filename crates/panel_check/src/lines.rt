@@ -6,6 +6,7 @@
 use panels::Location;
 use std::alloc::{AllocError, Global};
 use std::collections::BTreeMap;
+use std::fmt::Display;
 use toml_parser::text::{skip_blank, skip_ws};
 use toml_parser::{Key, ParseError, dotted_key, quoted, starts_string, unquoted};
 
@@ -19,30 +20,41 @@ pub(crate) struct Lines {
     counts: BTreeMap<String, usize>,
     /// The path of the last header's table, and those of the arrays (true) and tables in it that haven't ended.
     open: Vec<(String, bool)>,
-    /// The line that the walk has reached.
+    /// The path and the line that the walk has reached.
+    path: String,
     line: usize,
 }
 
-/// The path of a part's table.
-fn path_of(alloc: Global, part: Location) -> Result<String, AllocError> {
-    match part {
-        Location::Top => Ok(String::new(alloc)),
-        Location::Panel(panel) => format!(in alloc; ".panel#{panel}"),
-        Location::Text(panel, text) => format!(in alloc; ".panel#{panel}.text#{text}"),
-        Location::Field(panel, field) => format!(in alloc; ".panel#{panel}.field#{field}"),
-        Location::Value(panel, value) => format!(in alloc; ".panel#{panel}.value#{value}"),
-        Location::Keys(panel) => format!(in alloc; ".panel#{panel}.keys"),
+/// How many lines end in the first bytes of a text.
+pub(crate) fn line_ends(text: &str, length: usize) -> usize {
+    let bytes = text.bytes().take(length);
+    bytes.filter(|byte| *byte == b'\n').count()
+}
+
+/// Adds the path of a part's table.
+fn push_path(path: &mut String, part: Location) -> Result<(), AllocError> {
+    if let Some(panel) = part.panel() {
+        write!(path, ".panel#{panel}")?;
     }
+    let (items, index) = match part {
+        Location::Text(_, text) => ("text", text),
+        Location::Field(_, field) => ("field", field),
+        Location::Value(_, value) => ("value", value),
+        Location::Keys(_) => return path.push_str(".keys"),
+        Location::Top | Location::Panel(_) => return Ok(()),
+    };
+    write!(path, ".{items}#{index}")
 }
 
 impl Lines {
     /// The lines of a text, up to the first place at which it isn't TOML.
-    pub(crate) fn of_text(alloc: Global, text: &str) -> Result<Lines, AllocError> {
+    pub fn of_text(alloc: Global, text: &str) -> Result<Lines, AllocError> {
         let mut lines = Lines {
             alloc,
             noted: BTreeMap::new(alloc),
             counts: BTreeMap::new(alloc),
             open: Vec::new(alloc),
+            path: String::new(alloc),
             line: 1,
         };
         match lines.walk(text) {
@@ -52,10 +64,11 @@ impl Lines {
     }
 
     /// The line of a key in a part's table; the table's own if it has no such key, and 1 if there is no such table.
-    pub(crate) fn of_key(&self, part: Location, key: &str) -> Result<usize, AllocError> {
-        let table = path_of(self.alloc, part)?;
-        let path = format!(in self.alloc; "{table}.{key}")?;
-        let own = self.noted.get(table.as_str()).copied().unwrap_or(1);
+    pub fn of_key(&self, part: Location, key: impl Display + Drop) -> Result<usize, AllocError> {
+        let mut path = String::new(self.alloc);
+        push_path(&mut path, part)?;
+        let own = self.noted.get(path.as_str()).copied().unwrap_or(1);
+        write!(path, ".{key}")?;
         Ok(self.noted.get(path.as_str()).copied().unwrap_or(own))
     }
 
@@ -67,9 +80,7 @@ impl Lines {
             if start.is_empty() {
                 break;
             }
-            let length = passed.len().saturating_sub(start.len());
-            let letters = passed.bytes().take(length);
-            let ends = letters.filter(|letter| *letter == b'\n').count();
+            let ends = line_ends(passed, passed.len().saturating_sub(start.len()));
             self.line = self.line.saturating_add(ends);
             passed = start;
             rest = self.step(start)?;
@@ -79,89 +90,100 @@ impl Lines {
 
     /// Walks over a header, a comma, the end of an array or a table, the beginning of one, or any other value.
     fn step<'t>(&mut self, text: &'t str) -> Result<&'t str, ParseError> {
-        if let Some(after) = text.strip_prefix(',') {
-            return Ok(after);
+        let mut letters = text.chars();
+        match letters.next() {
+            Some(',') => Ok(letters.as_str()),
+            Some(']' | '}') => {
+                self.open.pop();
+                Ok(letters.as_str())
+            }
+            Some('[') if self.open.len() == 1 => self.header(letters.as_str()),
+            _ => self.entry(text),
         }
-        if let Some(after) = text.strip_prefix(']').or(text.strip_prefix('}')) {
-            self.open.pop();
-            return Ok(after);
-        }
-        if let (1, Some(header)) = (self.open.len(), text.strip_prefix('[')) {
-            return self.header(header);
-        }
-        let Some((path, is_array)) = self.open.last() else {
-            return Ok("");
-        };
-        let (path, is_array) = (path.clone()?, *is_array);
-        if is_array {
-            let element = self.next_element(path, text)?;
-            return self.value(element, text);
-        }
-        let (key, after) = dotted_key(self.alloc, text)?;
-        let path = self.along(path, &key)?;
-        self.value(path, skip_ws(after.strip_prefix('=').unwrap_or(after)))
-    }
-
-    /// Notes the line of each part of a key, and returns the key's path. An array on the way means its last table.
-    fn along(&mut self, table: String, key: &Key) -> Result<String, AllocError> {
-        let mut path = table;
-        for part in &key.path {
-            let array = self.note(path, '.', part.as_str())?;
-            path = self.last_table(array)?;
-        }
-        self.note(path, '.', key.last.as_str())
-    }
-
-    /// The path of the last table of an array; any other path as it is.
-    fn last_table(&self, path: String) -> Result<String, AllocError> {
-        let tables = format!(in self.alloc; "{path}#")?;
-        match self.counts.get(tables.as_str()) {
-            Some(count) => format!(in self.alloc; "{tables}{}", count.saturating_sub(1)),
-            None => Ok(path),
-        }
-    }
-
-    /// Notes the line of the next value of an array, and returns the value's path.
-    fn next_element(&mut self, array: String, value: &str) -> Result<String, AllocError> {
-        let mark = match value.as_bytes().first() {
-            Some(b'{') => '#',
-            Some(b'"' | b'\'') => '\'',
-            _ => '?',
-        };
-        let kind = format!(in self.alloc; "{array}{mark}")?;
-        let count = self.counts.get(kind.as_str()).copied().unwrap_or(0);
-        self.counts.insert(kind, count.saturating_add(1))?;
-        self.note(array, mark, count)
-    }
-
-    /// Notes the line of a part of a whole, unless it has one, and returns the part's path.
-    fn note<T>(&mut self, whole: String, mark: char, part: T) -> Result<String, AllocError>
-    where
-        T: std::fmt::Display + Drop,
-    {
-        let path = format!(in self.alloc; "{whole}{mark}{part}")?;
-        if !self.noted.contains_key(path.as_str()) {
-            self.noted.insert(path.clone()?, self.line)?;
-        }
-        Ok(path)
     }
 
     /// Walks over a header, from after its first bracket on.
     fn header<'t>(&mut self, text: &'t str) -> Result<&'t str, ParseError> {
         let element = text.strip_prefix('[');
-        let (key, after) = dotted_key(self.alloc, skip_ws(element.unwrap_or(text)))?;
-        let mut path = self.along(String::new(self.alloc), &key)?;
+        self.path.clear();
+        let after = self.key(skip_ws(element.unwrap_or(text)))?;
         if element.is_some() {
-            path = self.next_element(path, "{")?;
+            self.next_element("{")?;
         }
         self.open.clear();
-        self.open.push((path, false))?;
+        self.open.push((self.path.clone()?, false))?;
         Ok(after.trim_start_matches(']'))
     }
 
-    fn value<'t>(&mut self, path: String, text: &'t str) -> Result<&'t str, ParseError> {
+    /// Walks over the next value of the array or the table that is open, and its key.
+    fn entry<'t>(&mut self, text: &'t str) -> Result<&'t str, ParseError> {
+        let Some((path, is_array)) = self.open.last() else {
+            return Ok("");
+        };
+        let is_array = *is_array;
+        self.path.clear();
+        self.path.push_str(path.as_str())?;
+        if is_array {
+            self.next_element(text)?;
+            return self.value(text);
+        }
+        let after = self.key(text)?;
+        self.value(skip_ws(after.strip_prefix('=').unwrap_or(after)))
+    }
+
+    /// Walks over a key, and notes the line of each of its parts. An array on the way means its last table.
+    fn key<'t>(&mut self, text: &'t str) -> Result<&'t str, ParseError> {
+        let (key, after) = dotted_key(self.alloc, text)?;
+        self.along(&key)?;
+        Ok(after)
+    }
+
+    fn along(&mut self, key: &Key) -> Result<(), AllocError> {
+        for part in &key.path {
+            self.note('.', part.as_str())?;
+            self.last_table()?;
+        }
+        self.note('.', key.last.as_str())
+    }
+
+    /// Goes on to the last table of an array; stays at any other path.
+    fn last_table(&mut self) -> Result<(), AllocError> {
+        self.path.push('#')?;
+        match self.counts.get(self.path.as_str()).copied() {
+            Some(count) => write!(self.path, "{}", count.saturating_sub(1)),
+            None => {
+                self.path.pop();
+                Ok(())
+            }
+        }
+    }
+
+    /// Goes on to the next value of an array, and notes its line.
+    fn next_element(&mut self, value: &str) -> Result<(), AllocError> {
+        let mark = match value.as_bytes().first() {
+            Some(b'{') => '#',
+            Some(b'"' | b'\'') => '\'',
+            _ => '?',
+        };
+        let kind = format!(in self.alloc; "{}{mark}", self.path)?;
+        let count = self.counts.get(kind.as_str()).copied().unwrap_or(0);
+        self.counts.insert(kind, count.saturating_add(1))?;
+        self.note(mark, count)
+    }
+
+    /// Goes on to a part of the value at the path, and notes its line unless it has one.
+    fn note(&mut self, mark: char, part: impl Display + Drop) -> Result<(), AllocError> {
+        write!(self.path, "{mark}{part}")?;
+        if !self.noted.contains_key(self.path.as_str()) {
+            self.noted.insert(self.path.clone()?, self.line)?;
+        }
+        Ok(())
+    }
+
+    /// Walks over a value, or the beginning of an array or a table.
+    fn value<'t>(&mut self, text: &'t str) -> Result<&'t str, ParseError> {
         if let Some(inside) = text.strip_prefix('[').or(text.strip_prefix('{')) {
-            self.open.push((path, text.starts_with('[')))?;
+            self.open.push((self.path.clone()?, text.starts_with('[')))?;
             return Ok(inside);
         }
         if starts_string(text) {

@@ -3,14 +3,14 @@ ghost use Rattle.std.specs.Prelude.{◌≡◌, ◌≤◌, ◌⊎◌, ◌↔◌, 
 ghost use Rattle.toml.specs.Parse.{parse_document};
 ghost use Rattle.toml.specs.View.{table_view};
 ghost use Rattle.panel_check.specs.Causes.{IsStated, in_table};
-ghost use Rattle.panel_check.specs.Listed.{AddsOf, AreCausesOf, AreReported, causes_of};
+ghost use Rattle.panel_check.specs.Listed.{AddsOf, AreCausesOf, AreFindingsOf, causes_of};
 ghost use Rattle.panel_check.specs.Report.{HasCause, IsReportOn, is_fault};
 
-use crate::lines::Lines;
+use crate::lines::{Lines, line_ends};
 use crate::report::{Cause, Finding, Report, sizes_of};
 use crate::words::{Done, Said, words_on};
 use lu_pool::PoolFault;
-use panels::{Draft, LocatedFault, Location, TreeFault};
+use panels::{Draft, LocatedFault};
 use std::alloc::{AllocError, Global};
 use toml::Table;
 use toml::de::Error;
@@ -21,6 +21,9 @@ struct PanelText<'a> {
     draft: Draft<'a>,
     lines: Lines,
 }
+
+/// The causes of warnings.
+const WARNINGS: [Cause; 3] = [Cause::TextWraps, Cause::FillNotNumeric, Cause::NoKeyLeads];
 
 /// The causes for these faults of tables and of LUs, and those of warnings.
 fn all_causes(
@@ -37,9 +40,7 @@ fn all_causes(
     for fault in lus {
         causes.push(Cause::Lus(*fault))?;
     }
-    causes.push(Cause::TextWraps)?;
-    causes.push(Cause::FillNotNumeric)?;
-    causes.push(Cause::NoKeyLeads)?;
+    causes.extend_from_slice(&WARNINGS)?;
     Ok(causes)
 }
 
@@ -75,26 +76,12 @@ fn in_table(draft: &Draft, cause: Cause) -> Cause
     }
 }
 
-fn is_same_part(one: Location, other: Location) -> bool
-    ensures { IsTrue result → one ≡ other }
-{
-    one == other
-}
-
-fn is_same_fault(one: TreeFault, other: TreeFault) -> bool
-    ensures { IsTrue result → one ≡ other }
-{
-    one == other
-}
-
 /// Whether both are the same fault.
 fn is_same(one: Cause, other: Cause) -> bool
     ensures { IsTrue result → one ≡ other }
 {
     match (one, other) {
-        (Cause::Tree(fault, part), Cause::Tree(other, table)) => {
-            is_same_fault(fault, other) && is_same_part(part, table)
-        }
+        (Cause::Tree(fault, part), Cause::Tree(other, table)) => fault == other && part == table,
         _ => false,
     }
 }
@@ -143,14 +130,16 @@ fn tell(findings: &mut Vec<Finding>, text: &PanelText, cause: Cause) -> Result<(
     Ok(())
 }
 
-/// The findings for these causes.
-fn findings_for(text: &PanelText, causes: &[Cause]) -> Result<Vec<Finding>, AllocError>
-    ensures { IfOk result (λ findings. AreReported (length causes.now) text.now.draft causes.now findings.items) }
+/// The findings for all faults of a text and for warnings, in the order of its lines.
+fn findings_in(text: &PanelText) -> Result<Vec<Finding>, AllocError>
+    ensures { IfOk result (λ findings. AreFindingsOf text.now.draft findings.items) }
 {
+    let causes = causes_in(text.lines.alloc, &text.draft)?;
     let mut findings = Vec::new(text.lines.alloc);
-    for cause in causes {
+    for cause in &causes {
         tell(&mut findings, text, *cause)?;
     }
+    findings.sort_by_key(|finding| finding.line)?;
     Ok(findings)
 }
 
@@ -161,9 +150,7 @@ fn report_on_tree(alloc: Global, text: &str, top: &Table) -> Result<Report, Allo
 {
     let (draft, lines) = (Draft::of(alloc, top)?, Lines::of_text(alloc, text)?);
     let text = PanelText { draft, lines };
-    let causes = causes_in(alloc, &text.draft)?;
-    let mut findings = findings_for(&text, &causes)?;
-    findings.sort_by_key(|finding| finding.line)?;
+    let findings = findings_in(&text)?;
     let sizes = Some(sizes_of(&text.draft));
     Ok(Report { findings, sizes })
 }
@@ -173,8 +160,7 @@ fn report_no_toml(alloc: Global, text: &str, error: &Error) -> Result<Report, Al
     ensures { parse_document text.now ≡ None → IfOk result (λ report. IsReportOn text.now report.findings.items) }
 {
     let start = error.span().map_or(0, |span| span.start);
-    let ends = text.bytes().take(start).filter(|byte| *byte == b'\n');
-    let line = ends.count().saturating_add(1);
+    let line = line_ends(text, start).saturating_add(1);
     let words = String::from_str(alloc, error.message())?;
     let (cause, sizes) = (Cause::NotToml, None);
     let mut findings = Vec::new(alloc);

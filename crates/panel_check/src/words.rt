@@ -11,7 +11,7 @@ use panels::TreeFault::*;
 use panels::rules::{KeyKind, KeyRule, knows_key, table_rules};
 use panels::{Draft, Location, MOST_FIELDS, MOST_PANELS, MOST_TEXTS, PanelDraft, key_names};
 use std::alloc::AllocError;
-use std::fmt;
+use std::fmt::Display;
 use strsim::osa_distance;
 use tn3270e_msg::Lu;
 use toml::{Table, Value};
@@ -64,7 +64,7 @@ pub(crate) fn words_on(draft: &Draft, lines: &Lines, cause: Cause) -> Result<Vec
 }
 
 impl<'s, 'a> Words<'s, 'a> {
-    pub(crate) fn say<M: fmt::Display + Drop>(&mut self, key: &str, message: M) -> Done
+    pub fn say(&mut self, key: impl Display + Drop, message: impl Display + Drop) -> Done
         ensures { OnOk result (1 ≤ length self.new.found.items) }
     {
         let (line, place) = (self.line(self.part, key)?, Place(self.draft, self.part));
@@ -75,12 +75,12 @@ impl<'s, 'a> Words<'s, 'a> {
     }
 
     /// Says this of a word, and the most similar of the first 500 known words of at most 40 bytes, if one is similar.
-    pub(crate) fn say_near<M: fmt::Display + Drop>(
+    pub fn say_near(
         &mut self,
         key: &str,
         word: &str,
         known: &[&str],
-        message: M,
+        message: impl Display + Drop,
     ) -> Done {
         // One edit in three letters. A word of more than 40 bytes is similar to none.
         let (mut guess, mut most) = (None, word.len() / 3 + 1);
@@ -100,23 +100,27 @@ impl<'s, 'a> Words<'s, 'a> {
     }
 
     /// The line of a key in a part's table; the table's own line if it has no such key.
-    pub(crate) fn line(&self, part: Location, key: &str) -> Result<usize, AllocError> {
+    pub fn line(&self, part: Location, key: impl Display + Drop) -> Result<usize, AllocError> {
         self.lines.of_key(self.draft.table(part), key)
     }
 
     /// The string at one of the part's keys; empty if there is none.
-    pub(crate) fn text(&self, key: &str) -> &'a str {
+    pub fn text(&self, key: &str) -> &'a str {
         text_at(self.draft, self.part, key).unwrap_or("")
     }
 
     /// The panel that has the part.
-    pub(crate) fn panel(&self) -> Option<&'s PanelDraft<'a>> {
+    pub fn panel(&self) -> Option<&'s PanelDraft<'a>> {
         self.draft.panel(self.part.panel()?)
     }
 
     fn tell(&mut self) -> Done {
         let name = Cut(self.text("name"));
         let model = self.panel().map_or(2, |panel| panel.model);
+        let letters = match self.part {
+            Location::Panel(_) => "A-Z and 0-9",
+            _ => "a-z, 0-9 and _",
+        };
         match self.cause {
             Cause::NotToml => Ok(()),
             Cause::Lus(fault) => self.lu_fault(fault),
@@ -124,10 +128,8 @@ impl<'s, 'a> Words<'s, 'a> {
             Cause::NoKeyLeads => self.unreached(),
             Cause::Tree(UnknownKey | Missing | BadKind, _) => self.keys(),
             Cause::Tree(TooMany, _) => self.excess(),
-            Cause::Tree(BadName, Location::Panel(_)) => say!(self, "name";
-                "bad name '{name}': a name has 1 to 16 of A-Z and 0-9"),
             Cause::Tree(BadName, _) => say!(self, "name";
-                "bad name '{name}': a name has 1 to 16 of a-z, 0-9 and _"),
+                "bad name '{name}': a name has 1 to 16 of {letters}"),
             Cause::Tree(BadKey, _) => self.bad_keys(),
             Cause::Tree(TwiceNamed, Location::Keys(_)) => self.asked_twice(),
             Cause::Tree(TwiceNamed, _) => self.named_twice(),
@@ -310,15 +312,15 @@ impl<'s, 'a> Words<'s, 'a> {
             return say!(self, "lus"; "{} LUs: there must be 1 to 64", lus.len());
         };
         let text = lus.get(index).copied().unwrap_or("");
-        let (key, name) = (format!(in self.lines.alloc; "lus'{index}")?, Cut(text));
+        let (key, name) = (format_args!("lus'{index}"), Cut(text));
         let Some(lu) = Lu::read(text.as_bytes()) else {
-            return say!(self, key.as_str();
+            return say!(self, key;
                 "bad LU name '{name}': 1 to 8 of A-Z, 0-9, @, # and $, the first no digit");
         };
         let mut names = lus.iter();
         let first = names.position(|name| Lu::read(name.as_bytes()) == Some(lu));
-        let first = format!(in self.lines.alloc; "lus'{}", first.unwrap_or(index))?;
-        let line = self.line(Location::Top, first.as_str())?;
-        say!(self, key.as_str(); "LU '{name}' is already listed in line {line}")
+        let first = first.unwrap_or(index);
+        let line = self.line(Location::Top, format_args!("lus'{first}"))?;
+        say!(self, key; "LU '{name}' is already listed in line {line}")
     }
 }
