@@ -40,14 +40,6 @@ has_pushed given findings one is = (one, Contains-push findings one, is)
 pub has_at : (given : Cause) (findings : List Finding) (k : ℕ) (d : Finding) → k < length findings → (slice_index_or findings k d).cause ≡ given → HasCause given findings
 has_at given findings k d below is = (slice_index_or findings k d, Contains-get_or findings k d below, is)
 
--- warnings are added to faults
-pub with_warnings : (tables : List LocatedFault) (lus : List PoolFault) (causes : List Cause) → causes ≡ map cause_of tables ++ map cause.Lus lus
-    → ((causes ++ cause.TextWraps ∷ []) ++ cause.FillNotNumeric ∷ []) ++ cause.NoKeyLeads ∷ [] ≡ causes_of tables lus
-with_warnings tables lus causes is =
-    append_assoc (causes ++ cause.TextWraps ∷ []) (cause.FillNotNumeric ∷ []) (cause.NoKeyLeads ∷ [])
-    ∙ (append_assoc causes (cause.TextWraps ∷ []) (cause.FillNotNumeric ∷ cause.NoKeyLeads ∷ [])
-    ∙ (ap (λ xs. xs ++ warnings) is ∙ append_assoc (map cause_of tables) (map cause.Lus lus) warnings))
-
 pub adds_none : (given : Cause) (findings : List Finding) → AddsOf given findings findings
 adds_none given findings = ([], sym (append-nil findings), λ k d below. absurd (omega arith))
 

@@ -17,10 +17,9 @@ impl<'s, 'a> Words<'s, 'a> {
         let Some(item) = self.draft.item(self.part) else {
             return Ok(());
         };
-        let (row, column, length) = (item.row, item.column, item.length);
+        let (row, column, copy) = (item.row, item.column, i64::from(item.copy.unwrap_or(0)));
         let size = self.draft.size(self.part);
         let (rows, columns) = (size.rows().saturating_sub(1), size.cols());
-        let copy = i64::from(item.copy.unwrap_or(0));
         if 1 <= copy {
             let (copy, row) = (copy.saturating_add(1), row.saturating_add(copy));
             say!(self, "repeat"; "copy {copy} is in row {row}, and must end in rows 1 to {rows}")
@@ -28,7 +27,15 @@ impl<'s, 'a> Words<'s, 'a> {
             say!(self, "row"; "is not in rows 1 to {rows}")
         } else if !(1..=i64::from(columns)).contains(&column) {
             say!(self, "col"; "is not in columns 1 to {columns}")
-        } else if row == 1 && column == 1 {
+        } else {
+            self.misfit(item, rows)
+        }
+    }
+
+    /// Says why a text or a field doesn't fit although it begins on the screen.
+    fn misfit(&mut self, item: &ItemDraft, rows: u16) -> Done {
+        let (row, column, length) = (item.row, item.column, item.length);
+        if row == 1 && column == 1 {
             say!(self, "col"; "has no cell for its attribute: in row 1 the first column is 2")
         } else if length < 1 {
             say!(self, "length"; "has no characters: its length is less than 1")

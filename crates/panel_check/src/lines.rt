@@ -8,7 +8,7 @@ use std::alloc::{AllocError, Global};
 use std::collections::BTreeMap;
 use std::fmt::Display;
 use toml_parser::text::{skip_blank, skip_ws};
-use toml_parser::{Key, ParseError, dotted_key, quoted, starts_string, unquoted};
+use toml_parser::{ParseError, dotted_key, quoted, starts_string, unquoted};
 
 /// The lines of a text, up to where the walk is.
 #[derive(Drop)]
@@ -25,7 +25,7 @@ pub(crate) struct Lines {
     line: usize,
 }
 
-/// How many lines end in the first bytes of a text.
+/// How many lines end in the first `length` bytes of a text.
 pub(crate) fn line_ends(text: &str, length: usize) -> usize {
     let bytes = text.bytes().take(length);
     bytes.filter(|byte| *byte == b'\n').count()
@@ -134,16 +134,12 @@ impl Lines {
     /// Walks over a key, and notes the line of each of its parts. An array on the way means its last table.
     fn key<'t>(&mut self, text: &'t str) -> Result<&'t str, ParseError> {
         let (key, after) = dotted_key(self.alloc, text)?;
-        self.along(&key)?;
-        Ok(after)
-    }
-
-    fn along(&mut self, key: &Key) -> Result<(), AllocError> {
         for part in &key.path {
             self.note('.', part.as_str())?;
             self.last_table()?;
         }
-        self.note('.', key.last.as_str())
+        self.note('.', key.last.as_str())?;
+        Ok(after)
     }
 
     /// Goes on to the last table of an array; stays at any other path.

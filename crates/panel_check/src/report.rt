@@ -66,11 +66,14 @@ pub struct Sizes {
 }
 
 pub(crate) fn sizes_of(draft: &Draft) -> Sizes {
-    let items = draft.panels.iter().flat_map(|panel| panel.fields.iter());
-    let fields = items.filter(|item| !item.is_value);
+    let mut fields: usize = 0;
+    for panel in &draft.panels {
+        let own = panel.fields.iter().filter(|item| !item.is_value);
+        fields = fields.saturating_add(own.count());
+    }
     Sizes {
         panels: draft.panels.len(),
-        fields: fields.fold(0, |sum: usize, _field| sum.saturating_add(1)),
+        fields,
         lus: draft.lus.len(),
     }
 }

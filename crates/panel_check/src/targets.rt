@@ -1,36 +1,37 @@
 //! Names that must be those of a panel or a field, and panels that no keys lead to.
 use crate::wording::{Cut, text_at};
 use crate::words::{Done, Words, say};
-use panels::Location;
-use std::alloc::AllocError;
+use panels::{Draft, Location, PanelDraft};
+
+/// Adds the names of a panel's fields; if `stems`, as their tables have them, without the number of a copy.
+fn add_fields<'s>(names: &mut Vec<&'s str>, panel: &'s PanelDraft, stems: bool) -> Done {
+    for it in &panel.fields {
+        if !it.is_value {
+            names.push(if stems { it.stem } else { it.name.as_str() })?;
+        }
+    }
+    Ok(())
+}
 
 impl<'s, 'a> Words<'s, 'a> {
     /// Says which names in the part's table are of no panel or field although they must be.
     pub(crate) fn no_target(&mut self) -> Done {
-        let (draft, part) = (self.draft, self.part);
-        // The panel of a session of another model must be of model 2.
-        let is_base = matches!(part, Location::Panel(_));
-        let names = draft.panels.iter().filter(|it| it.model == 2 || !is_base);
-        let names: Vec<&str> = names.map(|panel| panel.name).collect(self.lines.alloc)?;
-        match (part, self.panel()) {
+        match (self.part, self.panel()) {
             (Location::Text(_, _), _) => self.lost_shown(),
             (Location::Panel(_), Some(panel)) => {
-                let fields = panel.fields.iter().filter(|item| !item.is_value);
-                let fields = fields.map(|field| field.name.as_str());
-                let fields: Vec<&str> = fields.collect(self.lines.alloc)?;
-                self.lost("cursor", "field of this panel", &fields)?;
-                if panel.model == 2 {
-                    return Ok(());
+                self.lost_cursor(panel)?;
+                match panel.model {
+                    2 => Ok(()),
+                    _ => self.lost_panel("otherwise"),
                 }
-                self.lost("otherwise", "panel", &names)
             }
             (_, Some(panel)) => {
                 for key in &panel.keys {
-                    self.lost(key.0, "panel", &names)?;
+                    self.lost_panel(key.0)?;
                 }
                 Ok(())
             }
-            (_, None) => self.lost("start", "panel", &names),
+            (_, None) => self.lost_panel("start"),
         }
     }
 
@@ -40,22 +41,43 @@ impl<'s, 'a> Words<'s, 'a> {
         let Some(item) = draft.item(self.part) else {
             return Ok(());
         };
-        let (name, is_copy) = (Cut(item.show.as_str()), item.copy.is_some());
-        let items = draft.panels.iter().flat_map(|panel| panel.fields.iter());
-        let fields = items.filter(|item| !item.is_value);
-        let known = fields.map(|it| if is_copy { it.stem } else { it.name.as_str() });
-        let known: Vec<&str> = known.collect(self.lines.alloc)?;
-        let message = format_args!("'show' names no field: '{name}'");
+        let mut known = Vec::new(self.lines.alloc);
+        for panel in &draft.panels {
+            add_fields(&mut known, panel, item.copy.is_some())?;
+        }
+        let message = format_args!("'show' names no field: '{}'", Cut(item.show.as_str()));
         self.say_near("show", self.text("show"), &known, message)
+    }
+
+    /// Says that the name at a panel's `cursor` is of none of its fields, if that is so.
+    fn lost_cursor(&mut self, panel: &PanelDraft) -> Done {
+        let mut known = Vec::new(self.lines.alloc);
+        add_fields(&mut known, panel, false)?;
+        self.lost("cursor", "field of this panel", &known)
+    }
+
+    /// Says that the name at a key is of no panel, if that is so.
+    fn lost_panel(&mut self, key: &str) -> Done {
+        // The panel of a session of another model must be of model 2.
+        let (draft, is_base) = (self.draft, matches!(self.part, Location::Panel(_)));
+        let mut known = Vec::new(self.lines.alloc);
+        for panel in &draft.panels {
+            if panel.model == 2 || !is_base {
+                known.push(panel.name)?;
+            }
+        }
+        self.lost(key, "panel", &known)
     }
 
     /// Says that the name at a key is none of these, which are of panels or fields, if that is so.
     fn lost(&mut self, key: &str, kind: &str, known: &[&str]) -> Done {
-        let text = text_at(self.draft, self.part, key);
-        let Some(text) = text.filter(|text| !(&*known).contains(text)) else {
+        let Some(text) = text_at(self.draft, self.part, key) else {
             return Ok(());
         };
         let name = Cut(text);
+        if (&*known).contains(&text) {
+            return Ok(());
+        }
         if key == "otherwise" && self.draft.panel_named(text).is_some() {
             return say!(self, key;
                 "'otherwise' must name a panel of model 2, and '{name}' is of another model");
@@ -64,42 +86,58 @@ impl<'s, 'a> Words<'s, 'a> {
         self.say_near(key, text, known, message)
     }
 
-    /// The panels that keys lead to from the first one, and those that are shown instead of them in some sessions, each
-    /// once; none if there is no first panel.
-    fn reached(&self) -> Result<Vec<usize>, AllocError> {
-        let draft = self.draft;
-        let mut found = Vec::new(self.lines.alloc);
-        let start = text_at(draft, Location::Top, "start");
-        found.extend(start.and_then(|name| draft.panel_named(name)))?;
-        for place in 0..draft.panels.len() {
-            let Some(panel) = found.get(place).and_then(|panel| draft.panel(*panel)) else {
-                break;
-            };
-            let other = panel.table.get("otherwise").filter(|_| panel.model != 2);
-            let other = other.and_then(|name| draft.base_panel_named(name.as_str()?));
-            let next = panel.keys.iter().filter_map(|key| draft.panel_named(key.1));
-            for panel in other.into_iter().chain(next) {
-                if !found.contains(&panel) {
-                    found.push(panel)?;
-                }
-            }
-        }
-        Ok(found)
-    }
-
     /// Warns of each panel that no keys lead to, unless an application may show it.
     pub(crate) fn unreached(&mut self) -> Done {
-        let (draft, found) = (self.draft, self.reached()?);
-        let mut panels = found.iter().filter_map(|panel| draft.panel(*panel));
-        if found.is_empty() || panels.any(|panel| !panel.asks.is_empty()) {
-            return Ok(());
+        let mut reached = Vec::new(self.lines.alloc);
+        add_reached(&mut reached, self.draft)?;
+        self.warn_of_others(&reached)
+    }
+
+    /// Warns of each panel that isn't one of these, unless there are none, or an application decides what follows one.
+    fn warn_of_others(&mut self, reached: &[usize]) -> Done {
+        let draft = self.draft;
+        for (index, panel) in draft.panels.iter().enumerate() {
+            if !panel.asks.is_empty() && (&*reached).contains(&index) {
+                return Ok(());
+            }
         }
         for panel in 0..draft.panels.len() {
             self.part = Location::Panel(panel);
-            if !found.contains(&panel) {
+            if !reached.is_empty() && !(&*reached).contains(&panel) {
                 say!(self, ""; "no keys lead here from the first panel")?;
             }
         }
         Ok(())
     }
+}
+
+/// Adds the panels that keys lead to from the first one, and those that are shown instead of them in some sessions, each
+/// once; none if there is no first panel.
+fn add_reached(reached: &mut Vec<usize>, draft: &Draft) -> Done {
+    if draft.has_start {
+        add_panel(reached, draft.panel_named(draft.start))?;
+    }
+    for place in 0..draft.panels.len() {
+        // There is no panel at the index past the last one.
+        let index = reached.get(place).copied().unwrap_or(draft.panels.len());
+        let Some(panel) = draft.panel(index) else {
+            break;
+        };
+        if panel.model != 2 && panel.has_otherwise {
+            add_panel(reached, draft.base_panel_named(panel.otherwise))?;
+        }
+        for key in &panel.keys {
+            add_panel(reached, draft.panel_named(key.1))?;
+        }
+    }
+    Ok(())
+}
+
+/// Adds a panel, unless it was reached before.
+fn add_panel(reached: &mut Vec<usize>, panel: Option<usize>) -> Done {
+    match panel {
+        Some(panel) if !reached.contains(&panel) => reached.push(panel)?,
+        _ => (),
+    }
+    Ok(())
 }

@@ -1,4 +1,4 @@
-use Rattle.std.proofs.Common.{◌≡◌, [], length, sym, subst, arith}
+use Rattle.std.proofs.Common.{length, sym, subst, arith}
 use Rattle.panel_check.specs.Listed.{AreReported}
 use Rattle.panel_check.proofs.Reporting.{all_reported, none_reported, reported_next}
 use Rattle.panel_check.proofs.telling.findings_in.Goals as goal
