@@ -7,6 +7,7 @@ use mio::net::TcpStream;
 use server::{Server, ServerPort, Watcher};
 use service_events::{Client, Notice};
 use std::alloc::{AllocError, Global};
+use std::fmt::Display;
 use std::time::Clock;
 
 /// Writes each notice as a line that begins with the time, unless `quiet` is set; a question and its answer have no
@@ -27,19 +28,27 @@ pub struct Log<'a, C, E> {
 const LINE_ROOM: usize = 256;
 
 impl<C: Clock, E: Sink> Log<'_, C, E> {
-    /// The start of an event's line: the time in UTC, in whole seconds (RFC 3339); `unknown` if the clock fails.
-    fn timed_line(&self) -> Result<String, AllocError> {
-        let mut line = String::with_capacity(self.alloc, LINE_ROOM)?;
+    /// Adds the start of an event's line: the time in UTC, in whole seconds (RFC 3339); `unknown` if the clock fails.
+    fn put_time(&self, line: &mut String) -> Result<(), AllocError> {
         match Timestamp::now(self.clock) {
-            Ok(now) => write!(line, "time={now:.0} ")?,
-            Err(_) => line.push_str("time=unknown ")?,
+            Ok(now) => write!(line, "time={now:.0} "),
+            Err(_) => line.push_str("time=unknown "),
         }
-        Ok(line)
     }
 
-    /// Writes a line. If that fails, terminals are still served.
-    fn put(&mut self, line: &str) {
+    /// Writes the line of an event, which begins with the time if `is_timed` is set. If writing fails, terminals are
+    /// still served.
+    fn put(&mut self, is_timed: bool, event: impl Display + Drop) -> Result<(), Fault> {
+        if self.quiet {
+            return Ok(());
+        }
+        let mut line = String::with_capacity(self.alloc, LINE_ROOM)?;
+        if is_timed {
+            self.put_time(&mut line)?;
+        }
+        write!(line, "{event}\n")?;
         let _ = self.lines.write_all(line.as_bytes());
+        Ok(())
     }
 }
 
@@ -55,37 +64,19 @@ impl<C: Clock, E: Sink> Watcher for Log<'_, C, E> {
     ghost ended_turn = { λ _ _ _ _ _. Unit {0} };
 
     fn notice(&mut self, notice: &Notice) -> Result<(), Fault> {
-        if self.quiet {
-            return Ok(());
+        match notice {
+            Notice::Asked | Notice::Answered(_) => Ok(()),
+            Notice::Listening(_) => self.put(false, format_args!("{notice}")),
+            _ => self.put(true, format_args!("{notice}")),
         }
-        let mut line = match notice {
-            Notice::Asked | Notice::Answered(_) => return Ok(()),
-            Notice::Listening(_) => String::new(self.alloc),
-            _ => self.timed_line()?,
-        };
-        write!(line, "{notice}\n")?;
-        self.put(line.as_str());
-        Ok(())
     }
 
     fn unanswered(&mut self, client: &Client, fault: &ApplicationFault) -> Result<(), Fault> {
-        if self.quiet {
-            return Ok(());
-        }
-        let mut line = self.timed_line()?;
-        write!(line, "{client} {fault}\n")?;
-        self.put(line.as_str());
-        Ok(())
+        self.put(true, format_args!("{client} {fault}"))
     }
 
     fn replaced(&mut self, client: &Client, replaced: &Replaced<'_>) -> Result<(), Fault> {
-        if self.quiet {
-            return Ok(());
-        }
-        let mut line = self.timed_line()?;
-        write!(line, "{client} {replaced}\n")?;
-        self.put(line.as_str());
-        Ok(())
+        self.put(true, format_args!("{client} {replaced}"))
     }
 
     fn shown(&mut self, _host: &Host, _conn: usize) -> Result<(), Fault> {

@@ -1,6 +1,6 @@
 //! Reading the panels again while a service runs.
 use applications::{AskedKey, JobWithoutApplication, first_asked, host_of};
-use host_core::{Host, Terminals};
+use host_core::{Host, PanelSet, Terminals};
 use jobs::{CountedReader, Fault, read_whole};
 use server::ReloadFault;
 use service_wire::ANSWER_LIMIT;
@@ -113,6 +113,51 @@ fn refusal_of(alloc: Global, name: &str, text: &str, fault: Fault) -> Result<Str
     in_one_line(alloc, page.as_str())
 }
 
+/// The text that a file has now.
+fn text_of<R: Files>(rt: &R, alloc: Global, name: &str) -> Result<String, Refusal> {
+    let file = match open(rt, name) {
+        Ok(file) => file,
+        Err(error) => return Err(Refusal::NotOpened(error.kind())),
+    };
+    match read_whole(alloc, &mut CountedReader::new(file)) {
+        Ok(text) => Ok(text),
+        Err(Fault::NoMemory) => Err(Refusal::Memory),
+        Err(fault) => Err(Refusal::Wrong(format!(in alloc; "{fault}")?)),
+    }
+}
+
+/// Refuses panels that ask an application if there is none.
+fn refuse_asking(alloc: Global, source: PanelSource<'_>, panels: &PanelSet) -> Result<(), Refusal> {
+    if source.has_application {
+        return Ok(());
+    }
+    match first_asked(panels) {
+        Some((panel, key)) => {
+            let by = JobWithoutApplication::Serve;
+            let asked = AskedKey { panel, key, by };
+            Err(Refusal::Wrong(format!(in alloc; "{asked}")?))
+        }
+        None => Ok(()),
+    }
+}
+
+/// A host of the panels that a text defines; `name` is the text's in reports.
+fn host_of_text(
+    alloc: Global,
+    source: PanelSource<'_>,
+    name: &str,
+    text: &str,
+) -> Result<Host, Refusal> {
+    match host_of(alloc, source.terminals, text) {
+        Ok(host) => {
+            refuse_asking(alloc, source, host.panels())?;
+            Ok(host)
+        }
+        Err(Fault::NoMemory) => Err(Refusal::Memory),
+        Err(fault) => Err(Refusal::Wrong(refusal_of(alloc, name, text, fault)?)),
+    }
+}
+
 /// A host of the panels that the file has now.
 pub(crate) fn host_again<R: Files>(
     rt: &R,
@@ -122,29 +167,6 @@ pub(crate) fn host_again<R: Files>(
     let Some(name) = source.file else {
         return Err(Refusal::StandardInput);
     };
-    let file = match open(rt, name) {
-        Ok(file) => file,
-        Err(error) => return Err(Refusal::NotOpened(error.kind())),
-    };
-    let text = match read_whole(alloc, &mut CountedReader::new(file)) {
-        Ok(text) => text,
-        Err(Fault::NoMemory) => return Err(Refusal::Memory),
-        Err(fault) => return Err(Refusal::Wrong(format!(in alloc; "{fault}")?)),
-    };
-    let host = match host_of(alloc, source.terminals, text.as_str()) {
-        Ok(host) => host,
-        Err(Fault::NoMemory) => return Err(Refusal::Memory),
-        Err(fault) => return Err(Refusal::Wrong(refusal_of(alloc, name, text.as_str(), fault)?)),
-    };
-    if source.has_application {
-        return Ok(host);
-    }
-    match first_asked(host.panels()) {
-        Some((panel, key)) => {
-            let by = JobWithoutApplication::Serve;
-            let asked = AskedKey { panel, key, by };
-            Err(Refusal::Wrong(format!(in alloc; "{asked}")?))
-        }
-        None => Ok(host),
-    }
+    let text = text_of(rt, alloc, name)?;
+    host_of_text(alloc, source, name, text.as_str())
 }
