@@ -248,6 +248,33 @@ impl Serving {
         };
         take_turns(&mut shift, turns)
     }
+
+    /// Takes a turn for each item of `turns`, with this log, and with a metrics port if the service has one. Returns
+    /// the fault that ended that; Ok if operators did.
+    fn serve_logged<'x, R: Net + Clock + Files, T: Iterator<Item = ()>, E: Sink>(
+        &mut self,
+        rt: &'x R,
+        alloc: Global,
+        turns: T,
+        service: &Service,
+        source: PanelSource<'x>,
+        address: SocketAddr,
+        version: &'static str,
+        mut log: Log<'_, R, E>,
+    ) -> Result<(), Fault>
+        requires can { T.can_next turns }
+        requires ends { IsFinite (T.remaining turns) }
+    {
+        let Some(port) = service.metrics else {
+            return self.serve_watched(rt, turns, service, source, address, &mut log);
+        };
+        match MetricsObserver::new(rt, alloc, &self.port, port, version, &mut log) {
+            Ok(mut metered) => {
+                self.serve_watched(rt, turns, service, source, address, &mut metered)
+            }
+            Err(fault) => Err(fault),
+        }
+    }
 }
 
 /// A server with its application, the clock, the time limits, and the watcher that logs.
@@ -355,6 +382,31 @@ impl<R: Net + Clock + Files, W: Watcher> TurnParts for Shift<'_, R, W> {
     }
 }
 
+/// Opens the service's port for a host that no client has connected to yet.
+fn serving_of<R: Net + RandomSource>(
+    rt: &R,
+    alloc: Global,
+    service: &Service,
+    address: SocketAddr,
+    application: Option<Application>,
+    control: Option<Control>,
+    host: Host,
+) -> Result<Serving, Fault> {
+    let mut serving = Serving {
+        server: server_with_names(rt, alloc, host)?,
+        port: ServerPort::listen(rt, alloc, address)?,
+        application,
+        control,
+    };
+    if let Some(control) = &mut serving.control {
+        control.socket.register(&serving.port);
+    }
+    if service.proxy_protocol {
+        serving.port.expect_headers();
+    }
+    Ok(serving)
+}
+
 /// Serves a host, a turn for each item of `turns`, with a log on `faults`. Returns the fault that ended that; Ok if
 /// operators did.
 fn serve<'x, R: Net + Clock + RandomSource + Files, T: Iterator<Item = ()>, E: Sink>(
@@ -378,35 +430,14 @@ fn serve<'x, R: Net + Clock + RandomSource + Files, T: Iterator<Item = ()>, E: S
             "warning: other machines can connect to {address}, and nothing is encrypted"
         ));
     }
-    let mut serving = Serving {
-        server: server_with_names(rt, alloc, host)?,
-        port: ServerPort::listen(rt, alloc, address)?,
-        application,
-        control,
-    };
-    if let Some(control) = &mut serving.control {
-        control.socket.register(&serving.port);
-    }
-    if service.proxy_protocol {
-        serving.port.expect_headers();
-    }
-    let mut log = Log {
+    let mut serving = serving_of(rt, alloc, service, address, application, control, host)?;
+    let log = Log {
         clock: rt,
         alloc,
         lines: faults,
         quiet: service.quiet,
     };
-    match service.metrics {
-        Some(port) => {
-            match MetricsObserver::new(rt, alloc, &serving.port, port, version, &mut log) {
-                Ok(mut metered) => {
-                    serving.serve_watched(rt, turns, service, source, address, &mut metered)
-                }
-                Err(fault) => Err(fault),
-            }
-        }
-        None => serving.serve_watched(rt, turns, service, source, address, &mut log),
-    }
+    serving.serve_logged(rt, alloc, turns, service, source, address, version, log)
 }
 
 /// Prints why a panel text with this fault is refused, and returns the exit status. Prints all that `check` prints;
@@ -430,14 +461,82 @@ fn refuse_panels<E: Sink>(
     }
 }
 
-/// The chosen application, if there is one, and the text of the input.
-fn begin<I: Source>(
+/// The host of the panels of a text. Prints why they are refused; Err is then the exit status.
+fn host_of_text<E: Sink>(
     alloc: Global,
-    choice: &ApplicationChoice<'_>,
+    terminals: Terminals,
+    file: Option<&str>,
+    text: &str,
+    faults: &mut E,
+) -> Result<Host, u8> {
+    match host_of(alloc, terminals, text) {
+        Ok(host) => Ok(host),
+        Err(Fault::NoMemory) => Err(report_and_exit_code(Fault::NoMemory, faults)),
+        Err(fault) => {
+            let name = file.unwrap_or(STANDARD_INPUT);
+            Err(refuse_panels(alloc, name, text, fault, faults))
+        }
+    }
+}
+
+/// The host of the panels of the input. Prints why there is none; Err is then the exit status.
+fn host_of_input<I: Source, E: Sink>(
+    alloc: Global,
+    terminals: Terminals,
+    file: Option<&str>,
     input: &mut I,
-) -> Result<(Option<Application>, String), Fault> {
-    let application = application_of(alloc, choice)?;
-    Ok((application, read_whole(alloc, input)?))
+    faults: &mut E,
+) -> Result<Host, u8> {
+    match read_whole(alloc, input) {
+        Ok(text) => host_of_text(alloc, terminals, file, text.as_str(), faults),
+        Err(fault) => Err(report_and_exit_code(fault, faults)),
+    }
+}
+
+/// Serves a host, and makes the control socket for that time, if one is chosen. Returns the exit status.
+fn serve_commanded<'x, R: Net + Clock + RandomSource + Files, T: Iterator<Item = ()>, E: Sink>(
+    rt: &'x R,
+    alloc: Global,
+    turns: T,
+    service: &Service,
+    source: PanelSource<'x>,
+    application: Option<Application>,
+    control: &ControlChoice<'_>,
+    host: Host,
+    version: &'static str,
+    faults: &mut E,
+) -> u8
+    requires can { T.can_next turns }
+    requires ends { IsFinite (T.remaining turns) }
+{
+    let socket = match &control.socket {
+        Some(socket) => socket.as_str(),
+        None => "",
+    };
+    let made = match control_of(rt, alloc, control) {
+        Ok(made) => made,
+        Err(error) => return refuse_socket(socket, error.kind(), faults),
+    };
+    let has_socket = made.is_some();
+    let ended = serve(
+        rt,
+        alloc,
+        turns,
+        service,
+        source,
+        application,
+        made,
+        host,
+        version,
+        faults,
+    );
+    if has_socket {
+        let _ = fs::remove_file(rt, socket);
+    }
+    match ended {
+        Ok(()) => 0,
+        Err(fault) => report_and_exit_code(fault, faults),
+    }
 }
 
 /// Serves the panels of the input, a turn for each item of `turns`, at the service's address and port, with its time
@@ -479,54 +578,34 @@ pub fn run_serve<
     requires can { T.can_next turns }
     requires ends { IsFinite (T.remaining turns) }
 {
-    let (application, text) = match begin(alloc, choice, input) {
-        Ok(parts) => parts,
+    let application = match application_of(alloc, choice) {
+        Ok(application) => application,
         Err(fault) => return report_and_exit_code(fault, faults),
     };
-    let host = match host_of(alloc, service.terminals, text.as_str()) {
+    let host = match host_of_input(alloc, service.terminals, file, input, faults) {
         Ok(host) => host,
-        Err(Fault::NoMemory) => return report_and_exit_code(Fault::NoMemory, faults),
-        Err(fault) => {
-            let name = file.unwrap_or(STANDARD_INPUT);
-            return refuse_panels(alloc, name, text.as_str(), fault, faults);
-        }
+        Err(status) => return status,
     };
-    if application.is_none() {
-        if let Some((panel, key)) = first_asked(host.panels()) {
-            return refuse_asking(panel, key, JobWithoutApplication::Serve, faults);
-        }
-    }
-    let socket = match &control.socket {
-        Some(socket) => socket.as_str(),
-        None => "",
-    };
-    let made = match control_of(rt, alloc, control) {
-        Ok(made) => made,
-        Err(error) => return refuse_socket(socket, error.kind(), faults),
-    };
-    let has_socket = made.is_some();
     let source = PanelSource {
         file,
         terminals: service.terminals,
         has_application: application.is_some(),
     };
-    let ended = serve(
+    if !source.has_application {
+        if let Some((panel, key)) = first_asked(host.panels()) {
+            return refuse_asking(panel, key, JobWithoutApplication::Serve, faults);
+        }
+    }
+    serve_commanded(
         rt,
         alloc,
         turns,
         service,
         source,
         application,
-        made,
+        control,
         host,
         version,
         faults,
-    );
-    if has_socket {
-        let _ = fs::remove_file(rt, socket);
-    }
-    match ended {
-        Ok(()) => 0,
-        Err(fault) => report_and_exit_code(fault, faults),
-    }
+    )
 }
