@@ -31,19 +31,16 @@ pub(crate) fn line_ends(text: &str, length: usize) -> usize {
     bytes.filter(|byte| *byte == b'\n').count()
 }
 
-/// Adds the path of a part's table.
-fn push_path(path: &mut String, part: Location) -> Result<(), AllocError> {
-    if let Some(panel) = part.panel() {
-        write!(path, ".panel#{panel}")?;
+/// The path of a part's table.
+fn path_of(alloc: Global, part: Location) -> Result<String, AllocError> {
+    match part {
+        Location::Top => Ok(String::new(alloc)),
+        Location::Panel(panel) => format!(in alloc; ".panel#{panel}"),
+        Location::Keys(panel) => format!(in alloc; ".panel#{panel}.keys"),
+        Location::Text(panel, text) => format!(in alloc; ".panel#{panel}.text#{text}"),
+        Location::Field(panel, field) => format!(in alloc; ".panel#{panel}.field#{field}"),
+        Location::Value(panel, value) => format!(in alloc; ".panel#{panel}.value#{value}"),
     }
-    let (items, index) = match part {
-        Location::Text(_, text) => ("text", text),
-        Location::Field(_, field) => ("field", field),
-        Location::Value(_, value) => ("value", value),
-        Location::Keys(_) => return path.push_str(".keys"),
-        Location::Top | Location::Panel(_) => return Ok(()),
-    };
-    write!(path, ".{items}#{index}")
 }
 
 impl Lines {
@@ -65,8 +62,7 @@ impl Lines {
 
     /// The line of a key in a part's table; the table's own if it has no such key, and 1 if there is no such table.
     pub fn of_key(&self, part: Location, key: impl Display + Drop) -> Result<usize, AllocError> {
-        let mut path = String::new(self.alloc);
-        push_path(&mut path, part)?;
+        let mut path = path_of(self.alloc, part)?;
         let own = self.noted.get(path.as_str()).copied().unwrap_or(1);
         write!(path, ".{key}")?;
         Ok(self.noted.get(path.as_str()).copied().unwrap_or(own))

@@ -222,11 +222,13 @@ impl<'s, 'a> Words<'s, 'a> {
         if count <= most {
             return Ok(());
         }
-        let table = table_at(self.draft, self.part);
-        let tables = table.and_then(|table| table.get(key)?.as_array());
-        let (items, all) = match key {
-            _ if tables.map_or(0, |tables| tables.len()) == count => ("tables", ""),
-            "field" => ("items", " with all copies and values"),
+        let value = match table_at(self.draft, self.part) {
+            Some(table) => table.get(key),
+            None => None,
+        };
+        let (items, all) = match (value, key) {
+            (Some(Value::Array(tables)), _) if tables.len() == count => ("tables", ""),
+            (_, "field") => ("items", " with all copies and values"),
             _ => ("items", " with all copies"),
         };
         say!(self, key; "{count} {items} in '{key}'{all}: at most {most} are allowed")
@@ -234,13 +236,20 @@ impl<'s, 'a> Words<'s, 'a> {
 
     fn named_twice(&mut self) -> Done {
         let (draft, name, part) = (self.draft, self.text("name"), self.part);
-        let copy = draft.item(part).map_or(name, |item| item.name.as_str());
-        let field = |name: &str| draft.item_named(name).map(|at| Location::Field(at.0, at.1));
-        let first = match part {
-            Location::Panel(_) => draft.panel_named(name).map(|at| Location::Panel(at)),
-            _ => field(copy).filter(|at| *at != part).or(field(name)),
+        let copy = match draft.item(part) {
+            Some(item) => item.name.as_str(),
+            None => name,
         };
-        let line = self.line(first.unwrap_or(part), "name")?;
+        let item = match draft.item_named(copy) {
+            Some(at) if Location::Field(at.0, at.1) != part => Some(at),
+            _ => draft.item_named(name),
+        };
+        let first = match (part, draft.panel_named(name), item) {
+            (Location::Panel(_), Some(panel), _) => Location::Panel(panel),
+            (Location::Field(_, _), _, Some((panel, field))) => Location::Field(panel, field),
+            _ => part,
+        };
+        let line = self.line(first, "name")?;
         say!(self, "name"; "name '{}' is already used in line {line}", Cut(name))
     }
 
@@ -278,13 +287,15 @@ impl<'s, 'a> Words<'s, 'a> {
             return Ok(());
         };
         self.part = Location::Panel(index);
-        for (index, name) in panel.asks.iter().enumerate() {
-            let key = Cut(*name);
-            if panel.asks.iter().take(index).any(|earlier| earlier == name) {
-                say!(self, "asks"; "key '{key}' is named twice")?;
+        for index in 0..panel.asks.len() {
+            let name = panel.asks[index];
+            if (&panel.asks[..index]).contains(&name) {
+                say!(self, "asks"; "key '{}' is named twice", Cut(name))?;
             }
-            if panel.keys.iter().any(|pair| pair.0 == *name) {
-                say!(self, "asks"; "key '{key}' leads to a panel in 'keys', too")?;
+            for key in &panel.keys {
+                if key.0 == name {
+                    say!(self, "asks"; "key '{}' leads to a panel in 'keys', too", Cut(name))?;
+                }
             }
         }
         Ok(())
@@ -317,10 +328,12 @@ impl<'s, 'a> Words<'s, 'a> {
             return say!(self, key;
                 "bad LU name '{name}': 1 to 8 of A-Z, 0-9, @, # and $, the first no digit");
         };
-        let mut names = lus.iter();
-        let first = names.position(|name| Lu::read(name.as_bytes()) == Some(lu));
-        let first = first.unwrap_or(index);
-        let line = self.line(Location::Top, format_args!("lus'{first}"))?;
-        say!(self, key; "LU '{name}' is already listed in line {line}")
+        for (first, other) in lus.iter().enumerate() {
+            if Lu::read(other.as_bytes()) == Some(lu) {
+                let line = self.line(Location::Top, format_args!("lus'{first}"))?;
+                return say!(self, key; "LU '{name}' is already listed in line {line}");
+            }
+        }
+        Ok(())
     }
 }
