@@ -1,5 +1,5 @@
 -- What is found in the front of the bytes, and in all of them.
-use Rattle.std.proofs.Common.{◌≡◌, ◌++◌, ◌≤◌, ◌<◌, ◌+◌, ◌-◌, ℕ, List, Bool, length, take, ap, true, false, true≢false, Option, Some, None, sym, subst, ◌∙◌, inl, inr, arith}
+use Rattle.std.proofs.Common.{◌≡◌, ◌++◌, ◌≤◌, ◌<◌, ◌+◌, ◌-◌, ℕ, List, Bool, length, take, ap, true, false, true≢false, Option, Some, None, sym, subst, ◌∙◌, inl, inr, arith, length-take}
 use Rattle.std.proofs.Math.Seq.{take-append-add}
 use Rattle.std.proofs.lemmas.List.{take_all, length-append}
 use Rattle.application_http.specs.declared.fault.ReplyFault.{ReplyFault}
@@ -15,6 +15,9 @@ pub take_more_of : (most : ℕ) (old bytes : List ℕ) → length old ≤ most �
 take_more_of most old bytes fits =
     let e : most ≡ length old + (most - length old) = omega arith in
     ap (λ (n : ℕ). take n (old ++ bytes)) e ∙ take-append-add old bytes (most - length old)
+
+pub still_fits : (old bytes : List ℕ) → length old ≤ most_bytes → length (old ++ take (most_bytes - length old) bytes) ≤ most_bytes
+still_fits old bytes fits = omega (arith, length-append old (take (most_bytes - length old) bytes), length-take (most_bytes - length old) bytes)
 
 not_long : (closed : Bool) (bytes : List ℕ) → ¬ (IsBadReply closed bytes fault.TooLong)
 not_long closed bytes (inl h) = h

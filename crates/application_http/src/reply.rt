@@ -11,7 +11,7 @@ use serde_json::{Map, Value};
 use std::alloc::{AllocError, Global};
 
 /// An application's answer to a question. Each part may be absent.
-#[derive(Debug, Drop)]
+#[derive(Drop)]
 pub struct Reply {
     /// The name of the panel to show. If it is absent, the current panel is shown again.
     pub panel: Option<String>,
@@ -147,10 +147,7 @@ fn text_at(alloc: Global, value: &Value, key: &str) -> Result<Option<String>, Al
 fn flag_at(value: &Value, key: &str) -> bool
     ensures { result ≡ flag_at key.now (view value.now) }
 {
-    match value.get(key).and_then(Value::as_bool) {
-        Some(flag) => flag,
-        None => false,
-    }
+    matches!(value.get(key), Some(Value::Bool(true)))
 }
 
 /// A copy of a field's name and text.

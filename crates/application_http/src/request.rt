@@ -9,7 +9,7 @@ use serde_json::{Map, Value};
 use std::alloc::{AllocError, Global};
 
 /// A field's name and its text, in Unicode.
-#[derive(Debug, Drop)]
+#[derive(Drop)]
 pub struct FieldText {
     /// The name that the panel gives the field; that of the second copy of a repeated field `amount` is `amount.2`.
     pub name: String,
@@ -271,7 +271,7 @@ pub(crate) fn post_text(
 {
     let mut text = String::new(alloc);
     endpoint.put_head(&mut text, body.len())?;
-    write!(text, "{body}")?;
+    text.push_str(body)?;
     Ok(text)
 }
 

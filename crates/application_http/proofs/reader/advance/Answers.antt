@@ -1,6 +1,6 @@
 use Rattle.std.proofs.Common.{◌≡◌, ◌++◌, ◌-◌, ◌<◌, false, length, take, sym, ◌∙◌, inr, rules}
 use Rattle.application_http.specs.Contents.{most_bytes}
-use Rattle.application_http.proofs.Readings.{take_more_of, some_found, none_found, refused_at, longer}
+use Rattle.application_http.proofs.Readings.{take_more_of, some_found, none_found, refused_at, longer, still_fits}
 use Rattle.application_http.proofs.reader.advance.Goals as goal
 
 pub returns-in-Ok-Some-clause-found : goal.returns-in-Ok-Some-clause-found
@@ -24,3 +24,27 @@ returns-in-Err-clause-refused c =
     let added : c.extend_from_slice.new.self.items ≡ old ++ take (most_bytes - length old) c.args.bytes.now = search rules in
     let kept = c.as_slice-2.ensures.value ∙ added ∙ sym (take_more_of most_bytes old c.args.bytes.now c.requires) in
     inr (refused_at false (old ++ c.args.bytes.now) c.as_slice-2.result.now c.in-Err.why kept c.in-Err.ensures.bad)
+
+pub returns-in-Ok-Some-clause-held : goal.returns-in-Ok-Some-clause-held
+returns-in-Ok-Some-clause-held c =
+    let old = c.args.so_far.now.items in
+    let added : c.extend_from_slice.new.self.items ≡ old ++ take (most_bytes - length old) c.args.bytes.now = search rules in
+    rw added (still_fits old c.args.bytes.now c.requires)
+
+pub returns-in-Ok-None-clause-held : goal.returns-in-Ok-None-clause-held
+returns-in-Ok-None-clause-held c =
+    let old = c.args.so_far.now.items in
+    let added : c.extend_from_slice.new.self.items ≡ old ++ take (most_bytes - length old) c.args.bytes.now = search rules in
+    rw added (still_fits old c.args.bytes.now c.requires)
+
+pub returns-in-Ok-None-2-clause-held : goal.returns-in-Ok-None-2-clause-held
+returns-in-Ok-None-2-clause-held c =
+    let old = c.args.so_far.now.items in
+    let added : c.extend_from_slice.new.self.items ≡ old ++ take (most_bytes - length old) c.args.bytes.now = search rules in
+    rw added (still_fits old c.args.bytes.now c.requires)
+
+pub returns-in-Err-clause-held : goal.returns-in-Err-clause-held
+returns-in-Err-clause-held c =
+    let old = c.args.so_far.now.items in
+    let added : c.extend_from_slice.new.self.items ≡ old ++ take (most_bytes - length old) c.args.bytes.now = search rules in
+    rw added (still_fits old c.args.bytes.now c.requires)
