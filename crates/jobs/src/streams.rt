@@ -112,13 +112,6 @@ impl<R: RawRead> CountedReader<R> {
             failures: 0,
         }
     }
-
-    /// The reader.
-    pub fn into_inner(self) -> R
-        ensures { result ≡ reader_in self }
-    {
-        self.reader
-    }
 }
 
 impl<R: RawRead> Source for CountedReader<R> {
@@ -206,13 +199,6 @@ impl<W: RawWrite> CountedWriter<W> {
             writer,
             failures: 0,
         }
-    }
-
-    /// The writer.
-    pub fn into_inner(self) -> W
-        ensures { result ≡ writer_in self }
-    {
-        self.writer
     }
 
     /// Counts a failure.
