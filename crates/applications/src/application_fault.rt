@@ -36,7 +36,7 @@ pub enum ApplicationFault {
 }
 
 /// The message on the operator's screen after a failure.
-#[derive(Clone, Copy, PartialEq, Eq)]
+#[derive(Clone, Copy)]
 pub enum FailureMessage {
     /// The application can't be reached.
     NotAvailable,

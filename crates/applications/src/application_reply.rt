@@ -21,7 +21,7 @@ use std::alloc::{AllocError, Global};
 const MOST_CHARACTERS: usize = 3_564;
 
 /// Why the host can't carry out a reply.
-#[derive(Debug, Drop)]
+#[derive(Drop)]
 pub enum AnswerFault {
     /// Memory was refused for a part of the reply that must be stored: a text, a field's first value, or a name, of a
     /// copy or of an unknown field.

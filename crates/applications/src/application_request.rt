@@ -230,8 +230,7 @@ fn request_on(
         fields.as_slice(),
         text_of(&client),
     );
-    let text = request_text(alloc, endpoint, &request)?;
-    Ok(text)
+    request_text(alloc, endpoint, &request)
 }
 
 /// The request for a question, if the host's start drew `boot`; None if its panel isn't one of the panels.

@@ -2,7 +2,7 @@
 //! waits.
 ghost use Rattle.std.specs.Prelude.{◌≡◌, ◌<◌, IfErr, IfOk, None, replicate};
 ghost use Rattle.application_http.specs.Requests.{request_bytes};
-ghost use Rattle.applications.specs.ExchangeTurns.{Asks, AsksAbout, BeginsFor, CannotBegin, Ends, Fails, Goes, Hands, Shows, Turns, slot_at, unless_failed, with_slot};
+ghost use Rattle.applications.specs.ExchangeTurns.{Asks, AsksAbout, BeginsFor, CannotBegin, Ends, Fails, Hands, Shows, Turns, slot_at, unless_failed, with_slot};
 ghost use Rattle.host_core.specs.State.{most_connections};
 
 use crate::application_fault::{Absence, ApplicationFault};
@@ -282,35 +282,8 @@ fn ask<S: RawRead + RawWrite + Drop, A: AskingServer<Stream = S>>(
     }
 }
 
-/// Continues an exchange, and puts it back into its empty slot unless it is over.
-fn go_on<S: RawRead + RawWrite + Drop, A: AskingServer<Stream = S>>(
-    slot: &mut Option<QuestionExchange<S>>,
-    mut asked: QuestionExchange<S>,
-    asking: Asking<'_>,
-    server: &mut A,
-    conn: usize,
-    has_operator: bool,
-) -> Result<bool, Fault>
-    requires empty { slot.old ≡ None }
-    requires number { conn < most_connections }
-    ensures { Goes A.served A.answered A.reported S.read_gave S.write_took A.noted has_operator asking.entry.now
-        asking.entry.most conn asked server.old result server.new slot.new }
-{
-    let (ticket, panel) = (asked.ticket, asked.panel);
-    match asked.exchange.go_on(has_operator, asking.now, asking.most) {
-        IoProgress::Moved => {
-            *slot = Some(asked);
-            Ok(true)
-        }
-        IoProgress::Still => {
-            *slot = Some(asked);
-            Ok(false)
-        }
-        IoProgress::Over(outcome) => end(asking.alloc, server, conn, ticket, panel, &outcome),
-    }
-}
-
-/// Takes a turn on a connection with this slot.
+/// Takes a turn on a connection with this slot: continues its exchange, and empties it when the exchange is over, or
+/// begins one if a question is open.
 fn turn_of<S: RawRead + RawWrite + Drop, A: AskingServer<Stream = S>>(
     slot: &mut Option<QuestionExchange<S>>,
     asking: Asking<'_>,
@@ -323,8 +296,16 @@ fn turn_of<S: RawRead + RawWrite + Drop, A: AskingServer<Stream = S>>(
         (request_bytes asking.entry.endpoint.now) asking.entry.boot asking.entry.now asking.entry.most has_operator conn
         slot.old server.old result server.new slot.new }
 {
-    match slot.take() {
-        Some(asked) => go_on(slot, asked, asking, server, conn, has_operator),
+    match slot {
+        Some(asked) => match asked.exchange.go_on(has_operator, asking.now, asking.most) {
+            IoProgress::Moved => Ok(true),
+            IoProgress::Still => Ok(false),
+            IoProgress::Over(outcome) => {
+                let (ticket, panel) = (asked.ticket, asked.panel);
+                *slot = None;
+                end(asking.alloc, server, conn, ticket, panel, &outcome)
+            }
+        },
         None => ask(slot, asking, server, conn),
     }
 }
