@@ -416,20 +416,25 @@ impl Dialer {
         }
     }
 
-    /// The new connection once it is established, otherwise None. CannotConnect if it is refused and none ever was.
-    fn take_connected(&mut self) -> Result<Option<TcpStream>, Fault> {
+    /// Hands the connection to the session once it is established. CannotConnect if it is refused and none ever was.
+    fn hand_over<K: Drop, T: Drop>(
+        &mut self,
+        session: &mut OperatorSession<TcpStream, K, T>,
+    ) -> Result<(), Fault> {
         let Some(socket) = self.dialed.take() else {
-            return Ok(None);
+            return Ok(());
         };
         if socket.peer_addr().is_ok() {
             self.was_taken = true;
-            return Ok(Some(socket));
+            return session.connect(socket, self.wanted);
         }
         match failure_of(&socket) {
-            Some(kind) => self.give_up(kind)?,
-            None => self.dialed = Some(socket),
+            Some(kind) => self.give_up(kind),
+            None => {
+                self.dialed = Some(socket);
+                Ok(())
+            }
         }
-        Ok(None)
     }
 
     /// Waits for the connection at most 10 milliseconds, or not at all if bytes moved in the turn before (`moved`).
@@ -452,9 +457,7 @@ fn take_turns<N: Net, K: Source + Drop, T: Sink + Drop>(
     dialer.redial(net)?;
     let mut moved = true;
     for _ in 0..u64::MAX {
-        if let Some(socket) = dialer.take_connected()? {
-            session.connect(socket, dialer.wanted)?;
-        }
+        dialer.hand_over(session)?;
         dialer.wait(moved)?;
         moved = session.turn(alloc)?;
         match session.take_asked() {
