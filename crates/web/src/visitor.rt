@@ -46,12 +46,12 @@ fn respond(
 }
 
 /// What a turn of a client was.
-#[derive(Drop)]
+#[derive(Clone, Copy)]
 pub(crate) enum Visit {
     /// The client goes on. `moved`: a byte was read or written.
     Going { moved: bool },
-    /// The request has another answer than a handshake: its response.
-    Answered(HttpStatus, Vec<u8>),
+    /// The request has another answer than a handshake: this status. The client has the response.
+    Answered(HttpStatus),
     /// The first message asks for a session of this model, for this LU if it names one.
     Opened(Model, Option<Lu>),
     /// The first message has a token with these bytes, to resume a session.
@@ -82,7 +82,7 @@ pub(crate) struct Visitor<B> {
     pub(crate) began: u64,
     /// The request so far; None once it is answered.
     head: Option<HeadReader>,
-    /// What is left of the response that accepts the handshake.
+    /// What is left of the response.
     response: Vec<u8>,
 }
 
@@ -98,9 +98,9 @@ impl<B: RawRead + RawWrite + Drop> Visitor<B> {
         }
     }
 
-    /// Its page.
-    pub(crate) fn into_link(self) -> PageLink<B> {
-        self.link
+    /// Its page, and the response that it still has to be sent.
+    pub(crate) fn into_parts(self) -> (PageLink<B>, Vec<u8>) {
+        (self.link, self.response)
     }
 
     /// One turn: reads or writes once.
@@ -127,20 +127,18 @@ impl<B: RawRead + RawWrite + Drop> Visitor<B> {
         };
         match respond(alloc, site, page, head, &came[..count]) {
             Ok(None) => Visit::Going { moved: true },
-            Ok(
-                Some(
-                    Response {
-                        answer: Answer::Status(status),
-                        bytes,
-                    },
-                ),
-            ) => Visit::Answered(status, bytes),
-            Ok(Some(Response { bytes, .. })) => {
-                self.head = None;
-                self.response = bytes;
-                self.accept()
-            }
+            Ok(Some(response)) => self.answer(response),
             Err(_) => Visit::Gone,
+        }
+    }
+
+    /// Takes the response to the request, and begins to write it if it accepts a handshake.
+    fn answer(&mut self, response: Response) -> Visit {
+        self.head = None;
+        self.response = response.bytes;
+        match response.answer {
+            Answer::Status(status) => Visit::Answered(status),
+            Answer::Handshake(_) => self.accept(),
         }
     }
 

@@ -74,11 +74,14 @@ fn status_word(status: HttpStatus) -> &'static str {
     }
 }
 
-/// Logs a request that is answered by another status than 200.
-fn note_status<L: EventLog>(peer: SocketAddr, status: HttpStatus, log: &mut L) {
-    match status {
-        HttpStatus::Found => {}
-        _ => log.note(&WebEvent::Refused(peer, status_word(status))),
+/// The word for why a client is refused; None if it isn't.
+fn refusal_word(visit: &Visit) -> Option<&'static str> {
+    match visit {
+        Visit::Late => Some("late"),
+        Visit::Answered(HttpStatus::Found) => None,
+        Visit::Answered(status) => Some(status_word(*status)),
+        Visit::Closed(closing) => Some(closing_word(*closing)),
+        Visit::Going { .. } | Visit::Opened(..) | Visit::Resumed(_) | Visit::Gone => None,
     }
 }
 
@@ -290,19 +293,14 @@ impl WebServer {
         visit: Visit,
         log: &mut L,
     ) {
-        let (peer, link) = (visitor.peer, visitor.into_link());
+        let peer = visitor.peer;
+        if let Some(word) = refusal_word(&visit) {
+            log.note(&WebEvent::Refused(peer, word));
+        }
+        let (link, response) = visitor.into_parts();
         match visit {
-            Visit::Going { .. } | Visit::Gone => {}
-            Visit::Late => log.note(&WebEvent::Refused(peer, "late")),
-            Visit::Answered(status, response) => {
-                note_status(peer, status, log);
-                self.depart(link, response);
-            }
-            Visit::Closed(closing) => {
-                log.note(&WebEvent::Refused(peer, closing_word(closing)));
-                let none = Vec::new(self.alloc);
-                self.depart(link, none);
-            }
+            Visit::Going { .. } | Visit::Late | Visit::Gone => {}
+            Visit::Answered(_) | Visit::Closed(_) => self.depart(link, response),
             Visit::Opened(model, lu) => self.open(rt, link, peer, model, lu, log),
             Visit::Resumed(token) => self.resume(link, peer, PageToken::new(token), log),
         }
