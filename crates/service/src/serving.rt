@@ -11,7 +11,7 @@ use crate::reload::PanelSource;
 use crate::uptime::Uptime;
 use application_http::{Endpoint, EndpointFault};
 use applications::{JobWithoutApplication, draw_boot, first_asked, host_of, refuse_asking};
-use host_core::{Host, Terminals};
+use host_core::{Host, PanelSet, Terminals};
 use jobs::{
     ApplicationChoice, ControlChoice, Fault, Port, RawRead, RawWrite, Seconds, Service, Sink,
     Source, TimeLimits, Turns, poll_timeout, read_whole, report_and_exit_code,
@@ -382,6 +382,15 @@ impl<R: Net + Clock + Files, W: Watcher> TurnParts for Shift<'_, R, W> {
     }
 }
 
+/// Warns if other machines can connect to an address.
+fn warn_if_open<E: Sink>(address: SocketAddr, faults: &mut E) {
+    if !address.ip().is_loopback() {
+        let _ = faults.write_line(format_args!(
+            "warning: other machines can connect to {address}, and nothing is encrypted"
+        ));
+    }
+}
+
 /// Opens the service's port for a host that no client has connected to yet.
 fn serving_of<R: Net + RandomSource>(
     rt: &R,
@@ -425,11 +434,7 @@ fn serve<'x, R: Net + Clock + RandomSource + Files, T: Iterator<Item = ()>, E: S
     requires ends { IsFinite (T.remaining turns) }
 {
     let address = SocketAddr::new(service.listen, service.port.get());
-    if !service.listen.is_loopback() {
-        let _ = faults.write_line(format_args!(
-            "warning: other machines can connect to {address}, and nothing is encrypted"
-        ));
-    }
+    warn_if_open(address, faults);
     let mut serving = serving_of(rt, alloc, service, address, application, control, host)?;
     let log = Log {
         clock: rt,
@@ -461,19 +466,38 @@ fn refuse_panels<E: Sink>(
     }
 }
 
+/// The exit status if panels ask an application and there is none, which is printed.
+fn refuse_unanswered<E: Sink>(
+    source: PanelSource<'_>,
+    panels: &PanelSet,
+    faults: &mut E,
+) -> Option<u8> {
+    match first_asked(panels) {
+        Some((panel, key)) if !source.has_application => Some(refuse_asking(
+            panel,
+            key,
+            JobWithoutApplication::Serve,
+            faults,
+        )),
+        _ => None,
+    }
+}
+
 /// The host of the panels of a text. Prints why they are refused; Err is then the exit status.
 fn host_of_text<E: Sink>(
     alloc: Global,
-    terminals: Terminals,
-    file: Option<&str>,
+    source: PanelSource<'_>,
     text: &str,
     faults: &mut E,
 ) -> Result<Host, u8> {
-    match host_of(alloc, terminals, text) {
-        Ok(host) => Ok(host),
+    match host_of(alloc, source.terminals, text) {
+        Ok(host) => match refuse_unanswered(source, host.panels(), faults) {
+            Some(status) => Err(status),
+            None => Ok(host),
+        },
         Err(Fault::NoMemory) => Err(report_and_exit_code(Fault::NoMemory, faults)),
         Err(fault) => {
-            let name = file.unwrap_or(STANDARD_INPUT);
+            let name = source.file.unwrap_or(STANDARD_INPUT);
             Err(refuse_panels(alloc, name, text, fault, faults))
         }
     }
@@ -482,13 +506,12 @@ fn host_of_text<E: Sink>(
 /// The host of the panels of the input. Prints why there is none; Err is then the exit status.
 fn host_of_input<I: Source, E: Sink>(
     alloc: Global,
-    terminals: Terminals,
-    file: Option<&str>,
+    source: PanelSource<'_>,
     input: &mut I,
     faults: &mut E,
 ) -> Result<Host, u8> {
     match read_whole(alloc, input) {
-        Ok(text) => host_of_text(alloc, terminals, file, text.as_str(), faults),
+        Ok(text) => host_of_text(alloc, source, text.as_str(), faults),
         Err(fault) => Err(report_and_exit_code(fault, faults)),
     }
 }
@@ -582,20 +605,15 @@ pub fn run_serve<
         Ok(application) => application,
         Err(fault) => return report_and_exit_code(fault, faults),
     };
-    let host = match host_of_input(alloc, service.terminals, file, input, faults) {
-        Ok(host) => host,
-        Err(status) => return status,
-    };
     let source = PanelSource {
         file,
         terminals: service.terminals,
         has_application: application.is_some(),
     };
-    if !source.has_application {
-        if let Some((panel, key)) = first_asked(host.panels()) {
-            return refuse_asking(panel, key, JobWithoutApplication::Serve, faults);
-        }
-    }
+    let host = match host_of_input(alloc, source, input, faults) {
+        Ok(host) => host,
+        Err(status) => return status,
+    };
     serve_commanded(
         rt,
         alloc,
