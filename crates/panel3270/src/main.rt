@@ -11,12 +11,12 @@ ghost use Rattle.std.specs.Iterator.{IsFinite};
 use crate::selfrun::run_selfrun;
 use cli::{VERSION, WordFault, refuse_words, run_help, run_version, words};
 use jobs::{
-    ApplicationChoice, ControlChoice, CountedReader, CountedWriter, Fault, Job, Operand,
-    OperateOptions, Service, Sink, UntilClosed, refuse_file, report_and_exit_code,
+    CountedReader, CountedWriter, Fault, Job, Operand, OperateOptions, Sink, UntilClosed,
+    refuse_file, report_and_exit_code,
 };
 use operate::run_operate;
 use scripts::{run_check, run_script, run_show, run_term};
-use service::{run_host, run_serve, run_tell};
+use service::{ServeOptions, run_host, run_serve, run_tell};
 use std::env;
 use std::fs::File;
 use std::io::{self, ErrorKind, IsTerminal, Stdout};
@@ -55,52 +55,25 @@ fn end_without<E: Sink>(name: &str, why: ErrorKind, faults: &mut E) -> u8 {
 
 /// Serves the panels of a file, or of the standard input if none is given, a turn for each item of `turns`, and returns
 /// the exit status.
-fn serve<T: Iterator<Item = ()>>(
-    rt: &HostRuntime,
-    turns: T,
-    service: &Service,
-    panels: Option<Operand<'_>>,
-    application: &ApplicationChoice<'_>,
-    control: &ControlChoice<'_>,
-) -> u8
+fn serve<T: Iterator<Item = ()>>(rt: &HostRuntime, turns: T, options: ServeOptions<'_>) -> u8
     requires can { T.can_next turns }
     requires ends { IsFinite (T.remaining turns) }
 {
-    let alloc = rt.alloc();
     let mut faults = CountedWriter::new(rt.stderr());
-    let Some(panels) = panels else {
+    let Some(name) = options.file else {
         let stdin = rt.stdin();
         if stdin.is_terminal() {
             let _ = faults.write_line(WAITS_FOR_PANELS);
         }
         let mut input = CountedReader::new(stdin);
-        return run_serve(
-            rt,
-            alloc,
-            turns,
-            service,
-            application,
-            control,
-            None,
-            VERSION,
-            &mut input,
-            &mut faults,
-        );
+        return run_serve(rt, turns, options, &mut input, &mut faults);
     };
-    match open(rt, panels.as_str()) {
-        Ok(file) => run_serve(
-            rt,
-            alloc,
-            turns,
-            service,
-            application,
-            control,
-            Some(panels.as_str()),
-            VERSION,
-            &mut CountedReader::new(file),
-            &mut faults,
-        ),
-        Err(error) => end_without(panels.as_str(), error.kind(), &mut faults),
+    match open(rt, name) {
+        Ok(file) => {
+            let mut input = CountedReader::new(file);
+            run_serve(rt, turns, options, &mut input, &mut faults)
+        }
+        Err(error) => end_without(name, error.kind(), &mut faults),
     }
 }
 
@@ -110,7 +83,7 @@ fn open_ended(rt: &HostRuntime) -> CountedWriter<UntilClosed<Stdout>> {
 }
 
 /// Checks the panel text of a file, or of the standard input if none is given, and returns the exit status.
-fn check(rt: &HostRuntime, file: Option<Operand<'_>>) -> u8 {
+fn check(rt: &HostRuntime, file: &Option<Operand<'_>>) -> u8 {
     let alloc = rt.alloc();
     let mut out = open_ended(rt);
     let mut faults = CountedWriter::new(rt.stderr());
@@ -137,7 +110,7 @@ fn operate(rt: &HostRuntime, options: &OperateOptions) -> u8 {
 }
 
 /// Runs a job, and returns the exit status. `serve` takes a turn for each item of `turns`.
-fn do_job<T: Iterator<Item = ()>>(rt: &HostRuntime, turns: T, job: Job<'_>) -> u8
+fn do_job<T: Iterator<Item = ()>>(rt: &HostRuntime, turns: T, job: &Job<'_>) -> u8
     requires can { T.can_next turns }
     requires ends { IsFinite (T.remaining turns) }
 {
@@ -147,29 +120,40 @@ fn do_job<T: Iterator<Item = ()>>(rt: &HostRuntime, turns: T, job: Job<'_>) -> u
     let mut faults = CountedWriter::new(rt.stderr());
     match job {
         Job::Script { terminals } => {
-            run_script(alloc, terminals, &mut input, &mut out, &mut faults)
+            run_script(alloc, *terminals, &mut input, &mut out, &mut faults)
         }
-        Job::Show { model } => run_show(alloc, model, &mut input, &mut out, &mut faults),
+        Job::Show { model } => run_show(alloc, *model, &mut input, &mut out, &mut faults),
         Job::Selfrun { turns } => {
-            run_selfrun(rt, alloc, turns, &mut input, &mut out, &mut faults)
+            run_selfrun(rt, *turns, &mut input, &mut out, &mut faults)
         }
         Job::Check { file } => check(rt, file),
-        Job::Host { port, turns } => run_host(rt, alloc, port, turns, &mut input, &mut faults),
+        Job::Host { port, turns } => run_host(rt, *port, *turns, &mut input, &mut faults),
         Job::Serve {
             service,
             panels,
             application,
             control,
-        } => serve(rt, turns, &service, panels, &application, &control),
-        Job::Tell { socket, command } => {
-            run_tell(rt, alloc, &socket, &command, &mut out, &mut faults)
+        } => {
+            let file = match panels {
+                Some(panels) => Some(panels.as_str()),
+                None => None,
+            };
+            let options = ServeOptions {
+                service,
+                application,
+                control,
+                file,
+                version: VERSION,
+            };
+            serve(rt, turns, options)
         }
+        Job::Tell { socket, command } => run_tell(rt, socket, command, &mut out, &mut faults),
         Job::Term { port, lu, model } => {
-            run_term(rt, port, model, lu, &mut input, &mut out, &mut faults)
+            run_term(rt, *port, *model, *lu, &mut input, &mut out, &mut faults)
         }
-        Job::Operate(options) => operate(rt, &options),
-        Job::Web(options) => run_web(rt, alloc, turns, &options, &mut faults),
-        Job::Help(topic) => run_help(topic, &mut open_ended(rt), &mut faults),
+        Job::Operate(options) => operate(rt, options),
+        Job::Web(options) => run_web(rt, alloc, turns, options, &mut faults),
+        Job::Help(topic) => run_help(*topic, &mut open_ended(rt), &mut faults),
         Job::Version => run_version(&mut open_ended(rt), &mut faults),
     }
 }
@@ -188,7 +172,7 @@ fn run<T: Iterator<Item = ()>>(rt: &HostRuntime, turns: T, given: &[String]) -> 
     requires ends { IsFinite (T.remaining turns) }
 {
     match words(rt.alloc(), given) {
-        Ok(job) => do_job(rt, turns, job),
+        Ok(job) => do_job(rt, turns, &job),
         Err(fault) => refuse_words(fault, &mut CountedWriter::new(rt.stderr())),
     }
 }

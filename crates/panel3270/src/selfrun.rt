@@ -11,7 +11,6 @@ use scripts::{
 use server::{Server, ServerPort, Unwatched};
 use service::server_of;
 use std::alloc::{AllocError, Global};
-use std::net::Net;
 use tn3270e_msg::Lu;
 use world3270::{Event, Stepped};
 
@@ -34,6 +33,17 @@ fn idle_terminals(alloc: Global) -> Result<Vec<SocketTerminal>, AllocError> {
 }
 
 impl LoopbackRun {
+    /// A server of the panels of a text, on any free port, and idle terminals.
+    fn new(rt: &HostRuntime, panels: &str, turns: Turns) -> Result<LoopbackRun, Fault> {
+        let (server, port) = server_of(rt, panels, 0)?;
+        Ok(LoopbackRun {
+            server,
+            port,
+            terminals: idle_terminals(rt.alloc())?,
+            turns: turns.get(),
+        })
+    }
+
     /// One turn of the server, and one of each terminal. Answers whether a byte was read or written, or the host acted.
     fn turn(&mut self) -> Result<bool, Fault> {
         self.port.poll(poll_timeout(false), self.server.now())?;
@@ -58,7 +68,7 @@ impl LoopbackRun {
     /// Connects an idle terminal, which requests this LU, if one is given.
     fn connect(
         &mut self,
-        net: &impl Net,
+        rt: &HostRuntime,
         terminal: usize,
         wanted: Option<Lu>,
     ) -> Result<Stepped, Fault> {
@@ -68,7 +78,7 @@ impl LoopbackRun {
         let Ok(address) = self.port.address() else {
             return Err(Fault::SocketFailed);
         };
-        let Ok(mut socket) = TcpStream::connect(net, address) else {
+        let Ok(mut socket) = TcpStream::connect(rt, address) else {
             return Err(Fault::SocketFailed);
         };
         // As in the server: if one of these calls fails, the socket is used anyway.
@@ -120,16 +130,17 @@ impl LoopbackRun {
         Ok(Stepped::Skipped)
     }
 
-    /// Takes an event, unless it is skipped. None if scripts over sockets don't have this event: there the sockets
-    /// deliver bytes and losses.
-    fn happen(&mut self, net: &impl Net, event: &Event) -> Result<Option<Stepped>, Fault> {
+    /// Takes an event, unless it is skipped, and adds the answer. False if scripts over sockets don't have this event:
+    /// there the sockets deliver bytes and losses.
+    fn happen(&mut self, rt: &HostRuntime, event: &Event, text: &mut String) -> Result<bool, Fault> {
         let stepped = match event {
-            Event::Connect(terminal, wanted) => self.connect(net, *terminal, *wanted)?,
+            Event::Connect(terminal, wanted) => self.connect(rt, *terminal, *wanted)?,
             Event::Key(terminal, key) => self.press(*terminal, *key)?,
             Event::Lose(conn) => self.lose(*conn)?,
-            _ => return Ok(None),
+            _ => return Ok(false),
         };
-        Ok(Some(stepped))
+        put_answer(text, stepped)?;
+        Ok(true)
     }
 
     /// Hands the host an answer to the open question of a connection.
@@ -145,65 +156,74 @@ impl LoopbackRun {
         }
     }
 
+    /// Answers the open question of a connection as a line says, and adds the outcome. False if the line is invalid.
+    fn answer_by_line(
+        &mut self,
+        alloc: Global,
+        conn: usize,
+        line: &str,
+        text: &mut String,
+    ) -> Result<bool, Fault> {
+        match answer_in(alloc, self.server.host().panels(), typed_text(line))? {
+            Some(answer) => {
+                put_answer(text, self.answer(conn, &answer)?)?;
+                Ok(true)
+            }
+            None => Ok(false),
+        }
+    }
+
+    /// Adds the open question of a connection.
+    fn put_question(
+        &self,
+        alloc: Global,
+        conn: usize,
+        text: &mut String,
+    ) -> Result<(), AllocError> {
+        let host = self.server.host();
+        let question = question_on(host, conn)?;
+        put_question(alloc, text, host.panels(), &question)
+    }
+
     /// Executes a command, and adds its output. False if its line is invalid, or if scripts over sockets don't have
     /// this command.
     fn play_line(
         &mut self,
-        net: &impl Net,
-        alloc: Global,
-        command: ScriptCommand,
+        rt: &HostRuntime,
+        command: &ScriptCommand,
         line: &str,
         text: &mut String,
     ) -> Result<bool, Fault> {
         match command {
             ScriptCommand::Nothing => {}
-            ScriptCommand::Happen(event) => {
-                let Some(stepped) = self.happen(net, &event)? else {
-                    return Ok(false);
-                };
-                put_answer(text, stepped)?;
-            }
+            ScriptCommand::Happen(event) => return self.happen(rt, event, text),
             ScriptCommand::TypeText(terminal) => {
-                self.type_text(terminal, typed_text(line), text)?;
+                self.type_text(*terminal, typed_text(line), text)?;
             }
             ScriptCommand::Answer(conn) => {
-                let Some(answer) = answer_in(alloc, self.server.host().panels(), typed_text(line))?
-                else {
-                    return Ok(false);
-                };
-                let stepped = self.answer(conn, &answer)?;
-                put_answer(text, stepped)?;
+                return self.answer_by_line(rt.alloc(), *conn, line, text);
             }
             ScriptCommand::Settle => self.run_until_idle()?,
             ScriptCommand::Show(terminal) => {
-                if let Some(at) = self.terminals.get(terminal) {
-                    put_display(alloc, &at.terminal, text)?;
+                if let Some(at) = self.terminals.get(*terminal) {
+                    put_display(rt.alloc(), &at.terminal, text)?;
                 }
             }
             ScriptCommand::Status(terminal) => {
-                if let Some(at) = self.terminals.get(terminal) {
+                if let Some(at) = self.terminals.get(*terminal) {
                     put_phase(&at.terminal, text)?;
                 }
             }
-            ScriptCommand::Question(conn) => {
-                let question = question_on(self.server.host(), conn)?;
-                put_question(alloc, text, self.server.host().panels(), &question)?;
-            }
+            ScriptCommand::Question(conn) => self.put_question(rt.alloc(), *conn, text)?,
         }
         Ok(true)
     }
 
     /// Executes the commands of a script, one in each line, and adds their output.
-    fn play(
-        &mut self,
-        net: &impl Net,
-        alloc: Global,
-        script: &str,
-        text: &mut String,
-    ) -> Result<(), Fault> {
+    fn play(&mut self, rt: &HostRuntime, script: &str, text: &mut String) -> Result<(), Fault> {
         for (index, line) in script.split_terminator('\n').enumerate() {
             let understood = match command_in_range(line) {
-                Some(command) => self.play_line(net, alloc, command, line, text)?,
+                Some(command) => self.play_line(rt, &command, line, text)?,
                 None => false,
             };
             if !understood {
@@ -216,14 +236,13 @@ impl LoopbackRun {
 
 /// Plays a script, and writes its output, even if it ends early. Writes nothing if memory is refused.
 fn play_and_write<O: Sink>(
-    net: &impl Net,
-    alloc: Global,
+    rt: &HostRuntime,
     run: &mut LoopbackRun,
     script: &str,
     out: &mut O,
 ) -> Result<(), Fault> {
-    let mut text = String::new(alloc);
-    let ending = run.play(net, alloc, script, &mut text);
+    let mut text = String::new(rt.alloc());
+    let ending = run.play(rt, script, &mut text);
     if let Err(Fault::NoMemory) = ending {
         return ending;
     }
@@ -234,23 +253,16 @@ fn play_and_write<O: Sink>(
 }
 
 /// Plays the script of the input, with a server on any free port of 127.0.0.1.
-fn selfrun<N: Net, I: Source, O: Sink>(
-    net: &N,
-    alloc: Global,
+fn selfrun<I: Source, O: Sink>(
+    rt: &HostRuntime,
     turns: Turns,
     input: &mut I,
     out: &mut O,
 ) -> Result<(), Fault> {
-    let input = read_whole(alloc, input)?;
+    let input = read_whole(rt.alloc(), input)?;
     let (panels, script) = parted(input.as_str());
-    let (server, port) = server_of(net, alloc, panels, 0)?;
-    let mut run = LoopbackRun {
-        server,
-        port,
-        terminals: idle_terminals(alloc)?,
-        turns: turns.get(),
-    };
-    play_and_write(net, alloc, &mut run, script, out)
+    let mut run = LoopbackRun::new(rt, panels, turns)?;
+    play_and_write(rt, &mut run, script, out)
 }
 
 /// Plays a script like [`run_script`](scripts::run_script), but with loopback sockets between the host and the
@@ -261,15 +273,14 @@ fn selfrun<N: Net, I: Source, O: Sink>(
 ///
 /// Returns the exit status: 0 if the whole page was printed; 1, 3 and 6 as `script` does; 4 if the system can't open or
 /// connect a socket; 5 if no turns are left, after the output so far.
-pub fn run_selfrun<N: Net, I: Source, O: Sink, E: Sink>(
-    net: &N,
-    alloc: Global,
+pub fn run_selfrun<I: Source, O: Sink, E: Sink>(
+    rt: &HostRuntime,
     turns: Turns,
     input: &mut I,
     out: &mut O,
     faults: &mut E,
 ) -> u8 {
-    match selfrun(net, alloc, turns, input, out) {
+    match selfrun(rt, turns, input, out) {
         Ok(()) => 0,
         Err(fault) => report_and_exit_code(fault, faults),
     }

@@ -14,7 +14,7 @@ use server::{Server, ServerPort, Watcher};
 use service_events::Notice;
 use std::alloc::{AllocError, Global};
 use std::io;
-use std::net::{Net, SocketAddr};
+use std::net::SocketAddr;
 
 /// The poll token of all exchanges. No connection, the listener nor the metrics port has this token.
 const EXCHANGE_TOKEN: usize = MOST_CONNECTIONS + 3;
@@ -46,8 +46,8 @@ enum Outcome {
 
 /// A server with its watcher, and the endpoint of the application.
 #[derive(Drop)]
-struct Watched<'a, N, W> {
-    net: &'a N,
+struct Watched<'a, W> {
+    rt: &'a HostRuntime,
     address: SocketAddr,
     server: &'a mut Server<TcpStream>,
     port: &'a ServerPort,
@@ -55,7 +55,7 @@ struct Watched<'a, N, W> {
     outcome: Outcome,
 }
 
-impl<N: Net, W: Watcher> AskingServer for Watched<'_, N, W> {
+impl<W: Watcher> AskingServer for Watched<'_, W> {
     ghost use Rattle.std.specs.Prelude.{◌≡◌, ⊤};
     ghost use Rattle.server.specs.Hosts.{host_at};
     ghost use Rattle.server.specs.HostAnswers.{AsksHost, HandsAnswer, HearsFault, HearsReply, TakesEnd, client_at, ended_if};
@@ -89,7 +89,7 @@ impl<N: Net, W: Watcher> AskingServer for Watched<'_, N, W> {
     }
 
     fn connect(&self) -> io::Result<TcpStream> {
-        let mut socket = TcpStream::connect(self.net, self.address)?;
+        let mut socket = TcpStream::connect(self.rt, self.address)?;
         // If one of these calls fails, the stream is used anyway, with some delay.
         let _ = socket.set_nodelay(true);
         let _ = self.port.register(&mut socket, EXCHANGE_TOKEN);
@@ -162,24 +162,24 @@ impl Application {
 
     /// Takes a turn of the exchange and the notification of each connection. Answers whether a byte was read or
     /// written, or the host answered. NoMemory if memory is refused; any fault of the watcher is returned.
-    pub(crate) fn turn<N: Net, W: Watcher>(
+    pub(crate) fn turn<W: Watcher>(
         &mut self,
-        net: &N,
+        rt: &HostRuntime,
         server: &mut Server<TcpStream>,
         port: &ServerPort,
         watcher: &mut W,
     ) -> Result<bool, Fault> {
         let mut moved = false;
         for conn in 0..MOST_CONNECTIONS {
-            moved |= self.serve(net, server, port, conn, watcher)?;
+            moved |= self.serve(rt, server, port, conn, watcher)?;
         }
         Ok(moved)
     }
 
     /// Takes a turn of one connection's exchange, and one of its notification.
-    fn serve<N: Net, W: Watcher>(
+    fn serve<W: Watcher>(
         &mut self,
-        net: &N,
+        rt: &HostRuntime,
         server: &mut Server<TcpStream>,
         port: &ServerPort,
         conn: usize,
@@ -197,7 +197,7 @@ impl Application {
         };
         let has_operator = server.is_connected(conn);
         let mut watched = Watched {
-            net,
+            rt,
             address: self.endpoint.address(),
             server,
             port,

@@ -1,6 +1,7 @@
 //! The control socket of a service: a Unix socket at which operators command it.
 use crate::clients::{Clients, MOST_ACCEPTED, Request, Responder};
-use crate::reload::{PanelSource, Refusal, host_again};
+use crate::options::ServeOptions;
+use crate::reload::{Refusal, host_again};
 use host_core::{Host, MOST_CONNECTIONS};
 use jobs::Fault;
 use mio::net::{TcpStream, UnixListener, UnixStream};
@@ -9,9 +10,8 @@ use service_events::{Commanded, Notice, PanelCounts};
 use service_wire::{Answer, COMMAND_LIMIT, Command, LineBuffer, LineFault, Recipient, Status};
 use std::alloc::{AllocError, Global};
 use std::fmt::Display;
-use std::fs::{self, Files, Permissions};
+use std::fs::{self, Permissions};
 use std::io::{self, ErrorKind};
-use std::net::Net;
 use std::os::unix::fs::{FileTypeExt, PermissionsExt};
 
 /// The poll token of the socket and of its clients.
@@ -31,10 +31,9 @@ impl Request for LineBuffer {
 
 /// A service that operators command.
 #[derive(Drop)]
-pub(crate) struct Commanding<'a, 'x, R, W> {
-    pub(crate) rt: &'x R,
-    pub(crate) alloc: Global,
-    pub(crate) source: PanelSource<'x>,
+pub(crate) struct Commanding<'a, W> {
+    pub(crate) rt: &'a HostRuntime,
+    pub(crate) options: ServeOptions<'a>,
     pub(crate) orders: &'a mut Orders,
     pub(crate) server: &'a mut Server<TcpStream>,
     pub(crate) port: &'a mut ServerPort,
@@ -99,7 +98,7 @@ fn sessions_of(alloc: Global, server: &Server<TcpStream>) -> Result<String, Allo
     format!(in alloc; "sessions={count}{rows}")
 }
 
-impl<R: Files, W: Watcher> Commanding<'_, '_, R, W> {
+impl<W: Watcher> Commanding<'_, W> {
     /// Serves new sessions by a host, and reports that. Returns how much its panels define.
     fn serve_by(&mut self, host: Host) -> Result<Result<PanelCounts, Refusal>, Fault> {
         let counts = PanelCounts {
@@ -115,15 +114,15 @@ impl<R: Files, W: Watcher> Commanding<'_, '_, R, W> {
 
     /// Reads the panels again. Returns the line of the answer.
     fn reload(&mut self) -> Result<String, Fault> {
-        let outcome = match host_again(self.rt, self.alloc, self.source) {
+        let outcome = match host_again(self.rt, self.options) {
             Ok(host) => self.serve_by(host)?,
             Err(refusal) => Err(refusal),
         };
         let notice = Notice::Commanded(commanded(&Command::Reload, outcome.is_ok()));
         self.watcher.notice(&notice)?;
         Ok(match outcome {
-            Ok(counts) => line_of(self.alloc, true, format_args!("reloaded: {counts}"))?,
-            Err(refusal) => line_of(self.alloc, false, refusal)?,
+            Ok(counts) => line_of(self.rt.alloc(), true, format_args!("reloaded: {counts}"))?,
+            Err(refusal) => line_of(self.rt.alloc(), false, refusal)?,
         })
     }
 
@@ -141,10 +140,10 @@ impl<R: Files, W: Watcher> Commanding<'_, '_, R, W> {
         self.watcher.notice(&notice)?;
         Ok(match command {
             Command::Sessions => {
-                let text = sessions_of(self.alloc, self.server)?;
-                line_of(self.alloc, done, text.as_str())?
+                let text = sessions_of(self.rt.alloc(), self.server)?;
+                line_of(self.rt.alloc(), done, text.as_str())?
             }
-            _ => line_of(self.alloc, done, text_of(command, done))?,
+            _ => line_of(self.rt.alloc(), done, text_of(command, done))?,
         })
     }
 
@@ -156,11 +155,11 @@ impl<R: Files, W: Watcher> Commanding<'_, '_, R, W> {
             done: false,
         });
         self.watcher.notice(&notice)?;
-        Ok(line_of(self.alloc, false, why)?)
+        Ok(line_of(self.rt.alloc(), false, why)?)
     }
 }
 
-impl<R: Files, W: Watcher> Responder<LineBuffer> for Commanding<'_, '_, R, W> {
+impl<W: Watcher> Responder<LineBuffer> for Commanding<'_, W> {
     fn answer(&mut self, line: &mut LineBuffer, bytes: &[u8]) -> Result<Option<String>, Fault> {
         line.push(bytes);
         let command = match line.line() {
@@ -176,7 +175,7 @@ impl<R: Files, W: Watcher> Responder<LineBuffer> for Commanding<'_, '_, R, W> {
 }
 
 /// Removes a socket at which no service listens any more, as one that was killed leaves it.
-fn remove_stale<R: Files + Net>(rt: &R, name: &str) {
+fn remove_stale(rt: &HostRuntime, name: &str) {
     let is_socket = match fs::symlink_metadata(rt, name) {
         Ok(metadata) => metadata.file_type().is_socket(),
         Err(_) => false,
@@ -194,11 +193,7 @@ fn remove_stale<R: Files + Net>(rt: &R, name: &str) {
 
 /// Makes the socket with this file name, which only the owner can connect to, and listens there. Whoever connected
 /// before the file had its mode is dropped. An error of the system's kind if that fails.
-pub(crate) fn listen<R: Files + Net>(
-    rt: &R,
-    alloc: Global,
-    name: &str,
-) -> io::Result<ControlSocket> {
+pub(crate) fn listen(rt: &HostRuntime, name: &str) -> io::Result<ControlSocket> {
     remove_stale(rt, name);
     let listener = UnixListener::bind(rt, name)?;
     fs::set_permissions(rt, name, Permissions::from_mode(MODE))?;
@@ -207,5 +202,5 @@ pub(crate) fn listen<R: Files + Net>(
             break;
         }
     }
-    Ok(Clients::new(alloc, listener, TOKEN))
+    Ok(Clients::new(rt.alloc(), listener, TOKEN))
 }

@@ -14,12 +14,13 @@ mod control_socket;
 mod log;
 mod metered;
 mod metrics_port;
+mod options;
 mod reload;
 mod serving;
 mod session_page;
 mod tell;
 mod uptime;
 
-pub use log::Log;
+pub use options::ServeOptions;
 pub use serving::{run_host, run_serve, server_of};
 pub use tell::run_tell;

@@ -6,31 +6,27 @@ use jobs::{Fault, Sink};
 use mio::net::TcpStream;
 use server::{Server, ServerPort, Watcher};
 use service_events::{Client, Notice};
-use std::alloc::{AllocError, Global};
+use std::alloc::AllocError;
 use std::fmt::Display;
-use std::time::Clock;
 
 /// Writes each notice as a line that begins with the time, unless `quiet` is set; a question and its answer have no
 /// line. NoMemory if memory is refused; a line that can't be written is left out.
 #[derive(Drop)]
-pub struct Log<'a, C, E> {
-    /// The clock for the time of each line.
-    pub clock: &'a C,
-    /// The allocator for each line.
-    pub alloc: Global,
+pub(crate) struct Log<'a, E> {
+    pub(crate) rt: &'a HostRuntime,
     /// Where the lines are written.
-    pub lines: &'a mut E,
+    pub(crate) lines: &'a mut E,
     /// Whether no line is written.
-    pub quiet: bool,
+    pub(crate) quiet: bool,
 }
 
 /// The capacity that is reserved for a line of the usual length, in bytes.
 const LINE_ROOM: usize = 256;
 
-impl<C: Clock, E: Sink> Log<'_, C, E> {
+impl<E: Sink> Log<'_, E> {
     /// Adds the start of an event's line: the time in UTC, in whole seconds (RFC 3339); `unknown` if the clock fails.
     fn put_time(&self, line: &mut String) -> Result<(), AllocError> {
-        match Timestamp::now(self.clock) {
+        match Timestamp::now(self.rt) {
             Ok(now) => write!(line, "time={now:.0} "),
             Err(_) => line.push_str("time=unknown "),
         }
@@ -42,7 +38,7 @@ impl<C: Clock, E: Sink> Log<'_, C, E> {
         if self.quiet {
             return Ok(());
         }
-        let mut line = String::with_capacity(self.alloc, LINE_ROOM)?;
+        let mut line = String::with_capacity(self.rt.alloc(), LINE_ROOM)?;
         if is_timed {
             self.put_time(&mut line)?;
         }
@@ -52,7 +48,7 @@ impl<C: Clock, E: Sink> Log<'_, C, E> {
     }
 }
 
-impl<C: Clock, E: Sink> Watcher for Log<'_, C, E> {
+impl<E: Sink> Watcher for Log<'_, E> {
     ghost noticed = { λ _ _ _ _. Unit {0} };
 
     ghost showed = { λ _ _ _ _ _. Unit {0} };

@@ -10,9 +10,6 @@ use jobs::{Fault, ServicePort};
 use mio::net::TcpStream;
 use server::{Server, ServerPort, Watcher};
 use service_events::{Client, Metrics, MetricsPage, Notice};
-use std::alloc::Global;
-use std::net::Net;
-use std::time::Clock;
 
 /// Counts notices and screens, serves the counts at a port of 127.0.0.1, and passes each call on to another watcher.
 #[derive(Drop)]
@@ -25,8 +22,7 @@ pub(crate) struct MetricsObserver<'a, W> {
 impl<'a, W: Watcher> MetricsObserver<'a, W> {
     /// Nothing is counted yet. CannotListen if the system can't listen on the port.
     pub(crate) fn new(
-        rt: &(impl Net + Clock),
-        alloc: Global,
+        rt: &HostRuntime,
         polled: &ServerPort,
         port: ServicePort,
         version: &'static str,
@@ -37,7 +33,7 @@ impl<'a, W: Watcher> MetricsObserver<'a, W> {
             version,
             started: Timestamp::now(rt).ok().map(|now| now.as_second()),
         };
-        let mut port = listen(rt, alloc, port)?;
+        let mut port = listen(rt, port)?;
         port.register(polled);
         Ok(MetricsObserver {
             watcher,

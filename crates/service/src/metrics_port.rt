@@ -7,7 +7,7 @@ use mio::net::{TcpListener, TcpStream};
 use server::Server;
 use service_events::{HttpStatus, MetricsPage, RequestHead, Resource, response_of};
 use std::alloc::{AllocError, Global};
-use std::net::{Ipv4Addr, Net, SocketAddr};
+use std::net::{Ipv4Addr, SocketAddr};
 
 /// The poll token of the port and of its clients.
 const TOKEN: usize = MOST_CONNECTIONS + 1;
@@ -78,14 +78,10 @@ impl Responder<RequestHead> for Served<'_> {
 }
 
 /// Listens on the port. CannotListen if the system refuses that.
-pub(crate) fn listen(
-    net: &impl Net,
-    alloc: Global,
-    port: ServicePort,
-) -> Result<MetricsPort, Fault> {
+pub(crate) fn listen(rt: &HostRuntime, port: ServicePort) -> Result<MetricsPort, Fault> {
     let address = SocketAddr::from((Ipv4Addr::LOCALHOST, port.get()));
-    match TcpListener::bind(net, address) {
-        Ok(listener) => Ok(Clients::new(alloc, listener, TOKEN)),
+    match TcpListener::bind(rt, address) {
+        Ok(listener) => Ok(Clients::new(rt.alloc(), listener, TOKEN)),
         Err(error) => Err(Fault::CannotListen(address, error.kind())),
     }
 }

@@ -1,27 +1,17 @@
 //! Reading the panels again while a service runs.
+use crate::options::ServeOptions;
 use applications::{AskedKey, JobWithoutApplication, first_asked, host_of};
-use host_core::{Host, PanelSet, Terminals};
+use host_core::{Host, PanelSet};
 use jobs::{CountedReader, Fault, read_whole};
 use server::ReloadFault;
 use service_wire::ANSWER_LIMIT;
 use std::alloc::{AllocError, Global};
 use std::fmt;
-use std::fs::{File, Files, OpenFile};
+use std::fs::File;
 use std::io::{self, ErrorKind};
 
 /// The most bytes of the findings in an answer: the rest of its line has the status, and how much is left out.
 const MOST_FINDINGS: usize = ANSWER_LIMIT - 128;
-
-/// Where a service has its panels from, and what they are for.
-#[derive(Clone, Copy)]
-pub(crate) struct PanelSource<'a> {
-    /// The file's name; None if they came from the standard input.
-    pub(crate) file: Option<&'a str>,
-    /// The terminals that connect.
-    pub(crate) terminals: Terminals,
-    /// Whether the service has an application.
-    pub(crate) has_application: bool,
-}
 
 /// Why panels aren't served. Prints as the text of the answer.
 #[derive(Drop)]
@@ -74,7 +64,7 @@ impl fmt::Display for Refusal {
 }
 
 /// Opens a file for reading. A directory is refused.
-fn open<R: Files>(rt: &R, name: &str) -> io::Result<R::File> {
+fn open(rt: &HostRuntime, name: &str) -> io::Result<File> {
     let file = File::open(rt, name)?;
     if file.metadata()?.is_dir() {
         return Err(ErrorKind::IsADirectory.into());
@@ -114,7 +104,8 @@ fn refusal_of(alloc: Global, name: &str, text: &str, fault: Fault) -> Result<Str
 }
 
 /// The text that a file has now.
-fn text_of<R: Files>(rt: &R, alloc: Global, name: &str) -> Result<String, Refusal> {
+fn text_of(rt: &HostRuntime, name: &str) -> Result<String, Refusal> {
+    let alloc = rt.alloc();
     let file = match open(rt, name) {
         Ok(file) => file,
         Err(error) => return Err(Refusal::NotOpened(error.kind())),
@@ -127,8 +118,12 @@ fn text_of<R: Files>(rt: &R, alloc: Global, name: &str) -> Result<String, Refusa
 }
 
 /// Refuses panels that ask an application if there is none.
-fn refuse_asking(alloc: Global, source: PanelSource<'_>, panels: &PanelSet) -> Result<(), Refusal> {
-    if source.has_application {
+fn refuse_asking(
+    alloc: Global,
+    options: ServeOptions<'_>,
+    panels: &PanelSet,
+) -> Result<(), Refusal> {
+    if options.has_application() {
         return Ok(());
     }
     match first_asked(panels) {
@@ -144,13 +139,13 @@ fn refuse_asking(alloc: Global, source: PanelSource<'_>, panels: &PanelSet) -> R
 /// A host of the panels that a text defines; `name` is the text's in reports.
 fn host_of_text(
     alloc: Global,
-    source: PanelSource<'_>,
+    options: ServeOptions<'_>,
     name: &str,
     text: &str,
 ) -> Result<Host, Refusal> {
-    match host_of(alloc, source.terminals, text) {
+    match host_of(alloc, options.service.terminals, text) {
         Ok(host) => {
-            refuse_asking(alloc, source, host.panels())?;
+            refuse_asking(alloc, options, host.panels())?;
             Ok(host)
         }
         Err(Fault::NoMemory) => Err(Refusal::Memory),
@@ -159,14 +154,10 @@ fn host_of_text(
 }
 
 /// A host of the panels that the file has now.
-pub(crate) fn host_again<R: Files>(
-    rt: &R,
-    alloc: Global,
-    source: PanelSource<'_>,
-) -> Result<Host, Refusal> {
-    let Some(name) = source.file else {
+pub(crate) fn host_again(rt: &HostRuntime, options: ServeOptions<'_>) -> Result<Host, Refusal> {
+    let Some(name) = options.file else {
         return Err(Refusal::StandardInput);
     };
-    let text = text_of(rt, alloc, name)?;
-    host_of_text(alloc, source, name, text.as_str())
+    let text = text_of(rt, name)?;
+    host_of_text(rt.alloc(), options, name, text.as_str())
 }

@@ -7,14 +7,14 @@ use crate::application::Application;
 use crate::control_socket::{self, Commanding, ControlSocket};
 use crate::log::Log;
 use crate::metered::MetricsObserver;
-use crate::reload::PanelSource;
+use crate::options::ServeOptions;
 use crate::uptime::Uptime;
 use application_http::{Endpoint, EndpointFault};
 use applications::{JobWithoutApplication, draw_boot, first_asked, host_of, refuse_asking};
 use host_core::{Host, PanelSet, Terminals};
 use jobs::{
-    ApplicationChoice, ControlChoice, Fault, Port, RawRead, RawWrite, Seconds, Service, Sink,
-    Source, TimeLimits, Turns, poll_timeout, read_whole, report_and_exit_code,
+    ApplicationChoice, ControlChoice, Fault, Port, RawRead, RawWrite, Seconds, Sink, Source,
+    TimeLimits, Turns, poll_timeout, read_whole, report_and_exit_code,
 };
 use mio::net::TcpStream;
 use server::{
@@ -23,34 +23,31 @@ use server::{
 };
 use service_events::Notice;
 use std::alloc::Global;
-use std::fs::{self, Files};
+use std::fs;
 use std::io::{self, ErrorKind};
-use std::net::{Ipv4Addr, Net, SocketAddr};
-use std::random::RandomSource;
-use std::time::{Clock, Instant};
+use std::net::{Ipv4Addr, SocketAddr};
+use std::time::Instant;
 
 /// A server for the host of a panel text, and its port, of 127.0.0.1. The system picks a free port if `port` is 0.
 pub fn server_of(
-    net: &impl Net,
-    alloc: Global,
+    rt: &HostRuntime,
     panels: &str,
     port: u16,
 ) -> Result<(Server<TcpStream>, ServerPort), Fault> {
-    let host = host_of(alloc, Terminals::Waiting, panels)?;
-    server_at(net, alloc, host, port)
+    let host = host_of(rt.alloc(), Terminals::Waiting, panels)?;
+    server_at(rt, host, port)
 }
 
 /// A server of a host, and its port, of 127.0.0.1. The system picks a free port if `port` is 0.
 fn server_at(
-    net: &impl Net,
-    alloc: Global,
+    rt: &HostRuntime,
     host: Host,
     port: u16,
 ) -> Result<(Server<TcpStream>, ServerPort), Fault> {
     let address = SocketAddr::from((Ipv4Addr::LOCALHOST, port));
     // Its session names are not shown: it has neither a log nor an application.
-    let server = Server::new(alloc, host, 0)?;
-    match ServerPort::listen(net, alloc, address) {
+    let server = Server::new(rt.alloc(), host, 0)?;
+    match ServerPort::listen(rt, rt.alloc(), address) {
         Ok(port) => Ok((server, port)),
         Err(Fault::CannotListen(_, _)) => Err(Fault::SocketFailed),
         Err(fault) => Err(fault),
@@ -64,14 +61,8 @@ fn read_host<I: Source>(alloc: Global, input: &mut I) -> Result<Host, Fault> {
 }
 
 /// Serves a host for this number of turns, and returns the fault that ended that.
-fn serve_host<N: Net>(
-    net: &N,
-    alloc: Global,
-    host: Host,
-    port: Port,
-    turns: Turns,
-) -> Result<(), Fault> {
-    let (mut server, mut port) = server_at(net, alloc, host, port.get())?;
+fn serve_host(rt: &HostRuntime, host: Host, port: Port, turns: Turns) -> Result<(), Fault> {
+    let (mut server, mut port) = server_at(rt, host, port.get())?;
     let mut moved = false;
     for _ in 0..turns.get() {
         port.poll(poll_timeout(moved), server.now())?;
@@ -86,18 +77,17 @@ fn serve_host<N: Net>(
 /// Returns the exit status: 5 if the turns are used up; 1 if the input can't be read (as by [`read_whole`]), if it
 /// defines no panels, or if their LUs are no pool; 2 if a panel asks an application about a key, since there is none; 3
 /// if memory is refused; 4 if the system refuses a socket, such as for a port in use.
-pub fn run_host<N: Net, I: Source, E: Sink>(
-    net: &N,
-    alloc: Global,
+pub fn run_host<I: Source, E: Sink>(
+    rt: &HostRuntime,
     port: Port,
     turns: Turns,
     input: &mut I,
     faults: &mut E,
 ) -> u8 {
-    match read_host(alloc, input) {
+    match read_host(rt.alloc(), input) {
         Ok(host) => match first_asked(host.panels()) {
             Some((panel, key)) => refuse_asking(panel, key, JobWithoutApplication::Host, faults),
-            None => match serve_host(net, alloc, host, port, turns) {
+            None => match serve_host(rt, host, port, turns) {
                 Ok(()) => 0,
                 Err(fault) => report_and_exit_code(fault, faults),
             },
@@ -112,13 +102,9 @@ pub fn run_host<N: Net, I: Source, E: Sink>(
 const STANDARD_INPUT: &str = "standard input";
 
 /// A server of a host, with session names that no other start of the host uses.
-fn server_with_names<R: RandomSource>(
-    rt: &R,
-    alloc: Global,
-    host: Host,
-) -> Result<Server<TcpStream>, Fault> {
+fn server_with_names(rt: &HostRuntime, host: Host) -> Result<Server<TcpStream>, Fault> {
     match draw_boot(rt) {
-        Ok(boot) => Ok(Server::new(alloc, host, boot)?),
+        Ok(boot) => Ok(Server::new(rt.alloc(), host, boot)?),
         Err(_) => Err(Fault::NotRandom),
     }
 }
@@ -161,21 +147,31 @@ fn refuse_socket<E: Sink>(name: &str, why: ErrorKind, faults: &mut E) -> u8 {
     4
 }
 
-/// The chosen control socket, if there is one.
-fn control_of<R: Files + Net>(
-    rt: &R,
-    alloc: Global,
+/// Makes the control socket with this file name.
+fn control_at(rt: &HostRuntime, name: &str, drain: Seconds) -> io::Result<Control> {
+    let orders = Orders::new(rt.alloc())?;
+    let socket = control_socket::listen(rt, name)?;
+    Ok(Control {
+        socket,
+        orders,
+        drain,
+    })
+}
+
+/// The chosen control socket, if there is one. Prints why it can't be made; Err is then the exit status.
+fn control_of<E: Sink>(
+    rt: &HostRuntime,
     choice: &ControlChoice<'_>,
-) -> io::Result<Option<Control>> {
-    let Some(name) = &choice.socket else {
+    faults: &mut E,
+) -> Result<Option<Control>, u8> {
+    let Some(socket) = &choice.socket else {
         return Ok(None);
     };
-    let orders = Orders::new(alloc)?;
-    Ok(Some(Control {
-        socket: control_socket::listen(rt, alloc, name.as_str())?,
-        orders,
-        drain: choice.drain,
-    }))
+    let name = socket.as_str();
+    match control_at(rt, name, choice.drain) {
+        Ok(control) => Ok(Some(control)),
+        Err(error) => Err(refuse_socket(name, error.kind(), faults)),
+    }
 }
 
 /// A server and its port, the application that its host asks, and how operators command it.
@@ -189,11 +185,11 @@ struct Serving {
 
 impl Serving {
     /// Does what operators command, and sends the notes that can be sent. Answers whether it did something.
-    fn obey<'x, R: Files, W: Watcher>(
+    fn obey<W: Watcher>(
         &mut self,
-        rt: &'x R,
+        rt: &HostRuntime,
+        options: ServeOptions<'_>,
         now: u64,
-        source: PanelSource<'x>,
         watcher: &mut W,
     ) -> Result<bool, Fault> {
         let Some(control) = &mut self.control else {
@@ -202,8 +198,7 @@ impl Serving {
         control.socket.accept_all(&self.port, now);
         let commanding = Commanding {
             rt,
-            alloc: control.socket.alloc,
-            source,
+            options,
             orders: &mut control.orders,
             server: &mut self.server,
             port: &mut self.port,
@@ -225,53 +220,53 @@ impl Serving {
 
     /// Reports to the watcher that the server listens, and takes a turn for each item of `turns`. Returns the fault
     /// that ended that; Ok if operators did.
-    fn serve_watched<'x, R: Net + Clock + Files, W: Watcher, T: Iterator<Item = ()>>(
+    fn serve_watched<W: Watcher, T: Iterator<Item = ()>>(
         &mut self,
-        rt: &'x R,
+        rt: &HostRuntime,
         turns: T,
-        service: &Service,
-        source: PanelSource<'x>,
-        address: SocketAddr,
+        options: ServeOptions<'_>,
         watcher: &mut W,
     ) -> Result<(), Fault>
         requires can { T.can_next turns }
         requires ends { IsFinite (T.remaining turns) }
     {
-        watcher.notice(&Notice::Listening(address))?;
+        watcher.notice(&Notice::Listening(options.address()))?;
         let mut shift = Shift {
             serving: self,
             rt,
-            source,
-            limits: &service.limits,
+            options,
+            limits: &options.service.limits,
             uptime: Uptime::new(),
             watcher,
         };
         take_turns(&mut shift, turns)
     }
 
-    /// Takes a turn for each item of `turns`, with this log, and with a metrics port if the service has one. Returns
-    /// the fault that ended that; Ok if operators did.
-    fn serve_logged<'x, R: Net + Clock + Files, T: Iterator<Item = ()>, E: Sink>(
+    /// Takes a turn for each item of `turns`, with a log on `faults`, and with a metrics port if the service has one.
+    /// Returns the fault that ended that; Ok if operators did.
+    fn serve_logged<T: Iterator<Item = ()>, E: Sink>(
         &mut self,
-        rt: &'x R,
-        alloc: Global,
+        rt: &HostRuntime,
         turns: T,
-        service: &Service,
-        source: PanelSource<'x>,
-        address: SocketAddr,
-        version: &'static str,
-        mut log: Log<'_, R, E>,
+        options: ServeOptions<'_>,
+        faults: &mut E,
     ) -> Result<(), Fault>
         requires can { T.can_next turns }
         requires ends { IsFinite (T.remaining turns) }
     {
-        let Some(port) = service.metrics else {
-            return self.serve_watched(rt, turns, service, source, address, &mut log);
+        let ServeOptions {
+            service, version, ..
+        } = options;
+        let mut log = Log {
+            rt,
+            lines: faults,
+            quiet: service.quiet,
         };
-        match MetricsObserver::new(rt, alloc, &self.port, port, version, &mut log) {
-            Ok(mut metered) => {
-                self.serve_watched(rt, turns, service, source, address, &mut metered)
-            }
+        let Some(port) = service.metrics else {
+            return self.serve_watched(rt, turns, options, &mut log);
+        };
+        match MetricsObserver::new(rt, &self.port, port, version, &mut log) {
+            Ok(mut metered) => self.serve_watched(rt, turns, options, &mut metered),
             Err(fault) => Err(fault),
         }
     }
@@ -279,16 +274,16 @@ impl Serving {
 
 /// A server with its application, the clock, the time limits, and the watcher that logs.
 #[derive(Drop)]
-struct Shift<'a, R, W> {
+struct Shift<'a, W> {
     serving: &'a mut Serving,
-    rt: &'a R,
-    source: PanelSource<'a>,
+    rt: &'a HostRuntime,
+    options: ServeOptions<'a>,
     limits: &'a TimeLimits,
     uptime: Uptime,
     watcher: &'a mut W,
 }
 
-impl<R: Net + Clock + Files, W: Watcher> TurnParts for Shift<'_, R, W> {
+impl<W: Watcher> TurnParts for Shift<'_, W> {
     ghost use Rattle.std.specs.Prelude.{Bool, Result};
     ghost use Rattle.jobs.specs.declared.fault.Fault.{Fault};
     ghost use Rattle.server.specs.Control.{StopsAt};
@@ -357,8 +352,8 @@ impl<R: Net + Clock + Files, W: Watcher> TurnParts for Shift<'_, R, W> {
     }
 
     fn obey(&mut self) -> Result<bool, Fault> {
-        self.serving
-            .obey(self.rt, self.uptime.millis(), self.source, self.watcher)
+        let now = self.uptime.millis();
+        self.serving.obey(self.rt, self.options, now, self.watcher)
     }
 
     fn tell(&mut self) -> bool {
@@ -391,58 +386,38 @@ fn warn_if_open<E: Sink>(address: SocketAddr, faults: &mut E) {
     }
 }
 
-/// Opens the service's port for a host that no client has connected to yet.
-fn serving_of<R: Net + RandomSource>(
-    rt: &R,
-    alloc: Global,
-    service: &Service,
-    address: SocketAddr,
-    application: Option<Application>,
-    control: Option<Control>,
-    host: Host,
-) -> Result<Serving, Fault> {
-    let mut serving = Serving {
-        server: server_with_names(rt, alloc, host)?,
-        port: ServerPort::listen(rt, alloc, address)?,
-        application,
-        control,
-    };
-    if let Some(control) = &mut serving.control {
-        control.socket.register(&serving.port);
+/// Opens the port of a service, and has it poll the control socket, too.
+fn port_of(
+    rt: &HostRuntime,
+    options: ServeOptions<'_>,
+    control: &mut Option<Control>,
+) -> Result<ServerPort, Fault> {
+    let mut port = ServerPort::listen(rt, rt.alloc(), options.address())?;
+    if let Some(control) = control {
+        control.socket.register(&port);
     }
-    if service.proxy_protocol {
-        serving.port.expect_headers();
+    if options.service.proxy_protocol {
+        port.expect_headers();
     }
-    Ok(serving)
+    Ok(port)
 }
 
-/// Serves a host, a turn for each item of `turns`, with a log on `faults`. Returns the fault that ended that; Ok if
-/// operators did.
-fn serve<'x, R: Net + Clock + RandomSource + Files, T: Iterator<Item = ()>, E: Sink>(
-    rt: &'x R,
-    alloc: Global,
-    turns: T,
-    service: &Service,
-    source: PanelSource<'x>,
+/// Opens the service's port for a host that no client has connected to yet.
+fn serving_of(
+    rt: &HostRuntime,
+    options: ServeOptions<'_>,
     application: Option<Application>,
-    control: Option<Control>,
+    mut control: Option<Control>,
     host: Host,
-    version: &'static str,
-    faults: &mut E,
-) -> Result<(), Fault>
-    requires can { T.can_next turns }
-    requires ends { IsFinite (T.remaining turns) }
-{
-    let address = SocketAddr::new(service.listen, service.port.get());
-    warn_if_open(address, faults);
-    let mut serving = serving_of(rt, alloc, service, address, application, control, host)?;
-    let log = Log {
-        clock: rt,
-        alloc,
-        lines: faults,
-        quiet: service.quiet,
-    };
-    serving.serve_logged(rt, alloc, turns, service, source, address, version, log)
+) -> Result<Serving, Fault> {
+    let server = server_with_names(rt, host)?;
+    let port = port_of(rt, options, &mut control)?;
+    Ok(Serving {
+        server,
+        port,
+        application,
+        control,
+    })
 }
 
 /// Prints why a panel text with this fault is refused, and returns the exit status. Prints all that `check` prints;
@@ -468,12 +443,12 @@ fn refuse_panels<E: Sink>(
 
 /// The exit status if panels ask an application and there is none, which is printed.
 fn refuse_unanswered<E: Sink>(
-    source: PanelSource<'_>,
+    options: ServeOptions<'_>,
     panels: &PanelSet,
     faults: &mut E,
 ) -> Option<u8> {
     match first_asked(panels) {
-        Some((panel, key)) if !source.has_application => Some(refuse_asking(
+        Some((panel, key)) if !options.has_application() => Some(refuse_asking(
             panel,
             key,
             JobWithoutApplication::Serve,
@@ -486,18 +461,18 @@ fn refuse_unanswered<E: Sink>(
 /// The host of the panels of a text. Prints why they are refused; Err is then the exit status.
 fn host_of_text<E: Sink>(
     alloc: Global,
-    source: PanelSource<'_>,
+    options: ServeOptions<'_>,
     text: &str,
     faults: &mut E,
 ) -> Result<Host, u8> {
-    match host_of(alloc, source.terminals, text) {
-        Ok(host) => match refuse_unanswered(source, host.panels(), faults) {
+    match host_of(alloc, options.service.terminals, text) {
+        Ok(host) => match refuse_unanswered(options, host.panels(), faults) {
             Some(status) => Err(status),
             None => Ok(host),
         },
         Err(Fault::NoMemory) => Err(report_and_exit_code(Fault::NoMemory, faults)),
         Err(fault) => {
-            let name = source.file.unwrap_or(STANDARD_INPUT);
+            let name = options.file.unwrap_or(STANDARD_INPUT);
             Err(refuse_panels(alloc, name, text, fault, faults))
         }
     }
@@ -506,55 +481,54 @@ fn host_of_text<E: Sink>(
 /// The host of the panels of the input. Prints why there is none; Err is then the exit status.
 fn host_of_input<I: Source, E: Sink>(
     alloc: Global,
-    source: PanelSource<'_>,
+    options: ServeOptions<'_>,
     input: &mut I,
     faults: &mut E,
 ) -> Result<Host, u8> {
     match read_whole(alloc, input) {
-        Ok(text) => host_of_text(alloc, source, text.as_str(), faults),
+        Ok(text) => host_of_text(alloc, options, text.as_str(), faults),
         Err(fault) => Err(report_and_exit_code(fault, faults)),
     }
 }
 
-/// Serves a host, and makes the control socket for that time, if one is chosen. Returns the exit status.
-fn serve_commanded<'x, R: Net + Clock + RandomSource + Files, T: Iterator<Item = ()>, E: Sink>(
-    rt: &'x R,
-    alloc: Global,
+/// Serves a host, a turn for each item of `turns`, with a log on `faults`. Returns the fault that ended that; Ok if
+/// operators did.
+fn serve<T: Iterator<Item = ()>, E: Sink>(
+    rt: &HostRuntime,
     turns: T,
-    service: &Service,
-    source: PanelSource<'x>,
+    options: ServeOptions<'_>,
     application: Option<Application>,
-    control: &ControlChoice<'_>,
+    control: Option<Control>,
     host: Host,
-    version: &'static str,
+    faults: &mut E,
+) -> Result<(), Fault>
+    requires can { T.can_next turns }
+    requires ends { IsFinite (T.remaining turns) }
+{
+    warn_if_open(options.address(), faults);
+    let mut serving = serving_of(rt, options, application, control, host)?;
+    serving.serve_logged(rt, turns, options, faults)
+}
+
+/// Serves a host, and makes the control socket for that time, if one is chosen. Returns the exit status.
+fn serve_commanded<T: Iterator<Item = ()>, E: Sink>(
+    rt: &HostRuntime,
+    turns: T,
+    options: ServeOptions<'_>,
+    application: Option<Application>,
+    host: Host,
     faults: &mut E,
 ) -> u8
     requires can { T.can_next turns }
     requires ends { IsFinite (T.remaining turns) }
 {
-    let socket = match &control.socket {
-        Some(socket) => socket.as_str(),
-        None => "",
+    let control = match control_of(rt, options.control, faults) {
+        Ok(control) => control,
+        Err(status) => return status,
     };
-    let made = match control_of(rt, alloc, control) {
-        Ok(made) => made,
-        Err(error) => return refuse_socket(socket, error.kind(), faults),
-    };
-    let has_socket = made.is_some();
-    let ended = serve(
-        rt,
-        alloc,
-        turns,
-        service,
-        source,
-        application,
-        made,
-        host,
-        version,
-        faults,
-    );
-    if has_socket {
-        let _ = fs::remove_file(rt, socket);
+    let ended = serve(rt, turns, options, application, control, host, faults);
+    if let Some(socket) = &options.control.socket {
+        let _ = fs::remove_file(rt, socket.as_str());
     }
     match ended {
         Ok(()) => 0,
@@ -570,8 +544,7 @@ fn serve_commanded<'x, R: Net + Clock + RandomSource + Files, T: Iterator<Item =
 ///
 /// If an application is chosen, it is asked about the keys that panels ask about. The log says if it fails to answer.
 ///
-/// If the input has faults as a panel text, prints all of them to `faults`, as `check` does. `file` is the input's
-/// name; None if it is the standard input.
+/// If the input has faults as a panel text, prints all of them to `faults`, as `check` does.
 ///
 /// If a control socket is chosen, operators command the service there (see crate `service_wire`). `reload` reads the file
 /// again. The socket is removed when the service ends. The log has each command.
@@ -580,50 +553,22 @@ fn serve_commanded<'x, R: Net + Clock + RandomSource + Files, T: Iterator<Item =
 /// it defines no panels, or if their LUs are no pool; 2 if the application's URL is invalid, or if no application is
 /// chosen and a panel asks about a key; 3 if memory is refused; 4 if the system can't give random bytes, make the
 /// control socket, listen, or wait for sockets; 5 if `turns` has no more items.
-pub fn run_serve<
-    'x,
-    R: Net + Clock + RandomSource + Files,
-    T: Iterator<Item = ()>,
-    I: Source,
-    E: Sink,
->(
-    rt: &'x R,
-    alloc: Global,
+pub fn run_serve<T: Iterator<Item = ()>, I: Source, E: Sink>(
+    rt: &HostRuntime,
     turns: T,
-    service: &Service,
-    choice: &ApplicationChoice<'_>,
-    control: &ControlChoice<'_>,
-    file: Option<&'x str>,
-    version: &'static str,
+    options: ServeOptions<'_>,
     input: &mut I,
     faults: &mut E,
 ) -> u8
     requires can { T.can_next turns }
     requires ends { IsFinite (T.remaining turns) }
 {
-    let application = match application_of(alloc, choice) {
+    let application = match application_of(rt.alloc(), options.application) {
         Ok(application) => application,
         Err(fault) => return report_and_exit_code(fault, faults),
     };
-    let source = PanelSource {
-        file,
-        terminals: service.terminals,
-        has_application: application.is_some(),
-    };
-    let host = match host_of_input(alloc, source, input, faults) {
-        Ok(host) => host,
-        Err(status) => return status,
-    };
-    serve_commanded(
-        rt,
-        alloc,
-        turns,
-        service,
-        source,
-        application,
-        control,
-        host,
-        version,
-        faults,
-    )
+    match host_of_input(rt.alloc(), options, input, faults) {
+        Ok(host) => serve_commanded(rt, turns, options, application, host, faults),
+        Err(status) => status,
+    }
 }

@@ -9,7 +9,6 @@ use jobs::{
 use service_wire::{ANSWER_LIMIT, Answer, Command, LineBuffer, LineFault, Status};
 use std::alloc::{AllocError, Global};
 use std::io::{self, ErrorKind};
-use std::net::Net;
 use std::os::unix::net::UnixStream;
 use std::time::Duration;
 use thiserror::Error;
@@ -88,8 +87,8 @@ fn command_of(alloc: Global, words: &CommandWords<'_>) -> Result<Command, NoAnsw
 }
 
 /// A connection to a socket, with time limits.
-fn connect(net: &impl Net, socket: &str) -> io::Result<UnixStream> {
-    let stream = UnixStream::connect(net, socket)?;
+fn connect(rt: &HostRuntime, socket: &str) -> io::Result<UnixStream> {
+    let stream = UnixStream::connect(rt, socket)?;
     let patience = Some(Duration::from_secs(PATIENCE));
     stream.set_read_timeout(patience)?;
     stream.set_write_timeout(patience)?;
@@ -117,14 +116,13 @@ fn receive<D: Source>(down: &mut D, line: &mut LineBuffer) -> Result<(), NoAnswe
 
 /// Sends the command, and receives the line of the answer.
 fn exchange(
-    net: &impl Net,
-    alloc: Global,
+    rt: &HostRuntime,
     socket: &str,
     words: &CommandWords<'_>,
 ) -> Result<LineBuffer, NoAnswer> {
-    let command = command_of(alloc, words)?;
-    let mut line = LineBuffer::new(alloc, ANSWER_LIMIT)?;
-    let stream = match connect(net, socket) {
+    let command = command_of(rt.alloc(), words)?;
+    let mut line = LineBuffer::new(rt.alloc(), ANSWER_LIMIT)?;
+    let stream = match connect(rt, socket) {
         Ok(stream) => stream,
         Err(error) => return Err(NoAnswer::CannotConnect(error.kind())),
     };
@@ -157,16 +155,15 @@ fn print_answer<O: Sink, E: Sink>(
 /// Returns the exit status: 0 if the service did it; 1 if it didn't; 2 if the words are no command, and then nothing is
 /// sent; 3 if memory is refused; 4 if the socket can't be connected to, or if a valid answer isn't received in 10
 /// seconds; 6 if the output fails.
-pub fn run_tell<N: Net, O: Sink, E: Sink>(
-    net: &N,
-    alloc: Global,
+pub fn run_tell<O: Sink, E: Sink>(
+    rt: &HostRuntime,
     socket: &Operand<'_>,
     words: &CommandWords<'_>,
     out: &mut O,
     faults: &mut E,
 ) -> u8 {
     let socket = socket.as_str();
-    let answered = match exchange(net, alloc, socket, words) {
+    let answered = match exchange(rt, socket, words) {
         Ok(line) => print_answer(&line, out, faults),
         Err(why) => Err(why),
     };
