@@ -16,9 +16,8 @@ use jobs::{
 };
 use operate::run_operate;
 use scripts::{run_check, run_script, run_show, run_term};
-use service::{ServeOptions, run_host, run_serve, run_tell};
+use service::{ServeOptions, open_panels, run_host, run_serve, run_tell};
 use std::env;
-use std::fs::File;
 use std::io::{self, ErrorKind, IsTerminal, Stdout};
 use std::process::ExitCode;
 use std::sync::Wait;
@@ -34,15 +33,6 @@ const WAITS_FOR_PANELS: &str =
 /// The arguments after the program's name.
 fn given_words(rt: &HostRuntime) -> io::Result<Vec<String>> {
     Ok(env::args(rt)?.skip(1).collect(rt.alloc())?)
-}
-
-/// Opens a file for reading. A directory is refused.
-fn open(rt: &HostRuntime, name: &str) -> io::Result<File> {
-    let file = File::open(rt, name)?;
-    if file.metadata()?.is_dir() {
-        return Err(ErrorKind::IsADirectory.into());
-    }
-    Ok(file)
 }
 
 /// Prints why a file can't be opened, and returns the exit status.
@@ -68,7 +58,7 @@ fn serve<T: Iterator<Item = ()>>(rt: &HostRuntime, turns: T, options: ServeOptio
         let mut input = CountedReader::new(stdin);
         return run_serve(rt, turns, options, &mut input, &mut faults);
     };
-    match open(rt, name) {
+    match open_panels(rt, name) {
         Ok(file) => {
             let mut input = CountedReader::new(file);
             run_serve(rt, turns, options, &mut input, &mut faults)
@@ -92,7 +82,7 @@ fn check(rt: &HostRuntime, file: &Option<Operand<'_>>) -> u8 {
         return run_check(alloc, STANDARD_INPUT, &mut input, &mut out, &mut faults);
     };
     let name = file.as_str();
-    match open(rt, name) {
+    match open_panels(rt, name) {
         Ok(opened) => {
             let mut input = CountedReader::new(opened);
             run_check(alloc, name, &mut input, &mut out, &mut faults)

@@ -1,7 +1,8 @@
 //! What is due on a server's connections after a turn: the time limits, and the ends of finished sessions.
 ghost use Rattle.std.specs.Prelude.{◌≡◌, ◌<◌};
 ghost use Rattle.host_core.specs.State.{most_connections};
-ghost use Rattle.server.specs.TimeTurns.{AppliesAt, AppliesUnless, DoesDue, KeepsTime, due_at, is_finished, nop_sent, sends_nop};
+ghost use Rattle.server.specs.Hosts.{host_at};
+ghost use Rattle.server.specs.TimeTurns.{AppliesAt, AppliesUnless, DoesDue, KeepsTime, awaited_at, due_at, is_finished, nop_sent, sends_nop};
 ghost use Rattle.server.specs.Visits.{VisitsEach};
 
 use crate::connection_info::ConnectionInfo;
@@ -9,7 +10,7 @@ use crate::server::Server;
 use crate::watcher::Watcher;
 use host_core::{Acted, MOST_CONNECTIONS};
 use jobs::{Fault, RawRead, RawWrite, TimeLimits};
-use service_events::{Due, Ending, are_applied, awaited_on};
+use service_events::{Awaited, Due, Ending, are_applied, awaited_on};
 
 impl<S: RawRead + RawWrite + Drop> Server<S> {
     /// Queues IAC NOP (RFC 854) on a bound connection, unless output already waits. Answers whether it did.
@@ -19,6 +20,15 @@ impl<S: RawRead + RawWrite + Drop> Server<S> {
         ensures sent { self.new ≡ nop_sent conn self.old }
     {
         matches!(self.hosts.keep_alive(conn), Acted::Sent)
+    }
+
+    /// What a connection waits for.
+    fn awaited(&self, conn: usize) -> Awaited
+        requires { conn < most_connections }
+        ensures { result ≡ awaited_at conn (host_at conn self.entry.now.hosts) }
+    {
+        let host = self.hosts.at(conn);
+        awaited_on(&host.phase(conn), host.turn(conn), host.pending(conn))
     }
 
     /// Applies the time limits to a connection. Answers whether that did something.
@@ -34,12 +44,7 @@ impl<S: RawRead + RawWrite + Drop> Server<S> {
             watcher.old result self.new watcher.new }
     {
         let (received, sent) = (self.sockets.received(conn), self.sockets.sent(conn));
-        let phase = self.hosts.at(conn).phase(conn);
-        let awaited = awaited_on(
-            &phase,
-            self.hosts.at(conn).turn(conn),
-            self.hosts.at(conn).pending(conn),
-        );
+        let awaited = self.awaited(conn);
         let unanswered = info.activity.is_unanswered(received, sent);
         let mut activity = info.activity;
         activity.hear(received, sent, awaited, self.now);
@@ -55,11 +60,7 @@ impl<S: RawRead + RawWrite + Drop> Server<S> {
             }
             Due::Nothing => {
                 self.infos.set(conn, ConnectionInfo { activity, ..*info });
-                if unanswered {
-                    Ok(self.send_nop(conn))
-                } else {
-                    Ok(false)
-                }
+                Ok(unanswered && self.send_nop(conn))
             }
         }
     }
@@ -70,12 +71,7 @@ impl<S: RawRead + RawWrite + Drop> Server<S> {
         requires number { conn < most_connections }
         ensures { result ≡ is_finished conn info.now self.entry.now }
     {
-        let phase = self.hosts.at(conn).phase(conn);
-        let awaited = awaited_on(
-            &phase,
-            self.hosts.at(conn).turn(conn),
-            self.hosts.at(conn).pending(conn),
-        );
+        let awaited = self.awaited(conn);
         info.ends && awaited.is_operator()
     }
 

@@ -33,8 +33,8 @@ pub(crate) struct Application {
     asked: [Option<u64>; MOST_CONNECTIONS],
 }
 
-/// What became of a question in a turn of its exchange. The greatest counts: a failure's message is an answer, too.
-#[derive(Clone, Copy, PartialEq, Eq, PartialOrd, Ord)]
+/// What became of a question in a turn of its exchange.
+#[derive(Clone, Copy)]
 enum Outcome {
     /// Nothing yet.
     Open,
@@ -97,7 +97,10 @@ impl<W: Watcher> AskingServer for Watched<'_, W> {
     }
 
     fn answer(&mut self, conn: usize, ticket: Ticket, answer: &Answer) -> Result<Acted, Fault> {
-        self.outcome = self.outcome.max(Outcome::Answered);
+        // A failure's message is an answer, too.
+        if let Outcome::Open = self.outcome {
+            self.outcome = Outcome::Answered;
+        }
         self.server.answer(conn, ticket, answer, self.watcher)
     }
 
@@ -128,15 +131,16 @@ fn report<W: Watcher>(
     now: u64,
     watcher: &mut W,
 ) -> Result<(), Fault> {
-    if asked.is_none() && (did || outcome != Outcome::Open) {
+    let is_open = matches!(outcome, Outcome::Open);
+    if asked.is_none() && (did || !is_open) {
         *asked = Some(now);
         watcher.notice(&Notice::Asked)?;
     }
-    if outcome == Outcome::Open {
+    if is_open {
         return Ok(());
     }
-    match asked.take() {
-        Some(asked) if outcome == Outcome::Answered => {
+    match (asked.take(), outcome) {
+        (Some(asked), Outcome::Answered) => {
             watcher.notice(&Notice::Answered(now.saturating_sub(asked)))
         }
         _ => Ok(()),

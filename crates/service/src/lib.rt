@@ -22,5 +22,6 @@ mod tell;
 mod uptime;
 
 pub use options::ServeOptions;
+pub use reload::open_panels;
 pub use serving::{run_host, run_serve, server_of};
 pub use tell::run_tell;

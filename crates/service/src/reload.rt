@@ -63,8 +63,8 @@ impl fmt::Display for Refusal {
     }
 }
 
-/// Opens a file for reading. A directory is refused.
-fn open(rt: &HostRuntime, name: &str) -> io::Result<File> {
+/// Opens a file of panels for reading. A directory is refused.
+pub fn open_panels(rt: &HostRuntime, name: &str) -> io::Result<File> {
     let file = File::open(rt, name)?;
     if file.metadata()?.is_dir() {
         return Err(ErrorKind::IsADirectory.into());
@@ -93,20 +93,31 @@ fn in_one_line(alloc: Global, page: &str) -> Result<String, AllocError> {
     Ok(joined)
 }
 
-/// What `check` says of a text that a host refuses for this fault; just the fault if `check` finds none.
-fn refusal_of(alloc: Global, name: &str, text: &str, fault: Fault) -> Result<String, AllocError> {
+/// What `check` prints of a text with faults; None if it finds none. `name` is the text's name there.
+pub(crate) fn findings_in(
+    alloc: Global,
+    name: &str,
+    text: &str,
+) -> Result<Option<String>, AllocError> {
     let report = panel_check::check(alloc, text)?;
     if report.faults() == 0 {
-        return format!(in alloc; "{fault}");
+        return Ok(None);
     }
-    let page = report.page(alloc, name)?;
-    in_one_line(alloc, page.as_str())
+    Ok(Some(report.page(alloc, name)?))
+}
+
+/// What `check` says of a text that a host refuses for this fault; just the fault if `check` finds none.
+fn refusal_of(alloc: Global, name: &str, text: &str, fault: Fault) -> Result<String, AllocError> {
+    match findings_in(alloc, name, text)? {
+        Some(page) => in_one_line(alloc, page.as_str()),
+        None => format!(in alloc; "{fault}"),
+    }
 }
 
 /// The text that a file has now.
 fn text_of(rt: &HostRuntime, name: &str) -> Result<String, Refusal> {
     let alloc = rt.alloc();
-    let file = match open(rt, name) {
+    let file = match open_panels(rt, name) {
         Ok(file) => file,
         Err(error) => return Err(Refusal::NotOpened(error.kind())),
     };

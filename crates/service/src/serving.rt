@@ -8,6 +8,7 @@ use crate::control_socket::{self, Commanding, ControlSocket};
 use crate::log::Log;
 use crate::metered::MetricsObserver;
 use crate::options::ServeOptions;
+use crate::reload::findings_in;
 use crate::uptime::Uptime;
 use application_http::{Endpoint, EndpointFault};
 use applications::{JobWithoutApplication, draw_boot, first_asked, host_of, refuse_asking};
@@ -429,15 +430,12 @@ fn refuse_panels<E: Sink>(
     fault: Fault,
     faults: &mut E,
 ) -> u8 {
-    match panel_check::check(alloc, text) {
-        Ok(report) if report.faults() > 0 => match report.page(alloc, name) {
-            Ok(page) => {
-                let _ = faults.write_all(page.as_bytes());
-                fault.status()
-            }
-            Err(_) => report_and_exit_code(fault, faults),
-        },
-        _ => report_and_exit_code(fault, faults),
+    match findings_in(alloc, name, text) {
+        Ok(Some(page)) => {
+            let _ = faults.write_all(page.as_bytes());
+            fault.status()
+        }
+        Ok(None) | Err(_) => report_and_exit_code(fault, faults),
     }
 }
 
