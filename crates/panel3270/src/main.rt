@@ -56,12 +56,12 @@ fn serve<T: Iterator<Item = ()>>(rt: &HostRuntime, turns: T, options: ServeOptio
             let _ = faults.write_line(WAITS_FOR_PANELS);
         }
         let mut input = CountedReader::new(stdin);
-        return run_serve(rt, turns, options, &mut input, &mut faults);
+        return run_serve(rt, turns, options, VERSION, &mut input, &mut faults);
     };
     match open_panels(rt, name) {
         Ok(file) => {
             let mut input = CountedReader::new(file);
-            run_serve(rt, turns, options, &mut input, &mut faults)
+            run_serve(rt, turns, options, VERSION, &mut input, &mut faults)
         }
         Err(error) => end_without(name, error.kind(), &mut faults),
     }
@@ -113,9 +113,7 @@ fn do_job<T: Iterator<Item = ()>>(rt: &HostRuntime, turns: T, job: &Job<'_>) -> 
             run_script(alloc, *terminals, &mut input, &mut out, &mut faults)
         }
         Job::Show { model } => run_show(alloc, *model, &mut input, &mut out, &mut faults),
-        Job::Selfrun { turns } => {
-            run_selfrun(rt, *turns, &mut input, &mut out, &mut faults)
-        }
+        Job::Selfrun { turns } => run_selfrun(rt, *turns, &mut input, &mut out, &mut faults),
         Job::Check { file } => check(rt, file),
         Job::Host { port, turns } => run_host(rt, *port, *turns, &mut input, &mut faults),
         Job::Serve {
@@ -133,7 +131,6 @@ fn do_job<T: Iterator<Item = ()>>(rt: &HostRuntime, turns: T, job: &Job<'_>) -> 
                 application,
                 control,
                 file,
-                version: VERSION,
             };
             serve(rt, turns, options)
         }

@@ -132,7 +132,12 @@ impl LoopbackRun {
 
     /// Takes an event, unless it is skipped, and adds the answer. False if scripts over sockets don't have this event:
     /// there the sockets deliver bytes and losses.
-    fn happen(&mut self, rt: &HostRuntime, event: &Event, text: &mut String) -> Result<bool, Fault> {
+    fn happen(
+        &mut self,
+        rt: &HostRuntime,
+        event: &Event,
+        text: &mut String,
+    ) -> Result<bool, Fault> {
         let stepped = match event {
             Event::Connect(terminal, wanted) => self.connect(rt, *terminal, *wanted)?,
             Event::Key(terminal, key) => self.press(*terminal, *key)?,

@@ -2,7 +2,7 @@
 use jobs::{ApplicationChoice, ControlChoice, Service};
 use std::net::SocketAddr;
 
-/// The options of `serve`, the file of its panels, and the version of the program.
+/// The options of `serve`, and the file of its panels.
 #[derive(Clone, Copy)]
 pub struct ServeOptions<'a> {
     /// Where it listens, its time limits, and what it reports.
@@ -13,8 +13,6 @@ pub struct ServeOptions<'a> {
     pub control: &'a ControlChoice<'a>,
     /// The name of the file of the panels; None if they come from the standard input.
     pub file: Option<&'a str>,
-    /// The version of the program, which the metrics show.
-    pub version: &'static str,
 }
 
 impl ServeOptions<'_> {

@@ -243,27 +243,20 @@ impl Serving {
         take_turns(&mut shift, turns)
     }
 
-    /// Takes a turn for each item of `turns`, with a log on `faults`, and with a metrics port if the service has one.
-    /// Returns the fault that ended that; Ok if operators did.
+    /// Takes a turn for each item of `turns`, with this log, and with a metrics port if the service has one. Returns
+    /// the fault that ended that; Ok if operators did.
     fn serve_logged<T: Iterator<Item = ()>, E: Sink>(
         &mut self,
         rt: &HostRuntime,
         turns: T,
         options: ServeOptions<'_>,
-        faults: &mut E,
+        version: &'static str,
+        mut log: Log<'_, E>,
     ) -> Result<(), Fault>
         requires can { T.can_next turns }
         requires ends { IsFinite (T.remaining turns) }
     {
-        let ServeOptions {
-            service, version, ..
-        } = options;
-        let mut log = Log {
-            rt,
-            lines: faults,
-            quiet: service.quiet,
-        };
-        let Some(port) = service.metrics else {
+        let Some(port) = options.service.metrics else {
             return self.serve_watched(rt, turns, options, &mut log);
         };
         match MetricsObserver::new(rt, &self.port, port, version, &mut log) {
@@ -498,6 +491,7 @@ fn serve<T: Iterator<Item = ()>, E: Sink>(
     application: Option<Application>,
     control: Option<Control>,
     host: Host,
+    version: &'static str,
     faults: &mut E,
 ) -> Result<(), Fault>
     requires can { T.can_next turns }
@@ -505,7 +499,12 @@ fn serve<T: Iterator<Item = ()>, E: Sink>(
 {
     warn_if_open(options.address(), faults);
     let mut serving = serving_of(rt, options, application, control, host)?;
-    serving.serve_logged(rt, turns, options, faults)
+    let log = Log {
+        rt,
+        lines: faults,
+        quiet: options.service.quiet,
+    };
+    serving.serve_logged(rt, turns, options, version, log)
 }
 
 /// Serves a host, and makes the control socket for that time, if one is chosen. Returns the exit status.
@@ -515,6 +514,7 @@ fn serve_commanded<T: Iterator<Item = ()>, E: Sink>(
     options: ServeOptions<'_>,
     application: Option<Application>,
     host: Host,
+    version: &'static str,
     faults: &mut E,
 ) -> u8
     requires can { T.can_next turns }
@@ -524,7 +524,16 @@ fn serve_commanded<T: Iterator<Item = ()>, E: Sink>(
         Ok(control) => control,
         Err(status) => return status,
     };
-    let ended = serve(rt, turns, options, application, control, host, faults);
+    let ended = serve(
+        rt,
+        turns,
+        options,
+        application,
+        control,
+        host,
+        version,
+        faults,
+    );
     if let Some(socket) = &options.control.socket {
         let _ = fs::remove_file(rt, socket.as_str());
     }
@@ -555,6 +564,7 @@ pub fn run_serve<T: Iterator<Item = ()>, I: Source, E: Sink>(
     rt: &HostRuntime,
     turns: T,
     options: ServeOptions<'_>,
+    version: &'static str,
     input: &mut I,
     faults: &mut E,
 ) -> u8
@@ -566,7 +576,7 @@ pub fn run_serve<T: Iterator<Item = ()>, I: Source, E: Sink>(
         Err(fault) => return report_and_exit_code(fault, faults),
     };
     match host_of_input(rt.alloc(), options, input, faults) {
-        Ok(host) => serve_commanded(rt, turns, options, application, host, faults),
+        Ok(host) => serve_commanded(rt, turns, options, application, host, version, faults),
         Err(status) => status,
     }
 }
