@@ -15,7 +15,7 @@ mod wire;
 mod world;
 
 use crate::subjects::belief::Painter;
-use crate::talk::{Answer, Done, Fault, Put, Words};
+use crate::talk::{Answer, Fault, Words};
 use codes3270::Model;
 use host_core::Host;
 use std::alloc::AllocError;
@@ -25,7 +25,7 @@ use term_core::Terminal;
 
 pub(crate) trait Subject {
     /// Executes the command of a line, and adds the lines of its answer, each with its newline.
-    fn take(&mut self, words: &mut Words<'_>, answer: &mut Answer) -> Done;
+    fn take(&mut self, words: &mut Words<'_>, answer: &mut Answer);
 }
 
 /// A subject that the command `new` creates, and on which the other commands act.
@@ -33,45 +33,40 @@ pub(crate) trait Made {
     /// Creates it from the words after `new`.
     fn new(words: &mut Words<'_>) -> Result<Self, Fault>;
 
-    fn take(&mut self, word: &str, words: &mut Words<'_>, answer: &mut Answer) -> Done;
+    fn take(&mut self, word: &str, words: &mut Words<'_>, answer: &mut Answer);
 }
 
 impl<M: Made + Drop> Subject for Option<M> {
-    fn take(&mut self, words: &mut Words<'_>, answer: &mut Answer) -> Done {
-        let word = words.word()?;
+    fn take(&mut self, words: &mut Words<'_>, answer: &mut Answer) {
+        let word = words.word();
         match self {
             made if word == "new" => match M::new(words) {
                 Ok(new) => {
                     *made = Some(new);
                     answer.done(Ok(()))
                 }
-                Err(Fault::NoMemory(fault)) => answer.done(Err(fault)),
-                Err(fault) => Err(fault),
+                Err(Fault::NoMemory) => answer.done(Err(AllocError)),
+                Err(fault) => words.fail(fault),
             },
             Some(made) => made.take(word, words, answer),
-            None => Err(Fault::Line),
+            None => words.fail(Fault::Line),
         }
     }
 }
 
-fn take_all<S: Subject>(subject: &mut S, words: &mut Words<'_>, answer: &mut Answer) -> Done {
-    if !answer.take_vector(words)? {
-        subject.take(words, answer)?;
-    }
-    match words.rest {
-        "" => Ok(()),
-        _ => Err(Fault::Line),
-    }
-}
-
-/// Executes the command of a line, and adds the whole answer.
-fn put_answer<S: Subject>(subject: &mut S, mut words: Words<'_>, answer: &mut Answer) -> Put {
+/// Executes the command of a line, and writes the whole answer.
+fn answer_words<S: Subject>(subject: &mut S, mut words: Words<'_>, answer: &mut Answer) {
     answer.text.clear();
-    if let Err(fault) = take_all(subject, &mut words, answer) {
-        answer.text.clear();
-        writeln!(answer.text, "? {fault}")?;
+    answer.lacks_memory = false;
+    match answer.take_vector(&mut words) {
+        Ok(false) => subject.take(&mut words, answer),
+        Ok(true) => {}
+        Err(fault) => words.fail(fault),
     }
-    answer.text.push_str(".\n")
+    if !words.rest.is_empty() {
+        words.fail(Fault::Line);
+    }
+    answer.end(&words.fault)
 }
 
 /// Answers a line. A command after `! ` is executed between the lines `begin` and `end` on standard error, so that a
@@ -84,13 +79,22 @@ fn answer_line<S: Subject>(
     answer: &mut Answer,
 ) -> io::Result<()> {
     let (alloc, marked) = (rt.alloc(), line.strip_prefix("! "));
+    let (rest, fault) = (marked.unwrap_or(line), None);
     if marked.is_some() {
-        eprintln!(rt; "begin")?;
+        rt.eprintln("begin")?;
     }
-    let rest = marked.unwrap_or(line);
-    put_answer(subject, Words { alloc, rest, room }, answer)?;
+    answer_words(
+        subject,
+        Words {
+            alloc,
+            rest,
+            room,
+            fault,
+        },
+        answer,
+    );
     if marked.is_some() {
-        eprintln!(rt; "end")?;
+        rt.eprintln("end")?;
     }
     rt.stdout().write_all(answer.text.as_bytes())
 }
@@ -109,16 +113,8 @@ fn answer_all<S: Subject>(
 
 /// Answers each line of standard input.
 fn serve<S: Subject + Drop>(rt: &HostRuntime, mut subject: S) -> io::Result<bool> {
-    let alloc = rt.alloc();
-    // Room for answers is reserved, so that only the calls themselves can lack memory.
-    let text = String::with_capacity(alloc, 1 << 16)?;
-    let out = Vec::new(alloc);
-    answer_all(
-        rt,
-        &mut subject,
-        &mut Vec::new(alloc),
-        &mut Answer { text, out },
-    )
+    let (mut room, mut answer) = (Vec::new(rt.alloc()), Answer::new(rt.alloc())?);
+    answer_all(rt, &mut subject, &mut room, &mut answer)
 }
 
 pub(crate) fn run(rt: &HostRuntime, name: &str) -> io::Result<bool> {

@@ -1,25 +1,34 @@
 //! The words of a line of standard input, and its answer.
-ghost use Rattle.std.specs.Prelude.{◌<◌, IfOk};
+ghost use Rattle.std.specs.Prelude.{◌<◌, IfSome};
 ghost use Rattle.std.specs.Iterator.{IsFinite};
 
 use codes3270::{Model, Size};
 use hex::FromHexError;
-use std::alloc::{AllocError, Global};
-use std::fmt::{Debug, Display};
+use std::alloc::{AllocError, AllocFailed, Global};
+use std::fmt::{self, Debug, Display, Formatter};
 use std::mem;
 use std::str::{self, FromStr};
-use thiserror::Error;
 
 pub(crate) const MODELS: [Model; 4] = [Model::M2, Model::M3, Model::M4, Model::M5];
 
-#[derive(Debug, Drop, Error)]
+#[derive(Drop)]
 pub(crate) enum Fault {
     /// The line isn't a command of the subject. The text has its words.
-    #[error("doesn't understand")]
     Line,
     /// An allocation by the probe itself failed.
-    #[error("no memory")]
-    NoMemory(#[from(alloc)] AllocError),
+    NoMemory,
+}
+
+impl From<AllocError> for Fault {
+    fn from(_: AllocError) -> Fault {
+        Fault::NoMemory
+    }
+}
+
+impl<T: Drop> From<AllocFailed<T>> for Fault {
+    fn from(_: AllocFailed<T>) -> Fault {
+        Fault::NoMemory
+    }
 }
 
 pub(crate) type Done = Result<(), Fault>;
@@ -27,22 +36,39 @@ pub(crate) type Done = Result<(), Fault>;
 /// Whether a call got the memory that it needed.
 pub(crate) type Put = Result<(), AllocError>;
 
-/// The words of a line that haven't been read yet, and room for the bytes that they encode.
+/// The words of a line that haven't been read yet, and room for the bytes that they encode. In place of what can't be
+/// read there is a default, and the line isn't valid.
 #[derive(Drop)]
 pub(crate) struct Words<'a> {
     pub(crate) alloc: Global,
     pub(crate) rest: &'a str,
     pub(crate) room: &'a mut Vec<u8>,
+    /// The first fault.
+    pub(crate) fault: Option<Fault>,
 }
 
 impl<'a> Words<'a> {
-    pub(crate) fn word(&mut self) -> Result<&'a str, Fault> {
+    /// Notes a fault of the line.
+    pub(crate) fn fail(&mut self, fault: Fault) {
+        if self.fault.is_none() {
+            self.fault = Some(fault);
+        }
+    }
+
+    /// Notes the fault of what was done.
+    pub(crate) fn note(&mut self, done: Done) {
+        if let Err(fault) = done {
+            self.fail(fault);
+        }
+    }
+
+    pub(crate) fn word(&mut self) -> &'a str {
         let (word, rest) = self.rest.split_once(' ').unwrap_or((self.rest, ""));
         self.rest = rest;
         if word.is_empty() {
-            return Err(Fault::Line);
+            self.fail(Fault::Line);
         }
-        Ok(word)
+        word
     }
 
     /// The rest of the line, unchanged.
@@ -50,149 +76,93 @@ impl<'a> Words<'a> {
         mem::replace(&mut self.rest, "")
     }
 
-    pub(crate) fn named<T: Copy + Debug>(&mut self, values: &[T]) -> Result<T, Fault> {
-        named(self.alloc, values, self.word()?)
+    /// What was read of the line, or the default.
+    pub(crate) fn or<T: Copy>(&mut self, read: Option<T>, default: T) -> T {
+        if read.is_none() {
+            self.fail(Fault::Line);
+        }
+        read.unwrap_or(default)
+    }
+
+    pub(crate) fn named<T: Copy + Debug>(&mut self, values: &[T], default: T) -> T {
+        match named(self.alloc, values, self.word()) {
+            Ok(value) => value,
+            Err(fault) => {
+                self.fail(fault);
+                default
+            }
+        }
     }
 
     /// The next word as a decimal number, or as `true` or `false`.
-    pub(crate) fn number<T: FromStr>(&mut self) -> Result<T, Fault>
+    pub(crate) fn number<T: FromStr + Default + Copy>(&mut self) -> T
     where
         T::Err: Drop,
     {
-        self.word()?.parse::<T>().ok().ok_or(Fault::Line)
+        let number = self.word().parse::<T>().ok();
+        self.or(number, T::default())
     }
 
     /// The next word as a number below `count`.
-    pub(crate) fn index(&mut self, count: usize) -> Result<usize, Fault>
-        ensures { IfOk result (λ index. index < count) }
+    pub(crate) fn index(&mut self, count: usize) -> Option<usize>
+        ensures { IfSome result (λ index. index < count) }
     {
-        match self.number::<usize>()? {
-            index if index < count => Ok(index),
-            _ => Err(Fault::Line),
+        let index = self.number::<usize>();
+        if index < count {
+            return Some(index);
         }
+        self.fail(Fault::Line);
+        None
     }
 
-    pub(crate) fn byte(&mut self) -> Result<u8, Fault> {
-        byte_of(self.word()?)
+    pub(crate) fn byte_of(&mut self, digits: &str) -> u8 {
+        self.or(u8::from_str_radix(digits, 16).ok(), 0)
     }
 
-    pub(crate) fn model(&mut self) -> Result<Model, Fault> {
-        let place = self.number::<usize>()?.checked_sub(2);
-        let model = place.and_then(|it| MODELS.get(it));
-        model.copied().ok_or(Fault::Line)
+    pub(crate) fn byte(&mut self) -> u8 {
+        let digits = self.word();
+        self.byte_of(digits)
     }
 
-    pub(crate) fn size(&mut self) -> Result<Size, Fault> {
-        Ok(self.model()?.alternate())
+    pub(crate) fn model(&mut self) -> Model {
+        let place = self.number::<usize>().wrapping_sub(2);
+        self.or(MODELS.get(place).copied(), Model::M2)
+    }
+
+    pub(crate) fn size(&mut self) -> Size {
+        self.model().alternate()
+    }
+
+    /// The bytes that a word encodes: pairs of hexadecimal digits, or `-` for none.
+    pub(crate) fn bytes_of(&mut self, word: &str) -> Vec<u8> {
+        match hex::decode(self.alloc, if word == "-" { "" } else { word }) {
+            Ok(bytes) => return bytes,
+            Err(FromHexError::OutOfMemory) => self.fail(Fault::NoMemory),
+            Err(_) => self.fail(Fault::Line),
+        }
+        Vec::new(self.alloc)
     }
 
     /// The bytes of all remaining words, one after the other.
-    pub(crate) fn bytes(&mut self) -> Result<&[u8], Fault> {
+    pub(crate) fn bytes(&mut self) -> &[u8] {
         self.room.clear();
         for word in self.rest().split_whitespace() {
-            self.room
-                .extend_from_slice(bytes_of(self.alloc, word)?.as_slice())?;
+            let bytes = self.bytes_of(word);
+            if self.room.extend_from_slice(bytes.as_slice()).is_err() {
+                self.fail(Fault::NoMemory);
+            }
         }
-        Ok(self.room.as_slice())
+        self.room.as_slice()
     }
 
     /// The text that the bytes of all remaining words are.
-    pub(crate) fn text(&mut self) -> Result<&str, Fault> {
-        str::from_utf8(self.bytes()?).ok().ok_or(Fault::Line)
-    }
-}
-
-/// The lines of an answer, and the vector to which calls append.
-#[derive(Drop)]
-pub(crate) struct Answer {
-    pub(crate) text: String,
-    pub(crate) out: Vec<u8>,
-}
-
-impl Answer {
-    /// Executes `vector ROOM BYTES`, `appended` or `capacity`, the commands on the vector, if the line is one of them.
-    pub(crate) fn take_vector(&mut self, words: &mut Words<'_>) -> Result<bool, Fault> {
-        let line = words.rest;
-        match words.word()? {
-            "vector" => {
-                self.out = Vec::with_capacity(words.alloc, words.number()?)?;
-                self.out.extend_from_slice(words.bytes()?)?;
-            }
-            "appended" => put_bytes(&mut self.text, "appended", self.out.as_slice())?,
-            "capacity" => writeln!(self.text, "{}", self.out.capacity())?,
-            _ => words.rest = line,
+    pub(crate) fn text(&mut self) -> &str {
+        if str::from_utf8(self.bytes()).is_err() {
+            self.fail(Fault::Line);
+            self.room.clear();
         }
-        Ok(words.rest != line)
+        str::from_utf8(self.room.as_slice()).unwrap_or("")
     }
-
-    /// Adds a line: a name, and bytes in hexadecimal, `-` for none.
-    pub(crate) fn name(&mut self, name: &str, bytes: &[u8]) -> Done {
-        Ok(put_bytes(&mut self.text, name, bytes)?)
-    }
-
-    /// Adds a line: a value, printed by `{:?}`.
-    pub(crate) fn line<T: Debug>(&mut self, value: &T) -> Done {
-        Ok(writeln!(self.text, "{value:?}")?)
-    }
-
-    /// Adds a line: a value, printed by `{}`.
-    pub(crate) fn said<T: Display>(&mut self, value: &T) -> Done {
-        Ok(writeln!(self.text, "{value}")?)
-    }
-
-    /// Adds a line: the result of a call, printed by `{:?}`, or its fault, printed by `{}`.
-    pub(crate) fn called<T: Debug, F: Display>(&mut self, called: &Result<T, F>) -> Done {
-        match called {
-            Ok(value) => self.line(value),
-            Err(fault) => self.said(fault),
-        }
-    }
-
-    /// Adds a line: a name, and each item, printed by `{:?}`.
-    pub(crate) fn each<T: Debug + Drop, I: Iterator<Item = T> + Drop>(
-        &mut self,
-        name: &str,
-        items: I,
-    ) -> Done
-        requires can { I.can_next items }
-        requires ends { IsFinite (I.remaining items) }
-    {
-        self.text.push_str(name)?;
-        for item in items {
-            write!(self.text, " {item:?}")?;
-        }
-        Ok(self.text.push('\n')?)
-    }
-
-    pub(crate) fn done(&mut self, called: Put) -> Done {
-        let done = if called.is_ok() { "done\n" } else { "memory\n" };
-        Ok(self.text.push_str(done)?)
-    }
-
-    /// Adds the lines of a text, each after `|`, if there was memory for it.
-    pub(crate) fn page(&mut self, page: Result<String, AllocError>) -> Done {
-        match page {
-            Ok(text) => Ok(for line in text.lines() {
-                writeln!(self.text, "|{line}")?;
-            }),
-            Err(fault) => self.done(Err(fault)),
-        }
-    }
-}
-
-/// Adds bytes in hexadecimal, `-` for none.
-pub(crate) fn put_hex(answer: &mut String, bytes: &[u8]) -> Put {
-    answer.push_str(if bytes.is_empty() { "-" } else { "" })?;
-    for byte in bytes {
-        write!(answer, "{byte:02X}")?;
-    }
-    Ok(())
-}
-
-fn put_bytes(answer: &mut String, name: &str, bytes: &[u8]) -> Put {
-    write!(answer, "{name} ")?;
-    put_hex(answer, bytes)?;
-    answer.push('\n')
 }
 
 /// The value that `{:?}` prints as this word, in upper or lower case.
@@ -205,15 +175,123 @@ pub(crate) fn named<T: Copy + Debug>(alloc: Global, values: &[T], name: &str) ->
     Err(Fault::Line)
 }
 
-pub(crate) fn byte_of(digits: &str) -> Result<u8, Fault> {
-    u8::from_str_radix(digits, 16).ok().ok_or(Fault::Line)
+/// Bytes, printed as pairs of hexadecimal digits, or `-` for none.
+#[derive(Drop)]
+pub(crate) struct Hex<'a>(pub(crate) &'a [u8]);
+
+impl Display for Hex<'_> {
+    fn fmt<W: fmt::Write>(&self, f: &mut Formatter<W>) -> fmt::Result {
+        if self.0.is_empty() {
+            return f.write_str("-");
+        }
+        Ok(for byte in self.0 {
+            write!(f, "{byte:02X}")?;
+        })
+    }
 }
 
-/// The bytes that a word encodes: pairs of hexadecimal digits, or `-` for none.
-pub(crate) fn bytes_of(alloc: Global, word: &str) -> Result<Vec<u8>, Fault> {
-    match hex::decode(alloc, if word == "-" { "" } else { word }) {
-        Ok(bytes) => Ok(bytes),
-        Err(FromHexError::OutOfMemory) => Err(Fault::NoMemory(AllocError)),
-        Err(_) => Err(Fault::Line),
+/// The lines of an answer, and the vector to which calls append.
+#[derive(Drop)]
+pub(crate) struct Answer {
+    pub(crate) text: String,
+    pub(crate) out: Vec<u8>,
+    /// Whether there was no memory for a part of the text.
+    pub(crate) lacks_memory: bool,
+}
+
+impl Answer {
+    /// Room for the text is reserved, so that only the calls themselves can lack memory.
+    pub(crate) fn new(alloc: Global) -> Result<Answer, AllocError> {
+        Ok(Answer {
+            text: String::with_capacity(alloc, 1 << 16)?,
+            out: Vec::new(alloc),
+            lacks_memory: false,
+        })
+    }
+
+    /// Adds text, as `write!` and `writeln!` say.
+    pub(crate) fn write_fmt<D: Display + Drop>(&mut self, text: D) {
+        let put = self.text.write_fmt(text);
+        self.lacks_memory |= put.is_err();
+    }
+
+    /// Executes `vector ROOM BYTES`, `appended` or `capacity`, the commands on the vector, if the line is one of them.
+    pub(crate) fn take_vector(&mut self, words: &mut Words<'_>) -> Result<bool, Fault> {
+        let line = words.rest;
+        match words.word() {
+            "vector" => {
+                self.out = Vec::with_capacity(words.alloc, words.number())?;
+                self.out.extend_from_slice(words.bytes())?;
+            }
+            "appended" => writeln!(self.text, "appended {}", Hex(self.out.as_slice()))?,
+            "capacity" => writeln!(self.text, "{}", self.out.capacity())?,
+            _ => {
+                words.rest = line;
+                return Ok(false);
+            }
+        }
+        Ok(true)
+    }
+
+    /// Adds a line: a name, and bytes in hexadecimal, `-` for none.
+    pub(crate) fn name(&mut self, name: &str, bytes: &[u8]) {
+        writeln!(self, "{name} {}", Hex(bytes))
+    }
+
+    /// Adds a line: a value, printed by `{:?}`.
+    pub(crate) fn line<T: Debug>(&mut self, value: &T) {
+        writeln!(self, "{value:?}")
+    }
+
+    /// Adds a line: the result of a call, printed by `{:?}`, or its fault, printed by `{}`.
+    pub(crate) fn called<T: Debug, F: Display>(&mut self, called: &Result<T, F>) {
+        match called {
+            Ok(value) => writeln!(self, "{value:?}"),
+            Err(fault) => writeln!(self, "{fault}"),
+        }
+    }
+
+    /// Adds a line: a name, and each item, printed by `{:?}`.
+    pub(crate) fn each<T: Debug + Drop, I: Iterator<Item = T> + Drop>(
+        &mut self,
+        name: &str,
+        items: I,
+    )
+        requires can { I.can_next items }
+        requires ends { IsFinite (I.remaining items) }
+    {
+        write!(self, "{name}");
+        for item in items {
+            write!(self, " {item:?}");
+        }
+        writeln!(self)
+    }
+
+    pub(crate) fn done(&mut self, called: Put) {
+        let done = if called.is_ok() { "done" } else { "memory" };
+        writeln!(self, "{done}")
+    }
+
+    /// Adds the lines of a text, each after `|`, if there was memory for it.
+    pub(crate) fn page(&mut self, page: Result<String, AllocError>) {
+        match page {
+            Ok(text) => for line in text.lines() {
+                writeln!(self, "|{line}");
+            },
+            Err(fault) => self.done(Err(fault)),
+        }
+    }
+
+    /// Ends the answer. The fault of its line, if there is one, takes its place.
+    pub(crate) fn end(&mut self, fault: &Option<Fault>) {
+        let fault = match fault {
+            Some(Fault::Line) => "? doesn't understand\n",
+            None if !self.lacks_memory => "",
+            _ => "? no memory\n",
+        };
+        if !fault.is_empty() {
+            self.text.clear();
+        }
+        write!(self, "{fault}.\n")
     }
 }

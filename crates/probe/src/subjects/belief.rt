@@ -12,8 +12,8 @@ ghost use Rattle.shadow.specs.Belief.{IsOfSize};
 ghost use Rattle.shadow.specs.Fits.{is_paintable};
 
 use crate::subjects::Subject;
-use crate::subjects::cells::{FORMS, cell_at, change, put_belief, put_wanted, size_of};
-use crate::talk::{Answer, Done, Words};
+use crate::subjects::cells::{cell_at, change, form, put_belief, put_wanted, size_of};
+use crate::talk::{Answer, Words};
 use codes3270::{Model, Size};
 use datastream::{
     CommandCode, CommandFault, Form, InboundFault, Want, Wanted, read_command, read_inbound,
@@ -32,9 +32,9 @@ fn has_size(shadow: &Shadow, size: Size) -> bool
     size_of(shadow).cells() == size.cells()
 }
 
-fn put_place(answer: &mut Answer, shadow: &Shadow, place: u16) -> Done {
-    answer.line(&shadow.fact(cell_at(shadow, place)))?;
-    answer.line(&shadow.known(cell_at(shadow, place)))?;
+fn put_place(answer: &mut Answer, shadow: &Shadow, place: u16) {
+    answer.line(&shadow.fact(cell_at(shadow, place)));
+    answer.line(&shadow.known(cell_at(shadow, place)));
     answer.each("text", shadow.text(cell_at(shadow, place)))
 }
 
@@ -66,27 +66,26 @@ impl Painter {
         Ok(self.belief.heard(&inbound).err())
     }
 
-    fn paint(&self, answer: &mut Answer) -> Done {
-        if any_keep(self.wanted.cells()) && !self.belief.fits(&self.wanted) {
-            return Ok(());
+    fn paint(&self, answer: &mut Answer) {
+        if !any_keep(self.wanted.cells()) || self.belief.fits(&self.wanted) {
+            let called = self.belief.paint(&mut answer.out, &self.wanted);
+            answer.done(called)
         }
-        let called = self.belief.paint(&mut answer.out, &self.wanted);
-        answer.done(called)
     }
 }
 
 impl Subject for Painter {
-    fn take(&mut self, words: &mut Words<'_>, answer: &mut Answer) -> Done {
-        match words.word()? {
-            "new" => Ok(self.belief = Shadow::blank()),
-            "take" => answer.line(&self.sent(words.model()?, words.bytes()?)),
-            "hear" => answer.line(&self.hear(words.named(&FORMS)?, words.bytes()?)),
+    fn take(&mut self, words: &mut Words<'_>, answer: &mut Answer) {
+        match words.word() {
+            "new" => self.belief = Shadow::blank(),
+            "take" => answer.line(&self.sent(words.model(), words.bytes())),
+            "hear" => answer.line(&self.hear(form(words), words.bytes())),
             "show" => put_belief(answer, &self.belief),
             "fits" => answer.line(&self.belief.fits(&self.wanted)),
             "paint" => self.paint(answer),
-            "doubt" => Ok(self.belief.doubt()),
+            "doubt" => self.belief.doubt(),
             "size" => answer.line(&self.belief.size()),
-            "at" => put_place(answer, &self.belief, words.number()?),
+            "at" => put_place(answer, &self.belief, words.number()),
             "wanted" => put_wanted(answer, &self.wanted),
             word => change(words, &mut self.wanted, word),
         }

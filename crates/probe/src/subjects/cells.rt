@@ -7,27 +7,35 @@
 //! put ADDR WANT ..           wants from an address on
 //! aim ADDR BOOL              its cursor, and whether it resets MDT
 //! ```
-ghost use Rattle.std.specs.Prelude.{◌<◌, ◌≡◌, true, All, IfOk};
+ghost use Rattle.std.specs.Prelude.{◌<◌, ◌≡◌, true, All};
 ghost use Rattle.codes3270.specs.Size.{cells_in};
 ghost use Rattle.codes3270.specs.Storable.{is_storable};
 ghost use Rattle.datastream.specs.Wanted.{IsProper};
 ghost use Rattle.shadow.specs.Belief.{HasCell, IsOfSize};
 
-use crate::talk::{Answer, Done, Fault, Put, Words, byte_of};
+use crate::talk::{Answer, Fault, Words};
 use codes3270::{Addr, Aid, Attr, Cell, Size, aid_from_byte, attr_code, storable};
 use datastream::{Form, Want, Wanted};
 use keyboard::Key;
 use presentation::Screen;
 use shadow::Shadow;
 
-pub(crate) static FORMS: [Form; 3] = [Form::Modified, Form::All, Form::Buffer];
+const BLANK: u8 = 0x40;
 
-pub(crate) fn aid(words: &mut Words<'_>) -> Result<Aid, Fault> {
-    aid_from_byte(words.byte()?).ok_or(Fault::Line)
+static FORMS: [Form; 3] = [Form::Modified, Form::All, Form::Buffer];
+
+pub(crate) fn form(words: &mut Words<'_>) -> Form {
+    words.named(&FORMS, Form::Modified)
 }
 
-pub(crate) fn key(words: &mut Words<'_>) -> Result<Key, Fault> {
-    Key::named(words.word()?).ok_or(Fault::Line)
+pub(crate) fn aid(words: &mut Words<'_>) -> Aid {
+    let aid = aid_from_byte(words.byte());
+    words.or(aid, Aid::Enter)
+}
+
+pub(crate) fn key(words: &mut Words<'_>) -> Key {
+    let key = Key::named(words.word());
+    words.or(key, Key::Enter)
 }
 
 /// The buffer address of a cell; 0 if it is beyond a screen of this size.
@@ -42,20 +50,24 @@ pub(crate) fn at(place: u16, size: Size) -> Addr
     }
 }
 
-pub(crate) fn place_on(words: &mut Words<'_>, size: Size) -> Result<u16, Fault> {
-    match words.number()? {
-        place if place < size.cells() => Ok(place),
-        _ => Err(Fault::Line),
+pub(crate) fn place_on(words: &mut Words<'_>, size: Size) -> u16 {
+    let place = words.number();
+    if place >= size.cells() {
+        words.fail(Fault::Line);
     }
+    place
 }
 
-pub(crate) fn character(digits: &str) -> Result<u8, Fault>
-    ensures { IfOk result (λ code. is_storable code ≡ true) }
+/// The code of a character that can be stored; that of a blank by default.
+pub(crate) fn character(words: &mut Words<'_>, digits: &str) -> u8
+    ensures { is_storable result ≡ true }
 {
-    match byte_of(digits)? {
-        code if storable(code) => Ok(code),
-        _ => Err(Fault::Line),
+    let code = words.byte_of(digits);
+    if storable(code) {
+        return code;
     }
+    words.fail(Fault::Line);
+    BLANK
 }
 
 pub(crate) fn are_storable(bytes: &[u8]) -> bool
@@ -64,21 +76,21 @@ pub(crate) fn are_storable(bytes: &[u8]) -> bool
     bytes.iter().all(|byte| storable(*byte))
 }
 
-fn put_cell(answer: &mut String, cell: Option<Cell>) -> Put {
+fn put_cell(answer: &mut Answer, cell: Option<Cell>) {
     match cell {
         Some(Cell::Char(code)) => write!(answer, "{code:02X}"),
         Some(Cell::Attr(attr)) => write!(answer, "1D{:02X}", attr_code(attr)),
-        None => answer.push_str("??"),
+        None => write!(answer, "??"),
     }
 }
 
-pub(crate) fn put_cells(answer: &mut Answer, screen: &Screen) -> Done {
-    answer.text.push_str("cells ")?;
+pub(crate) fn put_cells(answer: &mut Answer, screen: &Screen) {
+    write!(answer, "cells ");
     for place in 0..screen.size().cells() {
         let cell = screen.cell(at(place, screen.size()));
-        put_cell(&mut answer.text, Some(cell))?;
+        put_cell(answer, Some(cell));
     }
-    Ok(answer.text.push('\n')?)
+    writeln!(answer)
 }
 
 /// The size of the screen of which something is known; 24 by 80 if nothing is known.
@@ -98,67 +110,66 @@ pub(crate) fn cell_at(shadow: &Shadow, place: u16) -> Addr
     at(place, size_of(shadow))
 }
 
-fn put_field(answer: &mut Answer, shadow: &Shadow, place: u16) -> Done {
-    let Some(fact) = shadow.fact(cell_at(shadow, place)) else {
-        return Ok(());
-    };
-    write!(answer.text, "field {place} {fact:?} ")?;
-    for code in shadow.text(cell_at(shadow, place)) {
-        write!(answer.text, "{code:02X}")?;
+fn put_field(answer: &mut Answer, shadow: &Shadow, place: u16) {
+    if let Some(fact) = shadow.fact(cell_at(shadow, place)) {
+        write!(answer, "field {place} {fact:?} ");
+        for code in shadow.text(cell_at(shadow, place)) {
+            write!(answer, "{code:02X}");
+        }
+        writeln!(answer)
     }
-    Ok(answer.text.push('\n')?)
 }
 
-pub(crate) fn put_belief(answer: &mut Answer, shadow: &Shadow) -> Done {
+pub(crate) fn put_belief(answer: &mut Answer, shadow: &Shadow) {
     let count = shadow.size().map_or(0, |size| size.cells());
-    answer.text.push_str("belief ")?;
+    write!(answer, "belief ");
     for place in 0..count {
-        put_cell(&mut answer.text, shadow.known(cell_at(shadow, place)))?;
+        put_cell(answer, shadow.known(cell_at(shadow, place)));
     }
-    answer.text.push('\n')?;
-    Ok(for place in 0..count {
-        put_field(answer, shadow, place)?;
-    })
+    writeln!(answer);
+    for place in 0..count {
+        put_field(answer, shadow, place);
+    }
 }
 
-fn want_of(word: &str) -> Result<Want, Fault>
-    ensures { IfOk result IsProper }
+fn want_of(words: &mut Words<'_>, word: &str) -> Want
+    ensures { IsProper result }
 {
     match word.strip_prefix("1D") {
-        _ if word == "keep" => Ok(Want::Keep),
-        Some(digits) => Ok(Want::Attr(Attr::from_code(byte_of(digits)?))),
-        None => Ok(Want::Char(character(word)?)),
+        _ if word == "keep" => Want::Keep,
+        Some(digits) => Want::Attr(Attr::from_code(words.byte_of(digits))),
+        None => Want::Char(character(words, word)),
     }
 }
 
-fn fill(words: &mut Words<'_>, wanted: &mut Wanted) -> Done {
-    let size = words.size()?;
-    Ok(*wanted = Wanted::filled(want_of(words.word()?)?, size))
+fn fill(words: &mut Words<'_>, wanted: &mut Wanted) {
+    let (size, word) = (words.size(), words.word());
+    *wanted = Wanted::filled(want_of(words, word), size);
 }
 
-fn put(wanted: &mut Wanted, first: usize, texts: &str) -> Done {
-    for (place, word) in (first..).zip(texts.split_whitespace()) {
-        let want = want_of(word)?;
+fn put(words: &mut Words<'_>, wanted: &mut Wanted) {
+    let first = words.number::<usize>();
+    for (place, word) in (first..).zip(words.rest().split_whitespace()) {
+        let want = want_of(words, word);
         if place < usize::from(wanted.size().cells()) {
             wanted.put(place, want);
         }
     }
-    Ok(())
 }
 
-pub(crate) fn change(words: &mut Words<'_>, wanted: &mut Wanted, word: &str) -> Done {
+pub(crate) fn change(words: &mut Words<'_>, wanted: &mut Wanted, word: &str) {
     match word {
         "want" => fill(words, wanted),
-        "put" => put(wanted, words.number()?, words.rest()),
+        "put" => put(words, wanted),
         "aim" => {
-            let cursor = at(place_on(words, wanted.size())?, wanted.size());
-            Ok(wanted.set_cursor_and_reset(cursor, words.number()?))
+            let cursor = at(place_on(words, wanted.size()), wanted.size());
+            wanted.set_cursor_and_reset(cursor, words.number())
         }
-        _ => Err(Fault::Line),
+        _ => words.fail(Fault::Line),
     }
 }
 
-pub(crate) fn put_wanted(answer: &mut Answer, wanted: &Wanted) -> Done {
-    answer.line(&(wanted.size(), wanted.cursor(), wanted.reset()))?;
+pub(crate) fn put_wanted(answer: &mut Answer, wanted: &Wanted) {
+    answer.line(&(wanted.size(), wanted.cursor(), wanted.reset()));
     answer.each("cells", wanted.cells())
 }

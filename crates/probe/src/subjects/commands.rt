@@ -6,8 +6,8 @@
 //! begin CODE WCC; sba ADDR; sf BYTE; chars BYTES; ra ADDR BYTE; ic    a writer appends it
 //! ```
 use crate::subjects::Subject;
-use crate::subjects::cells::{FORMS, are_storable, at, character};
-use crate::talk::{Answer, Done, Fault, Put, Words, put_hex};
+use crate::subjects::cells::{are_storable, at, character, form};
+use crate::talk::{Answer, Fault, Hex, Put, Words};
 use codes3270::{Attr, Size, Wcc, aid_byte};
 use datastream::{
     Cells, Command, CommandCode, CommandWriter, Form, Inbound, read_command, read_inbound,
@@ -27,99 +27,106 @@ static CODES: [CommandCode; 7] = [
     CommandCode::EraseAllUnprotected,
 ];
 
-fn put_run<T: Debug + Drop>(text: &mut String, run: &[u8], item: Option<T>) -> Result<bool, Fault> {
-    put_hex(text, run)?;
+/// Adds a run of characters and the item after it, and says whether there was one.
+fn put_run<T: Debug + Drop>(answer: &mut Answer, run: &[u8], item: Option<T>) -> bool {
     match &item {
-        Some(item) => write!(text, " {item:?} ")?,
-        None => text.push('\n')?,
+        Some(item) => write!(answer, "{} {item:?} ", Hex(run)),
+        None => writeln!(answer, "{}", Hex(run)),
     }
-    Ok(item.is_some())
+    item.is_some()
 }
 
-fn put_command(answer: &mut Answer, command: &Command<'_>) -> Done {
+fn put_command(answer: &mut Answer, command: &Command<'_>) {
     let code = command.code();
-    answer.line(&(code, code.has_orders(), command.size(), command.wcc()))?;
-    answer.each("orders", command.orders())?;
-    answer.text.push_str("runs ")?;
+    answer.line(&(code, code.has_orders(), command.size(), command.wcc()));
+    answer.each("orders", command.orders());
+    write!(answer, "runs ");
     let mut orders = command.orders();
     for _ in 0..u64::MAX {
-        if !put_run(&mut answer.text, orders.characters(), orders.next())? {
+        if !put_run(answer, orders.characters(), orders.next()) {
             break;
         }
     }
-    Ok(())
 }
 
-fn put_cells(answer: &mut Answer, cells: Cells<'_>) -> Done {
+fn put_cells(answer: &mut Answer, cells: Cells<'_>) {
     let mut others = cells.copy();
-    answer.each("cells", cells)?;
-    answer.text.push_str("runs ")?;
+    answer.each("cells", cells);
+    write!(answer, "runs ");
     for _ in 0..u64::MAX {
-        if !put_run(&mut answer.text, others.characters(), others.next())? {
+        if !put_run(answer, others.characters(), others.next()) {
             break;
         }
     }
-    Ok(())
 }
 
-fn put_inbound(answer: &mut Answer, inbound: &Inbound<'_>) -> Done {
+fn put_inbound(answer: &mut Answer, inbound: &Inbound<'_>) {
     let (form, aid) = (inbound.form(), [aid_byte(inbound.aid())]);
     let text = inbound.leading_text();
-    answer.line(&(form, inbound.size(), aid, inbound.cursor(), text))?;
-    answer.each("fields", inbound.returned())?;
-    answer.each("parts", inbound.parts())?;
-    answer.each("as-cells", inbound.parts().map(|part| part.cell()))?;
-    match form {
-        Form::Buffer => put_cells(answer, inbound.cells()),
-        _ => Ok(()),
+    answer.line(&(form, inbound.size(), aid, inbound.cursor(), text));
+    answer.each("fields", inbound.returned());
+    answer.each("parts", inbound.parts());
+    answer.each("as-cells", inbound.parts().map(|part| part.cell()));
+    if form == Form::Buffer {
+        put_cells(answer, inbound.cells());
     }
 }
 
-fn put_fault<F: Debug + Display>(answer: &mut Answer, fault: &F) -> Done {
-    Ok(writeln!(answer.text, "fault {fault:?}: {fault}")?)
+fn put_fault<F: Debug + Display>(answer: &mut Answer, fault: &F) {
+    writeln!(answer, "fault {fault:?}: {fault}")
 }
 
-fn read(answer: &mut Answer, now: Size, alternate: Size, bytes: &[u8]) -> Done {
+fn read(answer: &mut Answer, now: Size, alternate: Size, bytes: &[u8]) {
     match read_command(bytes, now, alternate) {
         Ok(command) => put_command(answer, &command),
         Err(fault) => put_fault(answer, &fault),
     }
 }
 
-fn read_data(answer: &mut Answer, form: Form, size: Size, bytes: &[u8]) -> Done {
+fn read_data(answer: &mut Answer, form: Form, size: Size, bytes: &[u8]) {
     match read_inbound(bytes, form, size) {
         Ok(inbound) => put_inbound(answer, &inbound),
         Err(fault) => put_fault(answer, &fault),
     }
 }
 
-fn put_text(to: &mut CommandWriter<'_>, text: &[u8]) -> Result<Put, Fault> {
+fn put_text(words: &mut Words<'_>, to: &mut CommandWriter<'_>) -> Put {
+    let text = words.bytes();
     if are_storable(text) {
-        Ok(to.chars(text))
-    } else {
-        Err(Fault::Line)
+        return to.chars(text);
     }
+    Ok(words.fail(Fault::Line))
 }
 
-fn write(words: &mut Words<'_>, mut to: CommandWriter<'_>, word: &str) -> Result<Put, Fault> {
+fn put_repeat(words: &mut Words<'_>, to: &mut CommandWriter<'_>) -> Put {
+    let (end, digits) = (at(words.number(), Size::base()), words.word());
+    to.ra(end, character(words, digits))
+}
+
+fn begin(words: &mut Words<'_>, to: &mut CommandWriter<'_>) -> Put {
+    let code = words.named(&CODES, CommandCode::Write);
+    to.begin(code, Wcc::from_byte(words.byte()))
+}
+
+fn write(words: &mut Words<'_>, mut to: CommandWriter<'_>, word: &str) -> Put {
     match word {
-        "begin" => Ok(to.begin(words.named(&CODES)?, Wcc::from_byte(words.byte()?))),
-        "sba" => Ok(to.sba(at(words.number()?, Size::base()))),
-        "sf" => Ok(to.sf(Attr::from_code(words.byte()?))),
-        "ra" => Ok(to.ra(at(words.number()?, Size::base()), character(words.word()?)?)),
-        "ic" => Ok(to.ic()),
-        "chars" => put_text(&mut to, words.bytes()?),
-        _ => Err(Fault::Line),
+        "begin" => begin(words, &mut to),
+        "sba" => to.sba(at(words.number(), Size::base())),
+        "sf" => to.sf(Attr::from_code(words.byte())),
+        "ra" => put_repeat(words, &mut to),
+        "ic" => to.ic(),
+        "chars" => put_text(words, &mut to),
+        _ => Ok(words.fail(Fault::Line)),
     }
 }
 
 impl Subject for Commands {
-    fn take(&mut self, words: &mut Words<'_>, answer: &mut Answer) -> Done {
-        match words.word()? {
-            "read" => read(answer, words.size()?, words.size()?, words.bytes()?),
-            "inbound" => read_data(answer, words.named(&FORMS)?, words.size()?, words.bytes()?),
+    fn take(&mut self, words: &mut Words<'_>, answer: &mut Answer) {
+        match words.word() {
+            "read" => read(answer, words.size(), words.size(), words.bytes()),
+            "inbound" => read_data(answer, form(words), words.size(), words.bytes()),
             word => {
-                let called = write(words, CommandWriter::new(&mut answer.out), word)?;
+                let called = write(words, CommandWriter::new(&mut answer.out), word);
                 answer.done(called)
             }
         }

@@ -12,111 +12,109 @@ use crate::subjects::Made;
 use crate::subjects::cells::put_belief;
 use crate::subjects::links::Link;
 use crate::subjects::panel::set_value;
-use crate::talk::{Answer, Done, Fault, Words, bytes_of, named};
+use crate::talk::{Answer, Fault, Words};
 use applications::application_of;
 use codes3270::aid_byte;
 use host_core::{
     Answer as Reply, Host, HostEvent, MOST_CONNECTIONS, MessageText, PanelSet, Phase, Pool,
     Question, Terminals, Ticket, Values, serve_turn,
 };
-use std::alloc::AllocError;
+use panels::Panel;
 use world3270::NoteText;
 
 static TERMINALS: [Terminals; 3] = [Terminals::Waiting, Terminals::Any, Terminals::Verified];
 
 /// What a host serves: the kind of terminals, and the panels of a text, which is one word of bytes.
 pub(crate) fn read_service(words: &mut Words<'_>) -> Result<(Terminals, PanelSet, Pool), Fault> {
-    let (alloc, name) = (words.alloc, words.word()?);
-    let text = words.text()?;
-    let terminals = named(alloc, &TERMINALS, name)?;
-    match application_of(alloc, text) {
+    let terminals = words.named(&TERMINALS, Terminals::Any);
+    match application_of(words.alloc, words.text()) {
         Ok((panels, pool)) => Ok((terminals, panels, pool)),
-        Err(jobs::Fault::NoMemory) => Err(Fault::NoMemory(AllocError)),
+        Err(jobs::Fault::NoMemory) => Err(Fault::NoMemory),
         Err(_) => Err(Fault::Line),
     }
 }
 
-pub(crate) fn put_state(answer: &mut Answer, host: &Host, conn: usize) -> Done
+pub(crate) fn put_state(answer: &mut Answer, host: &Host, conn: usize)
     requires { conn < most_connections }
 {
-    let (phase, model) = (host.phase(conn), host.model(conn));
-    writeln!(answer.text, "phase {phase:?}\nmodel {model:?}")?;
-    let (turn, pending) = (host.turn(conn), host.pending(conn));
-    Ok(writeln!(answer.text, "turn {turn:?}\npending {pending:?}")?)
+    writeln!(answer, "phase {:?}", host.phase(conn));
+    writeln!(answer, "model {:?}", host.model(conn));
+    writeln!(answer, "turn {:?}", host.turn(conn));
+    writeln!(answer, "pending {:?}", host.pending(conn))
 }
 
-pub(crate) fn put_all(answer: &mut Answer, host: &Host, conn: usize) -> Done
+pub(crate) fn put_all(answer: &mut Answer, host: &Host, conn: usize)
     requires { conn < most_connections }
 {
-    put_state(answer, host, conn)?;
-    answer.name("out", host.out(conn))?;
+    put_state(answer, host, conn);
+    answer.name("out", host.out(conn));
     put_belief(answer, host.shadow(conn))
 }
 
-fn put_question(answer: &mut Answer, host: &Host, question: &Question) -> Done {
-    let Ticket { session, turn } = question.ticket;
-    writeln!(answer.text, "ticket {session} {turn}\nlu {}", question.lu)?;
-    let (panel, cursor, aid) = (question.panel, question.cursor, [aid_byte(question.aid)]);
-    answer.line(&(panel, cursor, aid))?;
-    if let Some(panel) = host.panels().panel(question.panel) {
-        for field in panel.fields() {
-            if let Some(value) = question.values.get(field.number) {
-                answer.name(field.name.as_str(), value)?;
-            }
+fn put_values(answer: &mut Answer, panel: &Panel, values: &Values) {
+    for field in panel.fields() {
+        if let Some(value) = values.get(field.number) {
+            answer.name(field.name.as_str(), value);
         }
     }
-    Ok(())
 }
 
-fn read_reply(words: &mut Words<'_>) -> Result<Reply, Fault> {
-    let message = MessageText::new(bytes_of(words.alloc, words.word()?)?.as_slice());
-    let mut values = Values::new(words.alloc);
-    if !words.rest.is_empty() {
-        set_value(words, &mut values)??;
+fn put_question(answer: &mut Answer, host: &Host, question: &Question) {
+    let Ticket { session, turn } = question.ticket;
+    writeln!(answer, "ticket {session} {turn}\nlu {}", question.lu);
+    answer.line(&(question.panel, question.cursor, [aid_byte(question.aid)]));
+    if let Some(panel) = host.panels().panel(question.panel) {
+        put_values(answer, panel, &question.values)
     }
-    Ok(Reply {
+}
+
+fn answer_on(host: &mut Host, conn: usize, words: &mut Words<'_>, answer: &mut Answer)
+    requires { conn < most_connections }
+{
+    let (session, turn, word) = (words.number(), words.number(), words.word());
+    let message = MessageText::new(words.bytes_of(word).as_slice());
+    let mut values = Values::new(words.alloc);
+    if !words.rest.is_empty() && set_value(words, &mut values).is_err() {
+        words.fail(Fault::NoMemory);
+    }
+    let reply = Reply {
         panel: None,
         values,
         message,
         cursor: None,
-    })
+    };
+    answer.line(&host.answer(conn, Ticket { session, turn }, &reply))
 }
 
-fn take_on(
-    host: &mut Host,
-    conn: usize,
-    word: &str,
-    words: &mut Words<'_>,
-    answer: &mut Answer,
-) -> Done
+fn turn_on(host: &mut Host, conn: usize, words: &mut Words<'_>, answer: &mut Answer)
+    requires { conn < most_connections }
+{
+    let mut link = Link::read_from(words);
+    answer.line(&serve_turn(host, &mut link, conn));
+    writeln!(answer, "{} {}", link.reads, link.writes);
+    answer.name("heard", link.heard.as_slice())
+}
+
+fn take_on(host: &mut Host, conn: usize, word: &str, words: &mut Words<'_>, answer: &mut Answer)
     requires { conn < most_connections }
 {
     match word {
         "open" if host.phase(conn) == Phase::Free => answer.done(host.open(conn)),
-        "feed" => answer.line(&host.feed(conn, words.bytes()?)),
+        "feed" => answer.line(&host.feed(conn, words.bytes())),
         "act" => answer.line(&host.act(conn)),
-        "note" => match NoteText::new(words.bytes()?) {
+        "note" => match NoteText::new(words.bytes()) {
             Some(note) => answer.line(&host.note(conn, note.text())),
-            None => Err(Fault::Line),
+            None => words.fail(Fault::Line),
         },
-        "answer" => {
-            let (session, turn) = (words.number()?, words.number()?);
-            let ticket = Ticket { session, turn };
-            answer.line(&host.answer(conn, ticket, &read_reply(words)?))
-        }
-        "turn" => {
-            let mut link = Link::read_from(words)?;
-            answer.line(&serve_turn(host, &mut link, conn))?;
-            writeln!(answer.text, "{} {}", link.reads, link.writes)?;
-            answer.name("heard", link.heard.as_slice())
-        }
-        "sent" => Ok(host.sent(conn, words.number::<usize>()?.min(host.out(conn).len()))),
+        "answer" => answer_on(host, conn, words, answer),
+        "turn" => turn_on(host, conn, words, answer),
+        "sent" => host.sent(conn, words.number::<usize>().min(host.out(conn).len())),
         "closed" => answer.name("unsent", host.closed(conn).as_slice()),
-        _ => look(host, conn, word, answer),
+        _ => look(host, conn, word, words, answer),
     }
 }
 
-fn put_event(answer: &mut Answer, event: HostEvent) -> Done {
+fn put_event(answer: &mut Answer, event: HostEvent) {
     match event {
         HostEvent::Rejected(it) => answer.line(&("Rejected", it.lu, it.reason)),
         HostEvent::Bound(lu) => answer.line(&("Bound", lu)),
@@ -128,23 +126,23 @@ fn put_event(answer: &mut Answer, event: HostEvent) -> Done {
     }
 }
 
-fn look(host: &mut Host, conn: usize, word: &str, answer: &mut Answer) -> Done
+fn look(host: &mut Host, conn: usize, word: &str, words: &mut Words<'_>, answer: &mut Answer)
     requires { conn < most_connections }
 {
     match word {
         "event" => match host.next_event(conn) {
             Some(event) => put_event(answer, event),
-            None => answer.said(&"None"),
+            None => writeln!(answer, "None"),
         },
         "question" => match host.question(conn) {
             Ok(Some(question)) => put_question(answer, host, &question),
-            Ok(None) => Ok(()),
+            Ok(None) => {}
             Err(fault) => answer.done(Err(fault)),
         },
         "out" => answer.name("out", host.out(conn)),
         "state" => put_state(answer, host, conn),
         "see" => put_all(answer, host, conn),
-        _ => Err(Fault::Line),
+        _ => words.fail(Fault::Line),
     }
 }
 
@@ -154,10 +152,12 @@ impl Made for Host {
         Ok(Host::serving(words.alloc, terminals, panels, pool)?)
     }
 
-    fn take(&mut self, word: &str, words: &mut Words<'_>, answer: &mut Answer) -> Done {
-        match word {
-            "restart" => Ok(self.restart()),
-            _ => take_on(self, words.index(MOST_CONNECTIONS)?, word, words, answer),
+    fn take(&mut self, word: &str, words: &mut Words<'_>, answer: &mut Answer) {
+        if word == "restart" {
+            return self.restart();
+        }
+        if let Some(conn) = words.index(MOST_CONNECTIONS) {
+            take_on(self, conn, word, words, answer)
         }
     }
 }

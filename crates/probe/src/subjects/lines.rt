@@ -6,7 +6,7 @@
 //! faults           faults of which the system gives few
 //! ```
 use crate::subjects::Subject;
-use crate::talk::{Answer, Done, Fault, Put, Words};
+use crate::talk::{Answer, Done, Fault, Words};
 use applications::{Absence, AnswerFault, ApplicationFault, application_of};
 use cli::words;
 use jobs::{FileFault, LiveFault};
@@ -26,20 +26,20 @@ fn put_words(alloc: Global, answer: &mut Answer, text: &str) -> Done {
     for word in text.split_whitespace() {
         given.push(String::from_str(alloc, word)?)?;
     }
-    answer.line(&words(alloc, given.as_slice()))
+    Ok(answer.line(&words(alloc, given.as_slice())))
 }
 
 fn put_report(alloc: Global, answer: &mut Answer, text: &str) -> Done {
     let report = check(alloc, text)?;
-    answer.line(&report.faults())?;
-    answer.page(report.page(alloc, "text"))?;
-    match application_of(alloc, text) {
-        Ok(_) => answer.said(&"readers accept"),
-        Err(fault) => Ok(writeln!(answer.text, "readers refuse {fault}")?),
-    }
+    answer.line(&report.faults());
+    answer.page(report.page(alloc, "text"));
+    Ok(match application_of(alloc, text) {
+        Ok(_) => writeln!(answer, "readers accept"),
+        Err(fault) => writeln!(answer, "readers refuse {fault}"),
+    })
 }
 
-fn put_event(answer: &mut String, event: &Event) -> Put {
+fn put_event(answer: &mut Answer, event: &Event) {
     match event {
         Event::Key(terminal, key) => writeln!(answer, "key {terminal} {key}"),
         Event::Up(conn, count) => writeln!(answer, "up {conn} {count}"),
@@ -57,7 +57,7 @@ fn put_event(answer: &mut String, event: &Event) -> Put {
     }
 }
 
-fn put_script(answer: &mut String, line: &str) -> Put {
+fn put_script(answer: &mut Answer, line: &str) {
     match ScriptCommand::read(line) {
         None => writeln!(answer, "not understood"),
         Some(ScriptCommand::Nothing) => writeln!(answer, "nothing"),
@@ -71,42 +71,55 @@ fn put_script(answer: &mut String, line: &str) -> Put {
     }
 }
 
-fn put_faults(alloc: Global, answer: &mut Answer) -> Done {
-    use jobs::Fault;
+fn put_socket_faults(answer: &mut Answer) {
     // An address for documentation (RFC 5737).
     let peer = SocketAddr::from((Ipv4Addr::new(192, 0, 2, 1), 3270));
-    answer.said(&Fault::SocketFailed)?;
-    answer.said(&Fault::NotRandom)?;
-    answer.said(&LiveFault::Closed(Cause::Wire))?;
     for kind in [ErrorKind::PermissionDenied, ErrorKind::InvalidInput] {
-        answer.said(&Fault::CannotListen(peer, kind))?;
+        writeln!(answer, "{}", jobs::Fault::CannotListen(peer, kind));
     }
     for kind in [ErrorKind::TimedOut, ErrorKind::PermissionDenied] {
-        answer.said(&LiveFault::CannotConnect(peer, kind))?;
+        writeln!(answer, "{}", LiveFault::CannotConnect(peer, kind));
     }
+}
+
+fn put_faults(alloc: Global, answer: &mut Answer) -> Done {
+    writeln!(answer, "{}", jobs::Fault::SocketFailed);
+    writeln!(answer, "{}", jobs::Fault::NotRandom);
+    writeln!(answer, "{}", LiveFault::Closed(Cause::Wire));
+    put_socket_faults(answer);
     for why in [ErrorKind::PermissionDenied, ErrorKind::InvalidFilename] {
-        answer.said(&FileFault {
-            name: "a.toml",
-            why,
-        })?;
+        writeln!(
+            answer,
+            "{}",
+            FileFault {
+                name: "a.toml",
+                why
+            }
+        );
     }
     let name = String::from_str(alloc, "a\"b\\c\n")?;
-    answer.said(&ApplicationFault::Answer(AnswerFault::UnknownField(name)))?;
-    answer.said(&ApplicationFault::Absent(Absence::NoMemory))?;
-    answer.said(&ApplicationFault::Answer(AnswerFault::Memory))
+    writeln!(
+        answer,
+        "{}",
+        ApplicationFault::Answer(AnswerFault::UnknownField(name))
+    );
+    writeln!(answer, "{}", ApplicationFault::Absent(Absence::NoMemory));
+    Ok(writeln!(answer, "{}", ApplicationFault::Answer(AnswerFault::Memory)))
 }
 
 impl Subject for Lines {
-    fn take(&mut self, words: &mut Words<'_>, answer: &mut Answer) -> Done {
-        let (alloc, kind, text) = (words.alloc, words.word()?, words.text()?);
-        match kind {
+    fn take(&mut self, words: &mut Words<'_>, answer: &mut Answer) {
+        let (alloc, kind) = (words.alloc, words.word());
+        let text = words.text();
+        let done = match kind {
             "words" => put_words(alloc, answer, text),
-            "script" => Ok(put_script(&mut answer.text, text)?),
-            "terminal" => answer.line(&TerminalCommand::read(text)),
-            "typed" => answer.said(&typed_text(text)),
+            "script" => Ok(put_script(answer, text)),
+            "terminal" => Ok(answer.line(&TerminalCommand::read(text))),
+            "typed" => Ok(writeln!(answer, "{}", typed_text(text))),
             "check" => put_report(alloc, answer, text),
             "faults" => put_faults(alloc, answer),
             _ => Err(Fault::Line),
-        }
+        };
+        words.note(done)
     }
 }

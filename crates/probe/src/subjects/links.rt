@@ -2,7 +2,7 @@
 ghost use Rattle.std.specs.Prelude.{⊤, ◌≡◌, false, true, slice_index_or};
 ghost use Rattle.host_core.specs.Serves.{ReadCounts, Rises, WriteCounts};
 
-use crate::talk::{Fault, Words, bytes_of};
+use crate::talk::Words;
 use host_core::{LinkRead, LinkWrite, Links};
 
 #[derive(Drop)]
@@ -33,28 +33,28 @@ fn raise(counts: &mut [u64; 2], conn: usize) -> bool
 impl Link {
     /// The connection that the words TAKES GIVES describe. TAKES is how many bytes a write takes, `-` for none this
     /// time, or `fails`; GIVES is the bytes that a read returns, `-` for none this time, `ends` or `fails`.
-    pub(crate) fn read_from(words: &mut Words<'_>) -> Result<Link, Fault> {
-        let write = match words.word()? {
+    pub(crate) fn read_from(words: &mut Words<'_>) -> Link {
+        let write = match words.word() {
             "fails" => LinkWrite::Failed,
             "-" => LinkWrite::NotNow,
             word => LinkWrite::Took(word.parse().unwrap_or(0)),
         };
-        let (read, said) = match words.word()? {
+        let (read, said) = match words.word() {
             "ends" => (LinkRead::Ended, "-"),
             "fails" => (LinkRead::Failed, "-"),
             "-" => (LinkRead::NotNow, "-"),
             word => (LinkRead::Got(0), word),
         };
-        Ok(Link {
+        Link {
             read,
             write,
-            said: bytes_of(words.alloc, said)?,
+            said: words.bytes_of(said),
             heard: Vec::new(words.alloc),
             reads: 0,
             writes: 0,
             ends: [0; 2],
             failures: [0; 2],
-        })
+        }
     }
 }
 

@@ -39,8 +39,9 @@ static CAUSES: [Cause; 10] = [
     Cause::RuleBroken,
 ];
 
-fn put_device(answer: &mut Answer, device: Option<Device>, text: &[u8]) -> Done {
-    answer.line(&device.map(|it| (it.text(), it.model(), it.has_text(text))))
+fn put_device(answer: &mut Answer, device: Device, text: &[u8]) {
+    let told = (device.text(), device.model(), device.has_text(text));
+    answer.line(&Some(told))
 }
 
 fn item_of<'a>(alloc: Global, word: &str, bytes: &'a [u8]) -> Result<Item<'a>, Fault> {
@@ -56,50 +57,59 @@ fn item_of<'a>(alloc: Global, word: &str, bytes: &'a [u8]) -> Result<Item<'a>, F
     }
 }
 
+/// Adds the line of what a talk answers, with the bytes that it sends, and of how it stands now.
 fn put_after<S: Debug>(alloc: Global, answer: &mut Answer, reply: &Reply, state: &S) -> Done {
     let mut out = Vec::with_capacity(alloc, REPLY_ROOM)?;
     let cause = put_reply(&mut out, reply);
     let sent = out.as_slice();
-    Ok(writeln!(answer.text, "({sent:?}, {reply:?}, {cause:?}, {state:?})")?)
+    Ok(writeln!(answer, "({sent:?}, {reply:?}, {cause:?}, {state:?})"))
 }
 
-fn read_lu(words: &mut Words<'_>) -> Result<Option<Lu>, Fault> {
-    let name = words.bytes()?;
+fn read_lu(words: &mut Words<'_>) -> Option<Lu> {
+    let name = words.bytes();
     let lu = Lu::read(name);
     if lu.is_none() && !name.is_empty() {
-        return Err(Fault::Line);
+        words.fail(Fault::Line);
     }
-    Ok(lu)
+    lu
+}
+
+fn put_header(answer: &mut Answer, bytes: &[u8]) {
+    match read_header(bytes) {
+        Ok((header, data)) => {
+            writeln!(answer, "({header:?}, {data:?})");
+            answer.line(&header_bytes(&header))
+        }
+        Err(fault) => writeln!(answer, "{fault}"),
+    }
 }
 
 fn take_bytes(word: &str, bytes: &[u8], answer: &mut Answer) -> Done {
     match (word, read_sub(bytes)) {
-        ("header", _) => {
-            let read = read_header(bytes);
-            answer.called(&read)?;
-            match &read {
-                Ok((header, _)) => answer.line(&header_bytes(header)),
-                Err(_) => Ok(()),
-            }
-        }
+        ("header", _) => put_header(answer, bytes),
         ("sub", Ok(message)) => {
-            answer.line(&message)?;
+            answer.line(&message);
             answer.out.clear();
             put_sub_message(&mut answer.out, &message)?;
-            Ok(writeln!(answer.text, "{:?}", answer.out.as_slice())?)
+            writeln!(answer.text, "{:?}", answer.out.as_slice())?
         }
-        ("sub", Err(fault)) => answer.said(&fault),
+        ("sub", Err(fault)) => writeln!(answer, "{fault}"),
         ("put", Ok(message)) => {
             let called = put_sub_message(&mut answer.out, &message);
             answer.done(called)
         }
-        ("lu", _) => match Lu::read(bytes) {
-            Some(lu) => Ok(writeln!(answer.text, "{lu} {:?}", lu.as_bytes())?),
-            None => Ok(()),
+        ("lu", _) => {
+            if let Some(lu) = Lu::read(bytes) {
+                writeln!(answer, "{lu} {:?}", lu.as_bytes())
+            }
+        }
+        ("device", _) => match Device::read(bytes) {
+            Some(device) => put_device(answer, device, bytes),
+            None => writeln!(answer, "None"),
         },
-        ("device", _) => put_device(answer, Device::read(bytes), bytes),
-        _ => Err(Fault::Line),
+        _ => return Err(Fault::Line),
     }
+    Ok(())
 }
 
 impl Messages {
@@ -110,21 +120,17 @@ impl Messages {
         }
     }
 
-    fn answered(&mut self, words: &mut Words<'_>, answer: &mut Answer, is_granted: bool) -> Done {
-        let lu = match is_granted {
-            true => Ok(read_lu(words)?.ok_or(Fault::Line)?),
-            false => Err(Reason(words.byte()?)),
-        };
+    fn answered(&mut self, alloc: Global, lu: Result<Lu, Reason>, answer: &mut Answer) -> Done {
         if !self.host.asking() {
             return Err(Fault::Line);
         }
         let reply = self.host.answered(lu);
-        put_after(words.alloc, answer, &reply, &self.host.state())
+        put_after(alloc, answer, &reply, &self.host.state())
     }
 
     fn take_item(&mut self, words: &mut Words<'_>, answer: &mut Answer, is_host: bool) -> Done {
-        let (alloc, word, bytes) = (words.alloc, words.word()?, words.bytes()?);
-        let item = item_of(alloc, word, bytes)?;
+        let (alloc, word) = (words.alloc, words.word());
+        let item = item_of(alloc, word, words.bytes())?;
         if is_host {
             let reply = self.host.take(&item);
             return put_after(alloc, answer, &reply, &self.host.state());
@@ -133,53 +139,69 @@ impl Messages {
         put_after(alloc, answer, &reply, &self.terminal.state())
     }
 
+    fn put_offer(&mut self, alloc: Global, answer: &mut Answer) -> Done {
+        self.host = HostTalk::new();
+        let mut out = Vec::new(alloc);
+        HostTalk::put_offer(&mut out)?;
+        Ok(answer.line(&out.as_slice()))
+    }
+
+    fn put_host(&self, answer: &mut Answer) {
+        let host = &self.host;
+        let (agreed, lu) = ((host.is_agreed(), host.agreed_lu()), host.lu());
+        answer.line(&(host.asking(), lu, agreed, host.device(), host.model()))
+    }
+
+    fn put_terminal(&self, answer: &mut Answer) {
+        let agreed = (self.terminal.is_agreed(), self.terminal.agreed_lu());
+        answer.line(&(self.terminal.lu(), agreed, self.terminal.reason_refused()))
+    }
+
     fn take_talk(&mut self, word: &str, words: &mut Words<'_>, answer: &mut Answer) -> Done {
-        let (host, terminal) = (&self.host, &self.terminal);
         match word {
             "hears" => self.take_item(words, answer, true),
             "takes" => self.take_item(words, answer, false),
-            "granted" => self.answered(words, answer, true),
-            "refused" => self.answered(words, answer, false),
-            "host" => {
-                self.host = HostTalk::new();
-                let mut out = Vec::new(words.alloc);
-                HostTalk::put_offer(&mut out)?;
-                answer.line(&out.as_slice())
-            }
-            "told" => {
-                let (agreed, lu) = ((host.is_agreed(), host.agreed_lu()), host.lu());
-                answer.line(&(host.asking(), lu, agreed, host.device(), host.model()))
-            }
-            "terminal" => Ok(self.terminal = TermTalk::new(words.model()?, read_lu(words)?)),
-            "is" => {
-                let agreed = (terminal.is_agreed(), terminal.agreed_lu());
-                answer.line(&(terminal.lu(), agreed, terminal.reason_refused()))
-            }
-            _ => take_bytes(word, words.bytes()?, answer),
+            "granted" => match read_lu(words) {
+                Some(lu) => self.answered(words.alloc, Ok(lu), answer),
+                None => Err(Fault::Line),
+            },
+            "refused" => self.answered(words.alloc, Err(Reason(words.byte())), answer),
+            "host" => self.put_offer(words.alloc, answer),
+            "told" => Ok(self.put_host(answer)),
+            "terminal" => Ok(self.terminal = TermTalk::new(words.model(), read_lu(words))),
+            "is" => Ok(self.put_terminal(answer)),
+            _ => take_bytes(word, words.bytes(), answer),
         }
     }
 }
 
+fn put_causes(answer: &mut Answer) {
+    for cause in &CAUSES {
+        writeln!(answer, "{} {} {cause}", cause.number(), cause.name());
+    }
+}
+
 impl Subject for Messages {
-    fn take(&mut self, words: &mut Words<'_>, answer: &mut Answer) -> Done {
-        match words.word()? {
-            "next" => answer.line(&next_seq(words.number()?)),
+    fn take(&mut self, words: &mut Words<'_>, answer: &mut Answer) {
+        match words.word() {
+            "next" => answer.line(&next_seq(words.number())),
             "device-of" => {
-                let device = Device::of(words.model()?);
-                put_device(answer, Some(device), device.text())
+                let device = Device::of(words.model());
+                put_device(answer, device, device.text())
             }
             "reason" => {
-                let reason = Reason(words.byte()?);
-                Ok(writeln!(answer.text, "{} {reason}", reason.name().unwrap_or("-"))?)
+                let reason = Reason(words.byte());
+                writeln!(answer, "{} {reason}", reason.name().unwrap_or("-"))
             }
-            "causes" => Ok(for cause in &CAUSES {
-                writeln!(answer.text, "{} {} {cause}", cause.number(), cause.name())?;
-            }),
+            "causes" => put_causes(answer),
             "constants" => {
-                answer.line(&(NO_RESPONSE, ERROR_RESPONSE, ALWAYS_RESPONSE))?;
+                answer.line(&(NO_RESPONSE, ERROR_RESPONSE, ALWAYS_RESPONSE));
                 answer.line(&(POSITIVE, NEGATIVE, HEADER_LENGTH, RECORD_LIMIT, REPLY_ROOM))
             }
-            word => self.take_talk(word, words, answer),
+            word => {
+                let done = self.take_talk(word, words, answer);
+                words.note(done)
+            }
         }
     }
 }

@@ -13,7 +13,7 @@ ghost use Rattle.panels.specs.declared.message.Message.TheVariants.{Fresh};
 
 use crate::subjects::Subject;
 use crate::subjects::cells::{aid, put_wanted};
-use crate::talk::{Answer, Done, Fault, Put, Words};
+use crate::talk::{Answer, Fault, Put, Words};
 use codes3270::storable;
 use panels::{Message, Panel, PanelFault, PanelSet, Values};
 use std::alloc::{AllocError, Global};
@@ -27,14 +27,15 @@ pub(crate) struct Panels {
     copy: Values,
 }
 
-fn read_message(words: &mut Words<'_>) -> Result<Message, Fault> {
-    match words.word()? {
-        "fresh" => Ok(Message::Fresh),
-        "plain" => Ok(Message::Plain),
-        "key-not-active" => Ok(Message::KeyNotActive),
-        "required" => Ok(Message::Required(words.number()?)),
-        _ => Err(Fault::Line),
+fn read_message(words: &mut Words<'_>) -> Message {
+    match words.word() {
+        "fresh" => return Message::Fresh,
+        "plain" => {}
+        "key-not-active" => return Message::KeyNotActive,
+        "required" => return Message::Required(words.number()),
+        _ => words.fail(Fault::Line),
     }
+    Message::Plain
 }
 
 fn is_fresh(message: &Message) -> bool
@@ -49,25 +50,37 @@ fn are_characters(bytes: &[u8]) -> bool
     bytes.iter().all(|byte| *byte != 0 && storable(*byte))
 }
 
-pub(crate) fn set_value(words: &mut Words<'_>, values: &mut Values) -> Result<Put, Fault> {
-    let (field, bytes) = (words.number()?, words.bytes()?);
-    if !are_characters(bytes) {
-        return Err(Fault::Line);
+pub(crate) fn set_value(words: &mut Words<'_>, values: &mut Values) -> Put {
+    let (field, bytes) = (words.number(), words.bytes());
+    if are_characters(bytes) {
+        return values.set(field, bytes);
     }
-    Ok(values.set(field, bytes))
+    Ok(words.fail(Fault::Line))
 }
 
-fn put_panel(answer: &mut Answer, panel: &Panel) -> Done {
-    answer.line(&(panel.name().as_str(), panel.model(), panel.size()))?;
+fn put_panel(answer: &mut Answer, panel: &Panel) {
+    answer.line(&(panel.name().as_str(), panel.model(), panel.size()));
     for field in panel.fields() {
         let extent = (field.extent.attr(), field.extent.length);
-        answer.line(&(field.number, extent, field.required))?;
+        answer.line(&(field.number, extent, field.required));
     }
     for value in panel.values() {
         let extent = (value.extent.attr(), value.extent.length);
-        answer.line(&("value", value.number, extent))?;
+        answer.line(&("value", value.number, extent));
     }
-    Ok(())
+}
+
+fn put_screens(words: &mut Words<'_>, answer: &mut Answer, panel: &Panel, values: &Values) {
+    let (keep, message) = (words.number::<bool>(), read_message(words));
+    if keep && is_fresh(&message) {
+        return words.fail(Fault::Line);
+    }
+    let mut wanted = panel.wanted(values, message, keep);
+    put_wanted(answer, &wanted);
+    if keep {
+        panel.put_values(&mut wanted, values, message);
+        put_wanted(answer, &wanted)
+    }
 }
 
 impl Panels {
@@ -80,70 +93,55 @@ impl Panels {
         }
     }
 
-    fn read(&mut self, words: &mut Words<'_>, answer: &mut Answer) -> Done {
-        match PanelSet::read(words.alloc, words.text()?) {
+    fn read(&mut self, words: &mut Words<'_>, answer: &mut Answer) {
+        match PanelSet::read(words.alloc, words.text()) {
             Ok(set) => {
-                answer.line(&(set.start(), set.len(), set.lus()))?;
-                Ok(self.set = Some(set))
+                answer.line(&(set.start(), set.len(), set.lus()));
+                self.set = Some(set);
             }
             Err(PanelFault::Memory) => answer.done(Err(AllocError)),
-            Err(fault) => Ok(writeln!(answer.text, "fault {fault}")?),
+            Err(fault) => writeln!(answer, "fault {fault}"),
         }
-    }
-
-    fn set(&self) -> Result<&PanelSet, Fault> {
-        self.set.as_ref().ok_or(Fault::Line)
-    }
-
-    fn panel(&self) -> Result<&Panel, Fault> {
-        let panel = self.set()?.panel(self.index);
-        panel.ok_or(Fault::Line)
-    }
-
-    fn put_wanted(&self, words: &mut Words<'_>, answer: &mut Answer) -> Done {
-        let (keep, message) = (words.number::<bool>()?, read_message(words)?);
-        if keep && is_fresh(&message) {
-            return Err(Fault::Line);
-        }
-        let panel = self.panel()?;
-        let mut wanted = panel.wanted(&self.values, message, keep);
-        put_wanted(answer, &wanted)?;
-        if keep {
-            panel.put_values(&mut wanted, &self.values, message);
-            put_wanted(answer, &wanted)?;
-        }
-        Ok(())
-    }
-
-    fn put_shown(&self, words: &mut Words<'_>, answer: &mut Answer) -> Done {
-        let set = self.set()?;
-        answer.line(&set.shown(words.index(set.len())?, words.model()?))
     }
 
     fn copy(&mut self) -> Put {
         Ok(self.copy = self.values.clone()?)
     }
+
+    /// Executes a command on the panel of the index, if there is one.
+    fn take_panel(&self, word: &str, words: &mut Words<'_>, answer: &mut Answer) {
+        let Some(set) = &self.set else {
+            return words.fail(Fault::Line);
+        };
+        match (word, set.panel(self.index)) {
+            ("panel", Some(panel)) => put_panel(answer, panel),
+            ("panel", None) => {}
+            ("wanted", Some(panel)) => put_screens(words, answer, panel, &self.values),
+            ("next", Some(panel)) => answer.line(&panel.next(aid(words))),
+            ("shown", _) => {
+                if let Some(index) = words.index(set.len()) {
+                    answer.line(&set.shown(index, words.model()))
+                }
+            }
+            _ => words.fail(Fault::Line),
+        }
+    }
 }
 
 impl Subject for Panels {
-    fn take(&mut self, words: &mut Words<'_>, answer: &mut Answer) -> Done {
-        match words.word()? {
+    fn take(&mut self, words: &mut Words<'_>, answer: &mut Answer) {
+        match words.word() {
             "read" => self.read(words, answer),
-            "panel" => {
-                self.index = words.number()?;
-                match self.set()?.panel(self.index) {
-                    Some(panel) => put_panel(answer, panel),
-                    None => Ok(()),
-                }
-            }
-            "wanted" => self.put_wanted(words, answer),
-            "next" => answer.line(&self.panel()?.next(aid(words)?)),
-            "shown" => self.put_shown(words, answer),
-            "set" => answer.done(set_value(words, &mut self.values)?),
+            "set" => answer.done(set_value(words, &mut self.values)),
             "copy" => answer.done(self.copy()),
-            "swap" => Ok(mem::swap(&mut self.values, &mut self.copy)),
-            "value" => answer.line(&self.values.get(words.number()?)),
-            _ => Err(Fault::Line),
+            "swap" => mem::swap(&mut self.values, &mut self.copy),
+            "value" => answer.line(&self.values.get(words.number())),
+            word => {
+                if word == "panel" {
+                    self.index = words.number();
+                }
+                self.take_panel(word, words, answer)
+            }
         }
     }
 }

@@ -1,6 +1,6 @@
 //! Calls of lu_pool, by Debug. `ask CONN BYTES` asks for the LU of a name, or for any if there are no bytes.
 use crate::subjects::Subject;
-use crate::talk::{Answer, Done, Fault, Words, bytes_of};
+use crate::talk::{Answer, Done, Fault, Words};
 use lu_pool::{Pool, PoolFault};
 
 #[derive(Drop)]
@@ -12,34 +12,38 @@ fn ask(answer: &mut Answer, pool: &mut Pool, conn: usize, name: &[u8]) -> Done {
     let name = if name.is_empty() { None } else { Some(name) };
     match pool.lu_held_by(conn) {
         Some(_) => Err(Fault::Line),
-        None => answer.called(&pool.ask(conn, name)),
+        None => Ok(answer.called(&pool.ask(conn, name))),
     }
 }
 
 fn read(words: &mut Words<'_>) -> Result<Result<Pool, PoolFault>, Fault> {
     let mut names = Vec::new(words.alloc);
     for word in words.rest().split_whitespace() {
-        let name = String::from_utf8(bytes_of(words.alloc, word)?);
+        let name = String::from_utf8(words.bytes_of(word));
         names.push(name.ok().ok_or(Fault::Line)?)?;
     }
     Ok(Pool::read(words.alloc, names.as_slice()))
 }
 
 impl Subject for Pools {
-    fn take(&mut self, words: &mut Words<'_>, answer: &mut Answer) -> Done {
-        match (words.word()?, &mut self.pool) {
-            ("read", pool) => match read(words)? {
-                Ok(read) => {
+    fn take(&mut self, words: &mut Words<'_>, answer: &mut Answer) {
+        match (words.word(), &mut self.pool) {
+            ("read", pool) => match read(words) {
+                Ok(Ok(read)) => {
                     *pool = Some(read);
                     answer.done(Ok(()))
                 }
-                Err(fault) => answer.said(&fault),
+                Ok(Err(fault)) => writeln!(answer, "{fault}"),
+                Err(fault) => words.fail(fault),
             },
-            ("ask", Some(pool)) => ask(answer, pool, words.number()?, words.bytes()?),
-            ("held", Some(pool)) => answer.line(&pool.lu_held_by(words.number()?)),
-            ("give-back", Some(pool)) => Ok(pool.give_back(words.number()?)),
-            ("free-all", Some(pool)) => Ok(pool.free_all()),
-            _ => Err(Fault::Line),
+            ("ask", Some(pool)) => {
+                let done = ask(answer, pool, words.number(), words.bytes());
+                words.note(done)
+            }
+            ("held", Some(pool)) => answer.line(&pool.lu_held_by(words.number())),
+            ("give-back", Some(pool)) => pool.give_back(words.number()),
+            ("free-all", Some(pool)) => pool.free_all(),
+            _ => words.fail(Fault::Line),
         }
     }
 }

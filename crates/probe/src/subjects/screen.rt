@@ -6,7 +6,7 @@
 //! press NAME; char NUMBER  a key by its name, the key of a character
 //! ```
 use crate::subjects::Subject;
-use crate::subjects::cells::{FORMS, aid, at, key, place_on};
+use crate::subjects::cells::{aid, at, form, key, place_on};
 use crate::talk::{Answer, Done, Fault, Words};
 use codes3270::{Model, storable};
 use datastream::{CommandFault, Form, read_command};
@@ -39,24 +39,24 @@ fn mark(screen: &mut Screen, place: u16) {
     }
 }
 
-fn put_look(answer: &mut Answer, screen: &Screen, place: u16) -> Done {
+fn put_looks(answer: &mut Answer, screen: &Screen) {
     let size = screen.size();
-    answer.line(&(
-        screen.cell(at(place, size)),
-        screen.field_at(at(place, size)),
-        screen.attribute_over(at(place, size)),
-        u32::from(screen.glyph_at(at(place, size))),
-    ))
+    for place in 0..size.cells() {
+        answer.line(&(
+            screen.cell(at(place, size)),
+            screen.field_at(at(place, size)),
+            screen.attribute_over(at(place, size)),
+            u32::from(screen.glyph_at(at(place, size))),
+        ));
+    }
 }
 
-fn look(screen: &Screen, words: &mut Words<'_>, answer: &mut Answer, word: &str) -> Done {
+fn look(screen: &Screen, words: &mut Words<'_>, answer: &mut Answer, word: &str) {
     match word {
         "show" => answer.line(&(screen.size(), screen.cursor(), screen.home(), screen.aid())),
-        "look" => Ok(for place in 0..screen.size().cells() {
-            put_look(answer, screen, place)?;
-        }),
+        "look" => put_looks(answer, screen),
         "read" => {
-            let called = match words.named(&FORMS)? {
+            let called = match form(words) {
                 Form::Buffer => screen.put_read_buffer(&mut answer.out),
                 form => screen.put_read_modified(&mut answer.out, form == Form::All),
             };
@@ -64,7 +64,7 @@ fn look(screen: &Screen, words: &mut Words<'_>, answer: &mut Answer, word: &str)
         }
         "fields" => answer.each("fields", screen.fields()),
         "glyphs" => answer.each("glyphs", screen.glyphs().map(u32::from)),
-        _ => Err(Fault::Line),
+        _ => words.fail(Fault::Line),
     }
 }
 
@@ -86,39 +86,44 @@ impl Display {
         Ok(applied)
     }
 
-    fn press(&mut self, answer: &mut Answer, key: Key) -> Done {
+    fn press(&mut self, answer: &mut Answer, key: Key) {
         answer.line(&self.keyboard.press(&mut self.screen, key))
     }
 
-    fn change(&mut self, words: &mut Words<'_>, answer: &mut Answer, word: &str) -> Done {
+    fn store(&mut self, words: &mut Words<'_>) {
+        let first = place_on(words, self.screen.size());
+        store(&mut self.screen, first, words.bytes());
+        mark(&mut self.screen, first)
+    }
+
+    fn copy(&mut self) -> Done {
+        Ok(self.screen = self.screen.clone()?)
+    }
+
+    fn change(&mut self, words: &mut Words<'_>, answer: &mut Answer, word: &str) {
         let size = self.screen.size();
         match word {
-            "new" => *self = Display::blank(words.model()?),
-            "store" => {
-                let first = place_on(words, size)?;
-                store(&mut self.screen, first, words.bytes()?);
-                mark(&mut self.screen, first);
-            }
-            "cursor" => self.screen.set_cursor(at(place_on(words, size)?, size)),
-            "aid" => self.screen.set_aid(aid(words)?),
+            "new" => *self = Display::blank(words.model()),
+            "store" => self.store(words),
+            "cursor" => self.screen.set_cursor(at(place_on(words, size), size)),
+            "aid" => self.screen.set_aid(aid(words)),
             "clear" => self.screen.clear(),
             "erase-input" => self.screen.erase_unprotected(),
-            "copy" => self.screen = self.screen.clone()?,
-            _ => return look(&self.screen, words, answer, word),
+            _ => look(&self.screen, words, answer, word),
         }
-        Ok(())
     }
 }
 
 impl Subject for Display {
-    fn take(&mut self, words: &mut Words<'_>, answer: &mut Answer) -> Done {
-        match words.word()? {
-            "apply" => answer.line(&self.apply(words.bytes()?)),
-            "press" => self.press(answer, key(words)?),
-            "char" => match char::from_u32(words.number()?) {
+    fn take(&mut self, words: &mut Words<'_>, answer: &mut Answer) {
+        match words.word() {
+            "apply" => answer.line(&self.apply(words.bytes())),
+            "press" => self.press(answer, key(words)),
+            "char" => match char::from_u32(words.number()) {
                 Some(letter) => self.press(answer, Key::Char(letter)),
-                None => Err(Fault::Line),
+                None => words.fail(Fault::Line),
             },
+            "copy" => words.note(self.copy()),
             word => self.change(words, answer, word),
         }
     }

@@ -2,68 +2,69 @@
 //! without the one below the screen; `see` shows all that is to be seen; a refusal has its number and its name.
 use crate::subjects::Made;
 use crate::subjects::cells::{key, put_cells};
-use crate::talk::{Answer, Done, Fault, Words};
+use crate::talk::{Answer, Fault, Words};
 use codes3270::aid_byte;
 use keyboard::{Key, Pressed};
 use term_core::{TermPhase, Terminal, screen_lines};
 use tn3270e_msg::Lu;
 
-fn connect(terminal: &mut Terminal, name: &str) -> Done {
+fn connect(terminal: &mut Terminal, words: &mut Words<'_>) {
+    let name = words.rest();
     match (Lu::read(name.as_bytes()), terminal.phase()) {
-        (None, _) if !name.is_empty() => Err(Fault::Line),
-        (wanted, TermPhase::Idle) => Ok(terminal.connected(wanted)),
-        _ => Err(Fault::Line),
+        (None, _) if !name.is_empty() => words.fail(Fault::Line),
+        (wanted, TermPhase::Idle) => terminal.connected(wanted),
+        _ => words.fail(Fault::Line),
     }
 }
 
-fn press(answer: &mut Answer, terminal: &mut Terminal, key: Key) -> Done {
+fn press(answer: &mut Answer, terminal: &mut Terminal, key: Key) {
     match terminal.press(key) {
-        Ok(Pressed::Refused(it)) => Ok(writeln!(answer.text, "refused {} {it}", it.number())?),
-        Ok(Pressed::Send(aid)) => Ok(writeln!(answer.text, "sends {:02X}", aid_byte(aid))?),
+        Ok(Pressed::Refused(it)) => writeln!(answer, "refused {} {it}", it.number()),
+        Ok(Pressed::Send(aid)) => writeln!(answer, "sends {:02X}", aid_byte(aid)),
         Ok(Pressed::Done) => answer.done(Ok(())),
         Err(fault) => answer.done(Err(fault)),
     }
 }
 
-fn put_state(answer: &mut Answer, terminal: &Terminal) -> Done {
-    let (phase, lock, screen) = (terminal.phase(), terminal.lock(), terminal.screen());
-    let size = screen.size();
-    writeln!(answer.text, "phase {phase}\nlock {lock}\nsize {size:?}")?;
-    let (cursor, aid) = (screen.cursor().get(), aid_byte(screen.aid()));
-    writeln!(answer.text, "cursor {cursor}\naid {aid:02X}")?;
-    let (inserting, took_write) = (terminal.keyboard().inserting(), terminal.took_write());
-    writeln!(answer.text, "inserting {inserting}")?;
-    Ok(writeln!(answer.text, "took-write {took_write}")?)
+fn put_state(answer: &mut Answer, terminal: &Terminal) {
+    let screen = terminal.screen();
+    writeln!(answer, "phase {}", terminal.phase());
+    writeln!(answer, "lock {}", terminal.lock());
+    writeln!(answer, "size {:?}", screen.size());
+    writeln!(answer, "cursor {}", screen.cursor().get());
+    writeln!(answer, "aid {:02X}", aid_byte(screen.aid()));
+    writeln!(answer, "inserting {}", terminal.keyboard().inserting());
+    writeln!(answer, "took-write {}", terminal.took_write())
 }
 
-pub(crate) fn put_all(answer: &mut Answer, terminal: &Terminal) -> Done {
-    put_state(answer, terminal)?;
-    answer.name("out", terminal.out())?;
+pub(crate) fn put_all(answer: &mut Answer, terminal: &Terminal) {
+    put_state(answer, terminal);
+    answer.name("out", terminal.out());
     put_cells(answer, terminal.screen())
 }
 
 impl Made for Terminal {
     fn new(words: &mut Words<'_>) -> Result<Terminal, Fault> {
-        Ok(Terminal::new(words.alloc, words.model()?)?)
+        Ok(Terminal::new(words.alloc, words.model())?)
     }
 
-    fn take(&mut self, word: &str, words: &mut Words<'_>, answer: &mut Answer) -> Done {
+    fn take(&mut self, word: &str, words: &mut Words<'_>, answer: &mut Answer) {
         match word {
-            "connected" => connect(self, words.rest()),
-            "feed" => answer.line(&self.feed(words.bytes()?)),
-            "key" => press(answer, self, key(words)?),
-            "type" => Ok(for letter in words.rest().chars() {
-                press(answer, self, Key::Char(letter))?;
-            }),
-            "sent" => Ok(self.sent(words.number::<usize>()?.min(self.out().len()))),
+            "connected" => connect(self, words),
+            "feed" => answer.line(&self.feed(words.bytes())),
+            "key" => press(answer, self, key(words)),
+            "type" => for letter in words.rest().chars() {
+                press(answer, self, Key::Char(letter));
+            },
+            "sent" => self.sent(words.number::<usize>().min(self.out().len())),
             "lost" => answer.name("unsent", self.lost().as_slice()),
-            "restart" => Ok(self.restart()),
+            "restart" => self.restart(),
             "out" => answer.name("out", self.out()),
             "state" => put_state(answer, self),
             "see" => put_all(answer, self),
             "text" => answer.page(self.screen_text(words.alloc)),
             "lines" => answer.page(screen_lines(words.alloc, self.screen())),
-            _ => Err(Fault::Line),
+            _ => words.fail(Fault::Line),
         }
     }
 }

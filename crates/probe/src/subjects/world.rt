@@ -36,46 +36,48 @@ fn read_event(line: &str) -> Result<Event, Fault> {
     }
 }
 
-impl Worlds {
-    fn put_states(&self, answer: &mut Answer) -> Done {
-        for terminal in 0..self.world.terminals() {
-            let phase = self.world.terminal(terminal).phase();
-            writeln!(answer.text, "terminal {phase}")?;
-        }
-        for conn in 0..MOST_CONNECTIONS {
-            if self.world.host().phase(conn) != Phase::Free {
-                writeln!(answer.text, "conn {conn}")?;
-                put_state(answer, self.world.host(), conn)?;
-            }
-        }
-        Ok(())
+fn put_states(answer: &mut Answer, world: &World) {
+    for terminal in 0..world.terminals() {
+        writeln!(answer, "terminal {}", world.terminal(terminal).phase());
     }
-
-    fn look(&self, word: &str, words: &mut Words<'_>, answer: &mut Answer) -> Done {
-        let world = &self.world;
-        match word {
-            "states" => self.put_states(answer),
-            "host" => host::put_all(answer, world.host(), words.index(MOST_CONNECTIONS)?),
-            "terminal" => {
-                let terminal = words.index(world.terminals())?;
-                terminal::put_all(answer, world.terminal(terminal))
-            }
-            "left" => {
-                let terminal = words.index(world.terminals())?;
-                writeln!(answer.text, "erased {}", world.erased(terminal))?;
-                put_cells(answer, world.last_restored(terminal))
-            }
-            "text" => {
-                let terminal = words.index(world.terminals())?;
-                answer.page(world.terminal(terminal).screen_text(words.alloc))
-            }
-            "queued" => {
-                let conn = words.index(MOST_CONNECTIONS)?;
-                answer.name("up", world.queued_up(conn))?;
-                answer.name("down", world.queued_down(conn))
-            }
-            _ => Err(Fault::Line),
+    for conn in 0..MOST_CONNECTIONS {
+        if world.host().phase(conn) != Phase::Free {
+            writeln!(answer, "conn {conn}");
+            put_state(answer, world.host(), conn);
         }
+    }
+}
+
+/// Shows what the commands on a connection show.
+fn look_at_connection(world: &World, word: &str, words: &mut Words<'_>, answer: &mut Answer) {
+    match (word, words.index(MOST_CONNECTIONS)) {
+        ("host", Some(conn)) => host::put_all(answer, world.host(), conn),
+        ("queued", Some(conn)) => {
+            answer.name("up", world.queued_up(conn));
+            answer.name("down", world.queued_down(conn))
+        }
+        _ => words.fail(Fault::Line),
+    }
+}
+
+/// Shows what the commands on a terminal show.
+fn look_at_terminal(world: &World, word: &str, words: &mut Words<'_>, answer: &mut Answer) {
+    match (word, words.index(world.terminals())) {
+        ("terminal", Some(terminal)) => terminal::put_all(answer, world.terminal(terminal)),
+        ("left", Some(terminal)) => {
+            writeln!(answer, "erased {}", world.erased(terminal));
+            put_cells(answer, world.last_restored(terminal))
+        }
+        ("text", Some(terminal)) => {
+            answer.page(world.terminal(terminal).screen_text(words.alloc))
+        }
+        _ => words.fail(Fault::Line),
+    }
+}
+
+impl Worlds {
+    fn list(&mut self, line: &str) -> Done {
+        Ok(self.events.push(read_event(line)?)?)
     }
 }
 
@@ -87,16 +89,24 @@ impl Made for Worlds {
         Ok(Worlds { world, events })
     }
 
-    fn take(&mut self, word: &str, words: &mut Words<'_>, answer: &mut Answer) -> Done {
+    fn take(&mut self, word: &str, words: &mut Words<'_>, answer: &mut Answer) {
         match word {
-            "step" => answer.line(&self.world.step(read_event(words.rest())?)),
-            "list" => Ok(self.events.push(read_event(words.rest())?)?),
+            "step" => match read_event(words.rest()) {
+                Ok(event) => answer.line(&self.world.step(event)),
+                Err(fault) => words.fail(fault),
+            },
+            "list" => {
+                let listed = self.list(words.rest());
+                words.note(listed)
+            }
             "run" => {
                 let ran = self.world.run(self.events.as_slice());
                 self.events.clear();
                 answer.line(&ran)
             }
-            _ => self.look(word, words, answer),
+            "states" => put_states(answer, &self.world),
+            "host" | "queued" => look_at_connection(&self.world, word, words, answer),
+            _ => look_at_terminal(&self.world, word, words, answer),
         }
     }
 }
