@@ -98,7 +98,7 @@ impl<B: RawRead + RawWrite + Drop> Visitor<B> {
         }
     }
 
-    /// Its page, and the response that it still has to be sent.
+    /// Its page, and the response that it lacks so far.
     pub(crate) fn into_parts(self) -> (PageLink<B>, Vec<u8>) {
         (self.link, self.response)
     }
