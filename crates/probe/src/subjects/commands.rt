@@ -67,8 +67,9 @@ fn put_inbound(answer: &mut Answer, inbound: &Inbound<'_>) {
     answer.each("fields", inbound.returned());
     answer.each("parts", inbound.parts());
     answer.each("as-cells", inbound.parts().map(|part| part.cell()));
-    if form == Form::Buffer {
-        put_cells(answer, inbound.cells());
+    match form {
+        Form::Buffer => put_cells(answer, inbound.cells()),
+        _ => {}
     }
 }
 
