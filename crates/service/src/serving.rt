@@ -64,6 +64,15 @@ fn read_host<I: Source>(alloc: Global, input: &mut I) -> Result<Host, Fault> {
 /// Serves a host for this number of turns, and returns the fault that ended that.
 fn serve_host(rt: &HostRuntime, host: Host, port: Port, turns: Turns) -> Result<(), Fault> {
     let (mut server, mut port) = server_at(rt, host, port.get())?;
+    serve_unwatched(&mut server, &mut port, turns)
+}
+
+/// Takes this number of turns, and returns the fault that ended them.
+fn serve_unwatched(
+    server: &mut Server<TcpStream>,
+    port: &mut ServerPort,
+    turns: Turns,
+) -> Result<(), Fault> {
     let mut moved = false;
     for _ in 0..turns.get() {
         port.poll(poll_timeout(moved), server.now())?;
