@@ -1,9 +1,9 @@
 -- What a report has, from the faults that are listed and those that are reported.
-use Rattle.std.proofs.Common.{◌≡◌, ◌⊎◌, ◌++◌, ◌∙◌, ◌+◌, ◌<◌, ◌≤◌, length, slice_index_or, inl, inr, map, ℕ, zero, suc, List, [], ◌∷◌, Bool, true, false, Option, None, Some, sym, subst, refl, ap, arith, cond}
+use Rattle.std.proofs.Common.{◌≡◌, ◌⊎◌, ◌++◌, ◌∙◌, ◌+◌, ◌<◌, ◌≤◌, length, slice_index_or, drop, inl, inr, map, ℕ, zero, suc, List, [], ◌∷◌, Bool, true, false, Option, None, Some, sym, subst, refl, ap, arith, cond}
 use Rattle.std.specs.Prelude.{All, Contains, IsPermutation, filter}
 use Rattle.std.proofs.lemmas.List.Elements.{All-append, All-cons, All-push, Contains-append_left, Contains-get_or, Contains-push}
 use Rattle.std.proofs.lemmas.List.Sorted.{All-permutation, Contains-permutation}
-use Rattle.std.proofs.lemmas.List.{append-nil, append_assoc, get_or_default}
+use Rattle.std.proofs.lemmas.List.{append-nil, append_assoc, drop_all, get_or_default}
 use Rattle.std.proofs.lemmas.Option.{same_Some}
 use Rattle.toml.specs.Data.{Members}
 use Rattle.toml.specs.Parse.{parse_document}
@@ -160,6 +160,13 @@ module _ (draft : DraftText) (causes : List Cause) (are : AreCausesOf draft caus
   is_listed cause.TextWraps none = absurd none
   is_listed cause.FillNotNumeric none = absurd none
   is_listed cause.NoKeyLeads none = absurd none
+
+pub all_listed : (tables : List LocatedFault) (lus : List PoolFault) (first both all : List Cause) (i j : ℕ) → map cause_of tables ≡ first ++ map cause_of (drop i tables) → length tables ≤ i
+    → first ++ map cause.Lus lus ≡ both ++ map cause.Lus (drop j lus) → length lus ≤ j → all ≡ both ++ warnings → all ≡ causes_of tables lus
+all_listed tables lus first both all i j begun i_end more j_end is =
+    let tables_are : map cause_of tables ≡ first = begun ∙ (ap (λ xs. first ++ map cause_of xs) (drop_all i tables i_end) ∙ append-nil first) in
+    let both_are : first ++ map cause.Lus lus ≡ both = more ∙ (ap (λ xs. both ++ map cause.Lus xs) (drop_all j lus j_end) ∙ append-nil both) in
+    is ∙ (ap (λ xs. xs ++ warnings) (sym both_are) ∙ (append_assoc first (map cause.Lus lus) warnings ∙ ap (λ xs. xs ++ (map cause.Lus lus ++ warnings)) (sym tables_are)))
 
 pub are_causes : (draft : DraftText) (found tables : List LocatedFault) (lus_found lus : List PoolFault) (names : List (List ℕ)) (causes : List Cause) → AreFaultsOf draft found → AreLuFaultsOf (map lu_of names) lus_found
     → names ≡ draft.lus → tables ≡ found → lus ≡ lus_found → causes ≡ causes_of tables lus → AreCausesOf draft causes

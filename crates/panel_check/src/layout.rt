@@ -48,12 +48,17 @@ impl<'s, 'a> Words<'s, 'a> {
     }
 
     /// The texts of a panel, then its fields, and then its values.
-    fn items(&self, panel: usize) -> Result<Vec<Location>, AllocError> {
-        let draft = self.draft.panel(panel);
-        let (texts, fields) = draft.map_or((0, 0), |it| (it.texts.len(), it.fields.len()));
-        let texts = (0..texts).map(|text| Location::Text(panel, text));
-        let fields = (0..fields).map(|field| Location::Field(panel, field));
-        texts.chain(fields).collect(self.lines.alloc)
+    fn items(&self, index: usize) -> Result<Vec<Location>, AllocError> {
+        let mut items = Vec::new(self.lines.alloc);
+        if let Some(panel) = self.draft.panel(index) {
+            for text in 0..panel.texts.len() {
+                items.push(Location::Text(index, text))?;
+            }
+            for field in 0..panel.fields.len() {
+                items.push(Location::Field(index, field))?;
+            }
+        }
+        Ok(items)
     }
 
     /// Says with which earlier item of its panel a text or a field shares a cell, and that item's line.

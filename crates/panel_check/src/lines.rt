@@ -132,22 +132,13 @@ impl Lines {
         let (key, after) = dotted_key(self.alloc, text)?;
         for part in &key.path {
             self.note('.', part.as_str())?;
-            self.last_table()?;
+            let tables = format!(in self.alloc; "{}#", self.path)?;
+            if let Some(count) = self.counts.get(tables.as_str()).copied() {
+                write!(self.path, "#{}", count.saturating_sub(1))?;
+            }
         }
         self.note('.', key.last.as_str())?;
         Ok(after)
-    }
-
-    /// Goes on to the last table of an array; stays at any other path.
-    fn last_table(&mut self) -> Result<(), AllocError> {
-        self.path.push('#')?;
-        match self.counts.get(self.path.as_str()).copied() {
-            Some(count) => write!(self.path, "{}", count.saturating_sub(1)),
-            None => {
-                self.path.pop();
-                Ok(())
-            }
-        }
     }
 
     /// Goes on to the next value of an array, and notes its line.

@@ -19,7 +19,9 @@ impl<'s, 'a> Words<'s, 'a> {
         match (self.part, self.panel()) {
             (Location::Text(_, _), _) => self.lost_shown(),
             (Location::Panel(_), Some(panel)) => {
-                self.lost_cursor(panel)?;
+                let mut fields = Vec::new(self.lines.alloc);
+                add_fields(&mut fields, panel, false)?;
+                self.lost("cursor", "field of this panel", &fields)?;
                 match panel.model {
                     2 => Ok(()),
                     _ => self.lost_panel("otherwise"),
@@ -47,13 +49,6 @@ impl<'s, 'a> Words<'s, 'a> {
         }
         let message = format_args!("'show' names no field: '{}'", Cut(item.show.as_str()));
         self.say_near("show", self.text("show"), &known, message)
-    }
-
-    /// Says that the name at a panel's `cursor` is of none of its fields, if that is so.
-    fn lost_cursor(&mut self, panel: &PanelDraft) -> Done {
-        let mut known = Vec::new(self.lines.alloc);
-        add_fields(&mut known, panel, false)?;
-        self.lost("cursor", "field of this panel", &known)
     }
 
     /// Says that the name at a key is of no panel, if that is so.
@@ -88,22 +83,11 @@ impl<'s, 'a> Words<'s, 'a> {
 
     /// Warns of each panel that no keys lead to, unless an application may show it.
     pub(crate) fn unreached(&mut self) -> Done {
-        let mut reached = Vec::new(self.lines.alloc);
-        add_reached(&mut reached, self.draft)?;
-        self.warn_of_others(&reached)
-    }
-
-    /// Warns of each panel that isn't one of these, unless there are none, or an application decides what follows one.
-    fn warn_of_others(&mut self, reached: &[usize]) -> Done {
-        let draft = self.draft;
-        for (index, panel) in draft.panels.iter().enumerate() {
-            if !panel.asks.is_empty() && (&*reached).contains(&index) {
-                return Ok(());
-            }
-        }
+        let (draft, mut reached) = (self.draft, Vec::new(self.lines.alloc));
+        add_reached(&mut reached, draft)?;
         for panel in 0..draft.panels.len() {
             self.part = Location::Panel(panel);
-            if !reached.is_empty() && !(&*reached).contains(&panel) {
+            if !reached.is_empty() && !reached.contains(&panel) {
                 say!(self, ""; "no keys lead here from the first panel")?;
             }
         }
@@ -112,7 +96,7 @@ impl<'s, 'a> Words<'s, 'a> {
 }
 
 /// Adds the panels that keys lead to from the first one, and those that are shown instead of them in some sessions, each
-/// once; none if there is no first panel.
+/// once; none if there is no first panel, or an application decides what follows one of them.
 fn add_reached(reached: &mut Vec<usize>, draft: &Draft) -> Done {
     if draft.has_start {
         add_panel(reached, draft.panel_named(draft.start))?;
@@ -123,6 +107,10 @@ fn add_reached(reached: &mut Vec<usize>, draft: &Draft) -> Done {
         let Some(panel) = draft.panel(index) else {
             break;
         };
+        if !panel.asks.is_empty() {
+            reached.clear();
+            break;
+        }
         if panel.model != 2 && panel.has_otherwise {
             add_panel(reached, draft.base_panel_named(panel.otherwise))?;
         }

@@ -10,48 +10,27 @@ use crate::lines::{Lines, line_ends};
 use crate::report::{Cause, Finding, Report, sizes_of};
 use crate::words::{Done, Said, words_on};
 use lu_pool::PoolFault;
-use panels::{Draft, LocatedFault};
+use panels::Draft;
 use std::alloc::{AllocError, Global};
 use toml::Table;
 use toml::de::Error;
 
-/// What the tables of a panel text say, and their lines.
-#[derive(Drop)]
-struct PanelText<'a> {
-    draft: Draft<'a>,
-    lines: Lines,
-}
-
 /// The causes of warnings.
 const WARNINGS: [Cause; 3] = [Cause::TextWraps, Cause::FillNotNumeric, Cause::NoKeyLeads];
-
-/// The causes for these faults of tables and of LUs, and those of warnings.
-fn all_causes(
-    alloc: Global,
-    tables: &[LocatedFault],
-    lus: &[PoolFault],
-) -> Result<Vec<Cause>, AllocError>
-    ensures { IfOk result (λ causes. causes.items ≡ causes_of tables.now lus.now) }
-{
-    let mut causes = Vec::new(alloc);
-    for at in tables {
-        causes.push(Cause::Tree(at.fault, at.part))?;
-    }
-    for fault in lus {
-        causes.push(Cause::Lus(*fault))?;
-    }
-    causes.extend_from_slice(&WARNINGS)?;
-    Ok(causes)
-}
 
 /// All faults of a text: those of its tables, in the order in which `PanelSet::read` looks for them, and those of its
 /// LUs; and behind them the warnings.
 fn causes_in(alloc: Global, draft: &Draft) -> Result<Vec<Cause>, AllocError>
     ensures { IfOk result (λ causes. AreCausesOf draft.now causes.items) }
 {
-    let tables = draft.faults(alloc)?;
-    let lus = lu_pool::faults(alloc, &draft.lus)?;
-    let causes = all_causes(alloc, &tables, &lus)?;
+    let mut causes = Vec::new(alloc);
+    for at in &draft.faults(alloc)? {
+        causes.push(Cause::Tree(at.fault, at.part))?;
+    }
+    for fault in &lu_pool::faults(alloc, &draft.lus)? {
+        causes.push(Cause::Lus(*fault))?;
+    }
+    causes.extend_from_slice(&WARNINGS)?;
     Ok(causes)
 }
 
@@ -113,34 +92,35 @@ fn add_all(findings: &mut Vec<Finding>, cause: Cause, found: &[Said]) -> Done
 /// Adds the findings for a cause, unless its table has some for it, by another copy; or the value of the fault isn't in
 /// the text, and it isn't the first.
 #[tactic(auto, using(crate::proofs::Reporting::adds_none))]
-fn tell(findings: &mut Vec<Finding>, text: &PanelText, cause: Cause) -> Result<(), AllocError>
-    ensures added { OnOk result (AddsOf (in_table text.now.draft cause) findings.old.items findings.new.items) }
-    ensures told { OnOk result (is_fault cause ≡ true → (findings.old.items ≡ []) ⊎ IsStated text.now.draft cause
-        → HasCause (in_table text.now.draft cause) findings.new.items) }
+fn tell(findings: &mut Vec<Finding>, draft: &Draft, lines: &Lines, cause: Cause) -> Done
+    ensures added { OnOk result (AddsOf (in_table draft.now cause) findings.old.items findings.new.items) }
+    ensures told { OnOk result (is_fault cause ≡ true → (findings.old.items ≡ []) ⊎ IsStated draft.now cause
+        → HasCause (in_table draft.now cause) findings.new.items) }
 {
-    let reported = in_table(&text.draft, cause);
+    let reported = in_table(draft, cause);
     if is_reported(findings, reported) {
         return Ok(());
     }
-    if !findings.is_empty() && !is_stated(&text.draft, cause) {
+    if !findings.is_empty() && !is_stated(draft, cause) {
         return Ok(());
     }
-    let found = words_on(&text.draft, &text.lines, cause)?;
+    let found = words_on(draft, lines, cause)?;
     add_all(findings, reported, &found)?;
     Ok(())
 }
 
 /// The findings for all faults of a text and for warnings, in the order of its lines.
-fn findings_in(text: &PanelText) -> Result<Vec<Finding>, AllocError>
-    ensures { IfOk result (λ findings. AreFindingsOf text.now.draft findings.items) }
+fn report_in(draft: &Draft, lines: &Lines) -> Result<Report, AllocError>
+    ensures { IfOk result (λ report. AreFindingsOf draft.now report.findings.items) }
 {
-    let causes = causes_in(text.lines.alloc, &text.draft)?;
-    let mut findings = Vec::new(text.lines.alloc);
+    let causes = causes_in(lines.alloc, draft)?;
+    let mut findings = Vec::new(lines.alloc);
     for cause in &causes {
-        tell(&mut findings, text, *cause)?;
+        tell(&mut findings, draft, lines, *cause)?;
     }
     findings.sort_by_key(|finding| finding.line)?;
-    Ok(findings)
+    let sizes = Some(sizes_of(draft));
+    Ok(Report { findings, sizes })
 }
 
 /// The report on a text whose TOML tree is `top`.
@@ -148,11 +128,8 @@ fn report_on_tree(alloc: Global, text: &str, top: &Table) -> Result<Report, Allo
     ensures { parse_document text.now ≡ Some (table_view top.now)
         → IfOk result (λ report. IsReportOn text.now report.findings.items) }
 {
-    let (draft, lines) = (Draft::of(alloc, top)?, Lines::of_text(alloc, text)?);
-    let text = PanelText { draft, lines };
-    let findings = findings_in(&text)?;
-    let sizes = Some(sizes_of(&text.draft));
-    Ok(Report { findings, sizes })
+    let draft = Draft::of(alloc, top)?;
+    report_in(&draft, &Lines::of_text(alloc, text)?)
 }
 
 /// The report on a text that isn't TOML, with the line of the error.

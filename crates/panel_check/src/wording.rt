@@ -57,19 +57,18 @@ fn put_named<W: fmt::Write>(
 impl fmt::Display for Place<'_, '_> {
     fn fmt<W: fmt::Write>(&self, f: &mut fmt::Formatter<W>) -> fmt::Result {
         let Place(draft, part) = *self;
-        let (text, show) = (text_at(draft, part, "text"), text_at(draft, part, "show"));
-        let name = text_at(draft, part, "name");
+        let (name, show) = (text_at(draft, part, "name"), text_at(draft, part, "show"));
         if let Some(panel) = part.panel() {
             let name = text_at(draft, Location::Panel(panel), "name");
             put_named(f, "panel", name, panel)?;
         }
-        match (draft.table(part), text) {
+        match (draft.table(part), text_at(draft, part, "text")) {
             (Location::Text(_, _), Some(text)) => write!(f, ", text '{}'", Cut(text)),
             (Location::Text(_, _), _) if show.is_some() => put_named(f, ", show", show, 0),
             (Location::Text(_, index), _) => put_named(f, ", text", None, index),
             (Location::Field(_, index), _) => put_named(f, ", field", name, index),
             (Location::Value(_, index), _) => put_named(f, ", value", name, index),
-            (Location::Top | Location::Panel(_) | Location::Keys(_), _) => Ok(()),
+            _ => Ok(()),
         }
     }
 }

@@ -115,30 +115,33 @@ impl<'s, 'a> Words<'s, 'a> {
     }
 
     fn tell(&mut self) -> Done {
-        let name = Cut(self.text("name"));
-        let model = self.panel().map_or(2, |panel| panel.model);
+        let (draft, name) = (self.draft, Cut(self.text("name")));
         let letters = match self.part {
             Location::Panel(_) => "A-Z and 0-9",
             _ => "a-z, 0-9 and _",
         };
-        match self.cause {
-            Cause::NotToml => Ok(()),
-            Cause::Lus(fault) => self.lu_fault(fault),
-            Cause::TextWraps | Cause::FillNotNumeric => self.warn_of_items(),
-            Cause::NoKeyLeads => self.unreached(),
-            Cause::Tree(UnknownKey | Missing | BadKind, _) => self.keys(),
-            Cause::Tree(TooMany, _) => self.excess(),
-            Cause::Tree(BadName, _) => say!(self, "name";
+        match (self.cause, self.panel()) {
+            (Cause::Lus(fault), _) => self.lu_fault(fault),
+            (Cause::TextWraps | Cause::FillNotNumeric, _) => self.warn_of_items(),
+            (Cause::NoKeyLeads, _) => self.unreached(),
+            (Cause::Tree(UnknownKey | Missing | BadKind, _), _) => self.keys(),
+            (Cause::Tree(TooMany, _), Some(panel)) => {
+                self.most("text", panel.texts.len(), MOST_TEXTS)?;
+                self.most("field", panel.fields.len(), MOST_FIELDS)
+            }
+            (Cause::Tree(TooMany, _), None) => self.most("panel", draft.panels.len(), MOST_PANELS),
+            (Cause::Tree(BadName, _), _) => say!(self, "name";
                 "bad name '{name}': a name has 1 to 16 of {letters}"),
-            Cause::Tree(BadKey, _) => self.bad_keys(),
-            Cause::Tree(TwiceNamed, Location::Keys(_)) => self.asked_twice(),
-            Cause::Tree(TwiceNamed, _) => self.named_twice(),
-            Cause::Tree(BadModel, _) =>
-                say!(self, "model"; "'model' must be 2, 3, 4 or 5, not {model}"),
-            Cause::Tree(OutOfPlace, _) => self.misplaced(),
-            Cause::Tree(Overlap, _) => self.overlap(),
-            Cause::Tree(NoCode, _) => self.no_code(),
-            Cause::Tree(NoTarget, _) => self.no_target(),
+            (Cause::Tree(BadKey, Location::Keys(at)), Some(it)) => self.bad_keys(at, it),
+            (Cause::Tree(TwiceNamed, Location::Keys(at)), Some(it)) => self.asked_twice(at, it),
+            (Cause::Tree(TwiceNamed, _), _) => self.named_twice(),
+            (Cause::Tree(BadModel, _), Some(panel)) =>
+                say!(self, "model"; "'model' must be 2, 3, 4 or 5, not {}", panel.model),
+            (Cause::Tree(OutOfPlace, _), _) => self.misplaced(),
+            (Cause::Tree(Overlap, _), _) => self.overlap(),
+            (Cause::Tree(NoCode, _), _) => self.no_code(),
+            (Cause::Tree(NoTarget, _), _) => self.no_target(),
+            (Cause::NotToml | Cause::Tree(BadKey | BadModel, _), _) => Ok(()),
         }
     }
 
@@ -165,17 +168,15 @@ impl<'s, 'a> Words<'s, 'a> {
     }
 
     fn unknown(&mut self, key: &str, rules: &[KeyRule]) -> Done {
-        let name = Cut(key);
-        match (self.part, key) {
-            (Location::Text(_, _), "show" | "length") =>
-                say!(self, key; "key '{name}' can't be used with 'text'"),
-            (Location::Panel(_), "otherwise") =>
-                say!(self, key; "key '{name}' can be used only with 'model' 3, 4 or 5"),
+        let rule = match (self.part, key) {
+            (Location::Text(_, _), "show" | "length") => "can't be used with 'text'",
+            (Location::Panel(_), "otherwise") => "can be used only with 'model' 3, 4 or 5",
             _ => {
                 let known: Vec<&str> = rules.iter().map(|it| it.key()).collect(self.lines.alloc)?;
-                self.say_near(key, key, &known, format_args!("unknown key '{name}'"))
+                return self.say_near(key, key, &known, format_args!("unknown key '{}'", Cut(key)));
             }
-        }
+        };
+        say!(self, key; "key '{key}' {rule}")
     }
 
     /// Says that a key that must be there is absent, or that its value has another type than the rule says, if so.
@@ -194,27 +195,15 @@ impl<'s, 'a> Words<'s, 'a> {
     }
 
     fn missing(&mut self, key: &str, table: &Table) -> Done {
-        match (self.part, key) {
-            (Location::Text(_, _), "show") =>
-                say!(self, key; "missing key 'text', or 'show' with 'length'"),
+        let keys = match (self.part, key) {
+            (Location::Text(_, _), "show") => "'text', or 'show' with 'length'",
             // The finding for `show` says this, too.
-            (Location::Text(_, _), "length") if !table.contains_key("show") => Ok(()),
-            (Location::Panel(_), "otherwise") => say!(self, key;
-                "missing key 'otherwise': the panel of model 2 for terminals of other models"),
-            _ => say!(self, key; "missing key '{key}'"),
-        }
-    }
-
-    /// Says which arrays have more tables than they may.
-    fn excess(&mut self) -> Done {
-        let draft = self.draft;
-        match self.panel() {
-            None => self.most("panel", draft.panels.len(), MOST_PANELS),
-            Some(panel) => {
-                self.most("text", panel.texts.len(), MOST_TEXTS)?;
-                self.most("field", panel.fields.len(), MOST_FIELDS)
-            }
-        }
+            (Location::Text(_, _), "length") if !table.contains_key("show") => return Ok(()),
+            (Location::Panel(_), "otherwise") =>
+                "'otherwise': the panel of model 2 for terminals of other models",
+            _ => return say!(self, key; "missing key '{key}'"),
+        };
+        say!(self, key; "missing key {keys}")
     }
 
     /// Says that a panel has more items than it may, or the text more panels, if it is so.
@@ -222,11 +211,8 @@ impl<'s, 'a> Words<'s, 'a> {
         if count <= most {
             return Ok(());
         }
-        let value = match table_at(self.draft, self.part) {
-            Some(table) => table.get(key),
-            None => None,
-        };
-        let (items, all) = match (value, key) {
+        let array = table_at(self.draft, self.part).and_then(|table| table.get(key));
+        let (items, all) = match (array, key) {
             (Some(Value::Array(tables)), _) if tables.len() == count => ("tables", ""),
             (_, "field") => ("items", " with all copies and values"),
             _ => ("items", " with all copies"),
@@ -236,17 +222,14 @@ impl<'s, 'a> Words<'s, 'a> {
 
     fn named_twice(&mut self) -> Done {
         let (draft, name, part) = (self.draft, self.text("name"), self.part);
-        let copy = match draft.item(part) {
-            Some(item) => item.name.as_str(),
-            None => name,
-        };
+        let copy = draft.item(part).map_or(name, |item| item.name.as_str());
         let item = match draft.item_named(copy) {
             Some(at) if Location::Field(at.0, at.1) != part => Some(at),
             _ => draft.item_named(name),
         };
         let first = match (part, draft.panel_named(name), item) {
             (Location::Panel(_), Some(panel), _) => Location::Panel(panel),
-            (Location::Field(_, _), _, Some((panel, field))) => Location::Field(panel, field),
+            (_, _, Some((panel, field))) => Location::Field(panel, field),
             _ => part,
         };
         let line = self.line(first, "name")?;
@@ -254,20 +237,18 @@ impl<'s, 'a> Words<'s, 'a> {
     }
 
     /// Says which names in a panel's `keys` and `asks` aren't those of keys; `asks` may have `connect`, too.
-    fn bad_keys(&mut self) -> Done {
+    fn bad_keys(&mut self, index: usize, panel: &PanelDraft) -> Done {
         if let Some(keys) = table_at(self.draft, self.part) {
             for key in keys.keys() {
                 self.no_key(key.as_str(), key.as_str(), key_names())?;
             }
         }
-        if let (Some(index), Some(panel)) = (self.part.panel(), self.panel()) {
-            self.part = Location::Panel(index);
-            let mut known = Vec::new(self.lines.alloc);
-            known.extend_from_slice(key_names())?;
-            known.push("connect")?;
-            for name in &panel.asks {
-                self.no_key("asks", *name, &known)?;
-            }
+        self.part = Location::Panel(index);
+        let mut known = Vec::new(self.lines.alloc);
+        known.extend_from_slice(key_names())?;
+        known.push("connect")?;
+        for name in &panel.asks {
+            self.no_key("asks", *name, &known)?;
         }
         Ok(())
     }
@@ -282,20 +263,15 @@ impl<'s, 'a> Words<'s, 'a> {
     }
 
     /// Says which keys a panel's `asks` have twice, or have although its `keys` have them.
-    fn asked_twice(&mut self) -> Done {
-        let (Some(index), Some(panel)) = (self.part.panel(), self.panel()) else {
-            return Ok(());
-        };
+    fn asked_twice(&mut self, index: usize, panel: &PanelDraft) -> Done {
         self.part = Location::Panel(index);
         for index in 0..panel.asks.len() {
             let name = panel.asks[index];
             if (&panel.asks[..index]).contains(&name) {
                 say!(self, "asks"; "key '{}' is named twice", Cut(name))?;
             }
-            for key in &panel.keys {
-                if key.0 == name {
-                    say!(self, "asks"; "key '{}' leads to a panel in 'keys', too", Cut(name))?;
-                }
+            if panel.keys.iter().any(|key| key.0 == name) {
+                say!(self, "asks"; "key '{}' leads to a panel in 'keys', too", Cut(name))?;
             }
         }
         Ok(())
@@ -323,17 +299,19 @@ impl<'s, 'a> Words<'s, 'a> {
             return say!(self, "lus"; "{} LUs: there must be 1 to 64", lus.len());
         };
         let text = lus.get(index).copied().unwrap_or("");
-        let (key, name) = (format_args!("lus'{index}"), Cut(text));
-        let Some(lu) = Lu::read(text.as_bytes()) else {
+        let (key, name, lu) = (
+            format_args!("lus'{index}"),
+            Cut(text),
+            Lu::read(text.as_bytes()),
+        );
+        if lu.is_none() {
             return say!(self, key;
                 "bad LU name '{name}': 1 to 8 of A-Z, 0-9, @, # and $, the first no digit");
-        };
-        for (first, other) in lus.iter().enumerate() {
-            if Lu::read(other.as_bytes()) == Some(lu) {
-                let line = self.line(Location::Top, format_args!("lus'{first}"))?;
-                return say!(self, key; "LU '{name}' is already listed in line {line}");
-            }
         }
-        Ok(())
+        let mut others = lus.iter();
+        let first = others.position(|other| Lu::read(other.as_bytes()) == lu);
+        let first = format_args!("lus'{}", first.unwrap_or(index));
+        let line = self.line(Location::Top, first)?;
+        say!(self, key; "LU '{name}' is already listed in line {line}")
     }
 }

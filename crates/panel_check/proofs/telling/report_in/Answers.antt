@@ -1,7 +1,7 @@
 use Rattle.std.proofs.Common.{length, sym, subst, arith}
 use Rattle.panel_check.specs.Listed.{AreReported}
 use Rattle.panel_check.proofs.Reporting.{all_reported, none_reported, reported_next}
-use Rattle.panel_check.proofs.telling.findings_in.Goals as goal
+use Rattle.panel_check.proofs.telling.report_in.Goals as goal
 
 pub loop-cause-init : goal.loop-cause-init
 loop-cause-init c =
@@ -22,6 +22,6 @@ returns c =
       c.in_ok-causes.causes.items,
       found,
       c.in_ok-causes.ensures,
-      subst (λ causes. AreReported (length causes) c.args.text.now.draft causes found) c.deref-cause-items.ensures.value reported,
+      subst (λ causes. AreReported (length causes) c.args.draft.now causes found) c.deref-cause-items.ensures.value reported,
       c.in_ok-sort_by_key.ensures.permutation,
     )
