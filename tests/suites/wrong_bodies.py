@@ -57,12 +57,12 @@ LONG, BY_FILE, SECONDS = True, True, 7200
 PAGE = "must-fail/wrong-bodies.md"
 # What is put behind the name of a function for one more that has another mistake.
 AGAIN = "_again"
-# A type, the head of an `impl` without a trait, and a function with a contract.
+# A type, the head of an `impl` without a trait, and a function.
 TYPE = re.compile(r"^(?:pub(?:\(\w+\))? )?(?:struct|enum) (\w+)", re.MULTILINE)
-INHERENT = re.compile(r"impl(?:<.*>)? (\w+)(?:<.*>)? \{")
+INHERENT = re.compile(r"impl(?!.* for )(?:<.*>)? (\w+)(?:<.*>)? \{")
 FUNCTION = re.compile(
-    r"^(?P<head>(?P<indent> *)(?:pub(?:\(\w+\))? )?fn (?P<name>\w+)\b.*\n"
-    r"(?:(?:(?P=indent)[ )].*)?\n)*?(?P=indent))\{\n(?:.*\n)*?(?P=indent)\}\n",
+    r"^(?P<head>(?P<indent> *)(?:pub(?:\(\w+\))? )?fn (?P<name>\w+)\b.*?"
+    r"(?:\n(?:(?:(?P=indent)[ )].*)?\n)*?(?P=indent)(?:\).*)?)?)\{\n(?:.*\n)*?(?P=indent)\}\n",
     re.MULTILINE,
 )
 
@@ -282,8 +282,7 @@ def path_of(function: re.Match[str], module: list[str], owners: dict[str, list[s
 
 def cut_others(kept: set[str], room: pathlib.Path) -> None:
     """Cuts each function of a copy but these: it gets a body that calls nothing, and a file without
-    a proof, so that none is looked for. What the `impl` of a trait has stays, a `const fn`, and a
-    function without a contract."""
+    a proof, so that none is looked for. What the `impl` of a trait has stays, and a `const fn`."""
     source = room / "src"
     texts = {path: path.read_text(encoding="utf-8") for path in source.rglob("*.rt")}
     owners = {
@@ -378,11 +377,9 @@ def verdicts(crate: str, said: str) -> dict[str, Verdict]:
 def said_of(crate: str, functions: list[str], room: pathlib.Path) -> str:
     """What a check says of functions of a crate. It is ended once it has said a last word of
     each."""
-    words, wanted, said = check_words(crate, functions) + [
-        "--incremental", str(room / "kept")
-    ], set(functions), []
+    wanted, said = set(functions), []
     with subprocess.Popen(
-        words,
+        check_words(crate, functions),
         cwd=room,
         stdin=subprocess.DEVNULL,
         stdout=subprocess.PIPE,
@@ -404,8 +401,7 @@ def tried(
 ) -> tuple[dict[str, Mistake], dict[str, Verdict], str]:
     """Checks a copy of the crate with those of these mistakes that go together; if it is cut, then
     without its other functions. Which went, by the function that each was put into, what was said
-    by function, and all that was said. What an earlier check proved there and the mistakes leave as
-    it was isn't proved again."""
+    by function, and all that was said."""
     together: dict[str, Mistake] = {}
     for part in ("src", "specs", "proofs"):
         shutil.rmtree(room / part, ignore_errors=True)
