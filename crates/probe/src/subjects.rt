@@ -15,7 +15,7 @@ mod wire;
 mod world;
 
 use crate::subjects::belief::Painter;
-use crate::talk::{Answer, Fault, Words};
+use crate::talk::{Answer, Done, Fault, Hex, Made, Subject, Words};
 use codes3270::Model;
 use host_core::Host;
 use std::alloc::AllocError;
@@ -23,28 +23,11 @@ use std::io::{self, BufRead, BufReader, Write};
 use telnet_wire::Decoder;
 use term_core::Terminal;
 
-pub(crate) trait Subject {
-    /// Executes the command of a line, and adds the lines of its answer, each with its newline.
-    fn take(&mut self, words: &mut Words<'_>, answer: &mut Answer);
-}
-
-/// A subject that the command `new` creates, and on which the other commands act.
-pub(crate) trait Made {
-    /// Creates it from the words after `new`.
-    fn new(words: &mut Words<'_>) -> Result<Self, Fault>;
-
-    fn take(&mut self, word: &str, words: &mut Words<'_>, answer: &mut Answer);
-}
-
 impl<M: Made + Drop> Subject for Option<M> {
-    fn take(&mut self, words: &mut Words<'_>, answer: &mut Answer) {
-        let word = words.word();
+    fn take(&mut self, word: &str, words: &mut Words<'_>, answer: &mut Answer) {
         match self {
             made if word == "new" => match M::new(words) {
-                Ok(new) => {
-                    *made = Some(new);
-                    answer.done(Ok(()))
-                }
+                Ok(new) => answer.done(Ok(*made = Some(new))),
                 Err(Fault::NoMemory) => answer.done(Err(AllocError)),
                 Err(fault) => words.fail(fault),
             },
@@ -54,19 +37,18 @@ impl<M: Made + Drop> Subject for Option<M> {
     }
 }
 
-/// Executes the command of a line, and writes the whole answer.
-fn answer_words<S: Subject>(subject: &mut S, mut words: Words<'_>, answer: &mut Answer) {
-    answer.text.clear();
-    answer.lacks_memory = false;
-    match answer.take_vector(&mut words) {
-        Ok(false) => subject.take(&mut words, answer),
-        Ok(true) => {}
-        Err(fault) => words.fail(fault),
+/// Executes `vector ROOM BYTES`, `appended` or `capacity`, which are about the vector, or a command of the subject.
+fn take<S: Subject>(subject: &mut S, words: &mut Words<'_>, answer: &mut Answer) -> Done {
+    match words.word() {
+        "vector" => {
+            answer.out = Vec::with_capacity(words.alloc, words.number())?;
+            answer.out.extend_from_slice(words.bytes())?;
+        }
+        "appended" => writeln!(answer.text, "appended {}", Hex(answer.out.as_slice()))?,
+        "capacity" => writeln!(answer.text, "{}", answer.out.capacity())?,
+        word => subject.take(word, words, answer),
     }
-    if !words.rest.is_empty() {
-        words.fail(Fault::Line);
-    }
-    answer.end(&words.fault)
+    Ok(())
 }
 
 /// Answers a line. A command after `! ` is executed between the lines `begin` and `end` on standard error, so that a
@@ -78,43 +60,34 @@ fn answer_line<S: Subject>(
     room: &mut Vec<u8>,
     answer: &mut Answer,
 ) -> io::Result<()> {
-    let (alloc, marked) = (rt.alloc(), line.strip_prefix("! "));
-    let (rest, fault) = (marked.unwrap_or(line), None);
+    let marked = line.strip_prefix("! ");
     if marked.is_some() {
         rt.eprintln("begin")?;
     }
-    answer_words(
-        subject,
-        Words {
-            alloc,
-            rest,
-            room,
-            fault,
-        },
-        answer,
-    );
+    let mut words = Words {
+        alloc: rt.alloc(),
+        rest: marked.unwrap_or(line),
+        room,
+        fault: None,
+    };
+    answer.text.clear();
+    answer.lacks_memory = false;
+    let done = take(subject, &mut words, answer);
+    words.note(done);
+    answer.end(&words);
     if marked.is_some() {
         rt.eprintln("end")?;
     }
     rt.stdout().write_all(answer.text.as_bytes())
 }
 
-fn answer_all<S: Subject>(
-    rt: &HostRuntime,
-    subject: &mut S,
-    room: &mut Vec<u8>,
-    answer: &mut Answer,
-) -> io::Result<bool> {
-    for line in BufReader::new(rt.alloc(), rt.reader())?.lines(rt.alloc()) {
-        answer_line(rt, subject, line?.as_str(), room, answer)?;
-    }
-    Ok(true)
-}
-
 /// Answers each line of standard input.
 fn serve<S: Subject + Drop>(rt: &HostRuntime, mut subject: S) -> io::Result<bool> {
     let (mut room, mut answer) = (Vec::new(rt.alloc()), Answer::new(rt.alloc())?);
-    answer_all(rt, &mut subject, &mut room, &mut answer)
+    for line in BufReader::new(rt.alloc(), rt.reader())?.lines(rt.alloc()) {
+        answer_line(rt, &mut subject, line?.as_str(), &mut room, &mut answer)?;
+    }
+    Ok(true)
 }
 
 pub(crate) fn run(rt: &HostRuntime, name: &str) -> io::Result<bool> {
@@ -129,10 +102,7 @@ pub(crate) fn run(rt: &HostRuntime, name: &str) -> io::Result<bool> {
         "pool" => serve(rt, pool::Pools { pool: None }),
         "screen" => serve(rt, screen::Display::blank(Model::M2)),
         "terminal" => serve(rt, None::<Terminal>),
-        "wire" => match Decoder::new(rt.alloc(), 0) {
-            Ok(decoder) => serve(rt, decoder),
-            Err(_) => Err(io::Error::from(AllocError)),
-        },
+        "wire" => serve(rt, Decoder::new(rt.alloc(), 0).map_err(|_| AllocError)?),
         "world" => serve(rt, None::<world::Worlds>),
         _ => Ok(false),
     }

@@ -1,5 +1,4 @@
 //! The words of a line of standard input, and its answer.
-ghost use Rattle.std.specs.Prelude.{◌<◌, IfSome};
 ghost use Rattle.std.specs.Iterator.{IsFinite};
 
 use codes3270::{Model, Size};
@@ -29,6 +28,19 @@ impl<T: Drop> From<AllocFailed<T>> for Fault {
     fn from(_: AllocFailed<T>) -> Fault {
         Fault::NoMemory
     }
+}
+
+pub(crate) trait Subject {
+    /// Executes the command of a word and those after it, and adds the lines of its answer, each with its newline.
+    fn take(&mut self, word: &str, words: &mut Words<'_>, answer: &mut Answer);
+}
+
+/// A subject that the command `new` creates, and on which the other commands act.
+pub(crate) trait Made {
+    /// Creates it from the words after `new`.
+    fn new(words: &mut Words<'_>) -> Result<Self, Fault>;
+
+    fn take(&mut self, word: &str, words: &mut Words<'_>, answer: &mut Answer);
 }
 
 pub(crate) type Done = Result<(), Fault>;
@@ -84,14 +96,17 @@ impl<'a> Words<'a> {
         read.unwrap_or(default)
     }
 
+    /// The value that `{:?}` prints as the next word, in upper or lower case.
     pub(crate) fn named<T: Copy + Debug>(&mut self, values: &[T], default: T) -> T {
-        match named(self.alloc, values, self.word()) {
-            Ok(value) => value,
-            Err(fault) => {
-                self.fail(fault);
-                default
+        let word = self.word();
+        for value in values {
+            match format!(in self.alloc; "{value:?}") {
+                Ok(name) if name.eq_ignore_ascii_case(word) => return *value,
+                Ok(_) => {}
+                Err(_) => self.fail(Fault::NoMemory),
             }
         }
+        self.or(None, default)
     }
 
     /// The next word as a decimal number, or as `true` or `false`.
@@ -101,18 +116,6 @@ impl<'a> Words<'a> {
     {
         let number = self.word().parse::<T>().ok();
         self.or(number, T::default())
-    }
-
-    /// The next word as a number below `count`.
-    pub(crate) fn index(&mut self, count: usize) -> Option<usize>
-        ensures { IfSome result (λ index. index < count) }
-    {
-        let index = self.number::<usize>();
-        if index < count {
-            return Some(index);
-        }
-        self.fail(Fault::Line);
-        None
     }
 
     pub(crate) fn byte_of(&mut self, digits: &str) -> u8 {
@@ -159,20 +162,9 @@ impl<'a> Words<'a> {
     pub(crate) fn text(&mut self) -> &str {
         if str::from_utf8(self.bytes()).is_err() {
             self.fail(Fault::Line);
-            self.room.clear();
         }
         str::from_utf8(self.room.as_slice()).unwrap_or("")
     }
-}
-
-/// The value that `{:?}` prints as this word, in upper or lower case.
-pub(crate) fn named<T: Copy + Debug>(alloc: Global, values: &[T], name: &str) -> Result<T, Fault> {
-    for value in values {
-        if format!(in alloc; "{value:?}")?.eq_ignore_ascii_case(name) {
-            return Ok(*value);
-        }
-    }
-    Err(Fault::Line)
 }
 
 /// Bytes, printed as pairs of hexadecimal digits, or `-` for none.
@@ -211,31 +203,17 @@ impl Answer {
 
     /// Adds text, as `write!` and `writeln!` say.
     pub(crate) fn write_fmt<D: Display + Drop>(&mut self, text: D) {
-        let put = self.text.write_fmt(text);
-        self.lacks_memory |= put.is_err();
-    }
-
-    /// Executes `vector ROOM BYTES`, `appended` or `capacity`, the commands on the vector, if the line is one of them.
-    pub(crate) fn take_vector(&mut self, words: &mut Words<'_>) -> Result<bool, Fault> {
-        let line = words.rest;
-        match words.word() {
-            "vector" => {
-                self.out = Vec::with_capacity(words.alloc, words.number())?;
-                self.out.extend_from_slice(words.bytes())?;
-            }
-            "appended" => writeln!(self.text, "appended {}", Hex(self.out.as_slice()))?,
-            "capacity" => writeln!(self.text, "{}", self.out.capacity())?,
-            _ => {
-                words.rest = line;
-                return Ok(false);
-            }
-        }
-        Ok(true)
+        self.lacks_memory |= self.text.write_fmt(text).is_err();
     }
 
     /// Adds a line: a name, and bytes in hexadecimal, `-` for none.
     pub(crate) fn name(&mut self, name: &str, bytes: &[u8]) {
         writeln!(self, "{name} {}", Hex(bytes))
+    }
+
+    /// Adds a line: a value, printed by `{}`.
+    pub(crate) fn say<T: Display>(&mut self, value: &T) {
+        writeln!(self, "{value}")
     }
 
     /// Adds a line: a value, printed by `{:?}`.
@@ -246,8 +224,8 @@ impl Answer {
     /// Adds a line: the result of a call, printed by `{:?}`, or its fault, printed by `{}`.
     pub(crate) fn called<T: Debug, F: Display>(&mut self, called: &Result<T, F>) {
         match called {
-            Ok(value) => writeln!(self, "{value:?}"),
-            Err(fault) => writeln!(self, "{fault}"),
+            Ok(value) => self.line(value),
+            Err(fault) => self.say(fault),
         }
     }
 
@@ -283,9 +261,10 @@ impl Answer {
     }
 
     /// Ends the answer. The fault of its line, if there is one, takes its place.
-    pub(crate) fn end(&mut self, fault: &Option<Fault>) {
-        let fault = match fault {
+    pub(crate) fn end(&mut self, words: &Words<'_>) {
+        let fault = match words.fault {
             Some(Fault::Line) => "? doesn't understand\n",
+            None if !words.rest.is_empty() => "? doesn't understand\n",
             None if !self.lacks_memory => "",
             _ => "? no memory\n",
         };

@@ -11,9 +11,8 @@ ghost use Rattle.codes3270.specs.Size.{cells_in};
 ghost use Rattle.shadow.specs.Belief.{IsOfSize};
 ghost use Rattle.shadow.specs.Fits.{is_paintable};
 
-use crate::subjects::Subject;
 use crate::subjects::cells::{cell_at, change, form, put_belief, put_wanted, size_of};
-use crate::talk::{Answer, Words};
+use crate::talk::{Answer, Subject, Words};
 use codes3270::{Model, Size};
 use datastream::{
     CommandCode, CommandFault, Form, InboundFault, Want, Wanted, read_command, read_inbound,
@@ -33,9 +32,10 @@ fn has_size(shadow: &Shadow, size: Size) -> bool
 }
 
 fn put_place(answer: &mut Answer, shadow: &Shadow, place: u16) {
-    answer.line(&shadow.fact(cell_at(shadow, place)));
-    answer.line(&shadow.known(cell_at(shadow, place)));
-    answer.each("text", shadow.text(cell_at(shadow, place)))
+    let addr = cell_at(shadow, place);
+    answer.line(&shadow.fact(addr));
+    answer.line(&shadow.known(addr));
+    answer.each("text", shadow.text(addr))
 }
 
 impl Painter {
@@ -75,8 +75,8 @@ impl Painter {
 }
 
 impl Subject for Painter {
-    fn take(&mut self, words: &mut Words<'_>, answer: &mut Answer) {
-        match words.word() {
+    fn take(&mut self, word: &str, words: &mut Words<'_>, answer: &mut Answer) {
+        match word {
             "new" => self.belief = Shadow::blank(),
             "take" => answer.line(&self.sent(words.model(), words.bytes())),
             "hear" => answer.line(&self.hear(form(words), words.bytes())),
@@ -87,7 +87,7 @@ impl Subject for Painter {
             "size" => answer.line(&self.belief.size()),
             "at" => put_place(answer, &self.belief, words.number()),
             "wanted" => put_wanted(answer, &self.wanted),
-            word => change(words, &mut self.wanted, word),
+            _ => change(words, &mut self.wanted, word),
         }
     }
 }

@@ -20,12 +20,8 @@ use keyboard::Key;
 use presentation::Screen;
 use shadow::Shadow;
 
-const BLANK: u8 = 0x40;
-
-static FORMS: [Form; 3] = [Form::Modified, Form::All, Form::Buffer];
-
 pub(crate) fn form(words: &mut Words<'_>) -> Form {
-    words.named(&FORMS, Form::Modified)
+    words.named(&[Form::Modified, Form::All, Form::Buffer], Form::Modified)
 }
 
 pub(crate) fn aid(words: &mut Words<'_>) -> Aid {
@@ -44,10 +40,7 @@ pub(crate) fn at(place: u16, size: Size) -> Addr
 {
     // For the contract: the screen has a first cell.
     let _cells = size.cells();
-    match Addr::new(place, size) {
-        Some(addr) => addr,
-        None => Addr::first(),
-    }
+    Addr::new(place, size).unwrap_or(Addr::first())
 }
 
 pub(crate) fn place_on(words: &mut Words<'_>, size: Size) -> u16 {
@@ -67,7 +60,7 @@ pub(crate) fn character(words: &mut Words<'_>, digits: &str) -> u8
         return code;
     }
     words.fail(Fault::Line);
-    BLANK
+    0x40
 }
 
 pub(crate) fn are_storable(bytes: &[u8]) -> bool
@@ -97,10 +90,7 @@ pub(crate) fn put_cells(answer: &mut Answer, screen: &Screen) {
 pub(crate) fn size_of(shadow: &Shadow) -> Size
     ensures { IsOfSize (cells_in result) shadow.now }
 {
-    match shadow.size() {
-        Some(size) => size,
-        None => Size::base(),
-    }
+    shadow.size().unwrap_or(Size::base())
 }
 
 /// The address of a cell of the screen of which something is known; 0 if it has no such cell.
@@ -111,9 +101,10 @@ pub(crate) fn cell_at(shadow: &Shadow, place: u16) -> Addr
 }
 
 fn put_field(answer: &mut Answer, shadow: &Shadow, place: u16) {
-    if let Some(fact) = shadow.fact(cell_at(shadow, place)) {
+    let addr = cell_at(shadow, place);
+    if let Some(fact) = shadow.fact(addr) {
         write!(answer, "field {place} {fact:?} ");
-        for code in shadow.text(cell_at(shadow, place)) {
+        for code in shadow.text(addr) {
             write!(answer, "{code:02X}");
         }
         writeln!(answer)
@@ -142,11 +133,6 @@ fn want_of(words: &mut Words<'_>, word: &str) -> Want
     }
 }
 
-fn fill(words: &mut Words<'_>, wanted: &mut Wanted) {
-    let (size, word) = (words.size(), words.word());
-    *wanted = Wanted::filled(want_of(words, word), size);
-}
-
 fn put(words: &mut Words<'_>, wanted: &mut Wanted) {
     let first = words.number::<usize>();
     for (place, word) in (first..).zip(words.rest().split_whitespace()) {
@@ -159,7 +145,10 @@ fn put(words: &mut Words<'_>, wanted: &mut Wanted) {
 
 pub(crate) fn change(words: &mut Words<'_>, wanted: &mut Wanted, word: &str) {
     match word {
-        "want" => fill(words, wanted),
+        "want" => {
+            let (size, word) = (words.size(), words.word());
+            *wanted = Wanted::filled(want_of(words, word), size)
+        }
         "put" => put(words, wanted),
         "aim" => {
             let cursor = at(place_on(words, wanted.size()), wanted.size());

@@ -4,8 +4,7 @@
 //! walk MODEL NUMBER N     from an address: the next one, N cells on, N cells back, and the cells up to the last
 //! attr BYTE               the attribute's codes: as it is, without MDT and with it; and what it says
 //! ```
-use crate::subjects::Subject;
-use crate::talk::{Answer, Fault, Words};
+use crate::talk::{Answer, Fault, Subject, Words};
 use codes3270::{
     Addr, Aid, Attr, CELL_COUNT, CELLS, COLUMNS, Cell, MOST_CELLS, MOST_COLUMNS, PaNo, PfNo, ROWS,
     Size, Wcc, addr_from_bytes, addr_to_bytes, aid_byte, aid_from_byte, attr_code, from_latin1,
@@ -46,10 +45,8 @@ fn put_read(words: &mut Words<'_>, answer: &mut Answer) {
 
 fn put_address(words: &mut Words<'_>, answer: &mut Answer) {
     let size = words.size();
-    match Addr::new(words.number(), size) {
-        Some(addr) => answer.line(&Some((addr, addr_to_bytes(addr)))),
-        None => writeln!(answer, "None"),
-    }
+    let addr = Addr::new(words.number(), size);
+    answer.line(&addr.map(|addr| (addr, addr_to_bytes(addr))))
 }
 
 fn put_walk(words: &mut Words<'_>, answer: &mut Answer) {
@@ -65,18 +62,16 @@ fn put_walk(words: &mut Words<'_>, answer: &mut Answer) {
     }
 }
 
-fn put_cell(answer: &mut Answer, cell: Cell) {
-    let is_open = cell.is_unprotected_attribute();
-    answer.line(&(cell.attribute(), cell.is_character(), is_open))
-}
-
-fn put_wcc(answer: &mut Answer, wcc: Wcc) {
-    answer.line(&([wcc.byte()], wcc.alarm(), wcc.restore(), wcc.reset()))
+fn put_cells(answer: &mut Answer, byte: u8) {
+    for cell in [Cell::Attr(Attr::from_code(byte)), Cell::Char(byte)] {
+        let is_open = cell.is_unprotected_attribute();
+        answer.line(&(cell.attribute(), cell.is_character(), is_open));
+    }
 }
 
 impl Subject for Codes {
-    fn take(&mut self, words: &mut Words<'_>, answer: &mut Answer) {
-        match words.word() {
+    fn take(&mut self, word: &str, words: &mut Words<'_>, answer: &mut Answer) {
+        match word {
             "constants" => {
                 put_size(answer, Size::base());
                 answer.line(&(ROWS, COLUMNS, CELLS, CELL_COUNT, MOST_CELLS, MOST_COLUMNS))
@@ -87,12 +82,11 @@ impl Subject for Codes {
             "read" => put_read(words, answer),
             "walk" => put_walk(words, answer),
             "attr" => put_attr(answer, Attr::from_code(words.byte())),
-            "cell" => {
-                let byte = words.byte();
-                put_cell(answer, Cell::Attr(Attr::from_code(byte)));
-                put_cell(answer, Cell::Char(byte))
+            "cell" => put_cells(answer, words.byte()),
+            "wcc" => {
+                let wcc = Wcc::from_byte(words.byte());
+                answer.line(&([wcc.byte()], wcc.alarm(), wcc.restore(), wcc.reset()))
             }
-            "wcc" => put_wcc(answer, Wcc::from_byte(words.byte())),
             "aid" => put_aid(answer, aid_from_byte(words.byte())),
             "pf" => put_aid(answer, PfNo::new(words.number()).map(Aid::Pf)),
             "pa" => put_aid(answer, PaNo::new(words.number()).map(Aid::Pa)),

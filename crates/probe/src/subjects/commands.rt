@@ -5,9 +5,8 @@
 //! inbound FORM MODEL BYTES    data of a form (modified, all, buffer)
 //! begin CODE WCC; sba ADDR; sf BYTE; chars BYTES; ra ADDR BYTE; ic    a writer appends it
 //! ```
-use crate::subjects::Subject;
 use crate::subjects::cells::{are_storable, at, character, form};
-use crate::talk::{Answer, Fault, Hex, Put, Words};
+use crate::talk::{Answer, Fault, Hex, Put, Subject, Words};
 use codes3270::{Attr, Size, Wcc, aid_byte};
 use datastream::{
     Cells, Command, CommandCode, CommandWriter, Form, Inbound, read_command, read_inbound,
@@ -67,9 +66,8 @@ fn put_inbound(answer: &mut Answer, inbound: &Inbound<'_>) {
     answer.each("fields", inbound.returned());
     answer.each("parts", inbound.parts());
     answer.each("as-cells", inbound.parts().map(|part| part.cell()));
-    match form {
-        Form::Buffer => put_cells(answer, inbound.cells()),
-        _ => {}
+    if let Form::Buffer = form {
+        put_cells(answer, inbound.cells())
     }
 }
 
@@ -104,32 +102,29 @@ fn put_repeat(words: &mut Words<'_>, to: &mut CommandWriter<'_>) -> Put {
     to.ra(end, character(words, digits))
 }
 
-fn begin(words: &mut Words<'_>, to: &mut CommandWriter<'_>) -> Put {
-    let code = words.named(&CODES, CommandCode::Write);
-    to.begin(code, Wcc::from_byte(words.byte()))
-}
-
-fn write(words: &mut Words<'_>, mut to: CommandWriter<'_>, word: &str) -> Put {
-    match word {
-        "begin" => begin(words, &mut to),
+fn write(words: &mut Words<'_>, answer: &mut Answer, word: &str) {
+    let mut to = CommandWriter::new(&mut answer.out);
+    let called = match word {
+        "begin" => {
+            let code = words.named(&CODES, CommandCode::Write);
+            to.begin(code, Wcc::from_byte(words.byte()))
+        }
         "sba" => to.sba(at(words.number(), Size::base())),
         "sf" => to.sf(Attr::from_code(words.byte())),
         "ra" => put_repeat(words, &mut to),
         "ic" => to.ic(),
         "chars" => put_text(words, &mut to),
         _ => Ok(words.fail(Fault::Line)),
-    }
+    };
+    answer.done(called)
 }
 
 impl Subject for Commands {
-    fn take(&mut self, words: &mut Words<'_>, answer: &mut Answer) {
-        match words.word() {
+    fn take(&mut self, word: &str, words: &mut Words<'_>, answer: &mut Answer) {
+        match word {
             "read" => read(answer, words.size(), words.size(), words.bytes()),
             "inbound" => read_data(answer, form(words), words.size(), words.bytes()),
-            word => {
-                let called = write(words, CommandWriter::new(&mut answer.out), word);
-                answer.done(called)
-            }
+            _ => write(words, answer, word),
         }
     }
 }

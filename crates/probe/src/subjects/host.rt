@@ -8,18 +8,16 @@
 ghost use Rattle.std.specs.Prelude.{◌<◌};
 ghost use Rattle.host_core.specs.State.{most_connections};
 
-use crate::subjects::Made;
 use crate::subjects::cells::put_belief;
 use crate::subjects::links::Link;
 use crate::subjects::panel::set_value;
-use crate::talk::{Answer, Fault, Words};
+use crate::talk::{Answer, Fault, Made, Words};
 use applications::application_of;
 use codes3270::aid_byte;
 use host_core::{
     Answer as Reply, Host, HostEvent, MOST_CONNECTIONS, MessageText, PanelSet, Phase, Pool,
     Question, Terminals, Ticket, Values, serve_turn,
 };
-use panels::Panel;
 use world3270::NoteText;
 
 static TERMINALS: [Terminals; 3] = [Terminals::Waiting, Terminals::Any, Terminals::Verified];
@@ -51,20 +49,16 @@ pub(crate) fn put_all(answer: &mut Answer, host: &Host, conn: usize)
     put_belief(answer, host.shadow(conn))
 }
 
-fn put_values(answer: &mut Answer, panel: &Panel, values: &Values) {
-    for field in panel.fields() {
-        if let Some(value) = values.get(field.number) {
-            answer.name(field.name.as_str(), value);
-        }
-    }
-}
-
 fn put_question(answer: &mut Answer, host: &Host, question: &Question) {
     let Ticket { session, turn } = question.ticket;
     writeln!(answer, "ticket {session} {turn}\nlu {}", question.lu);
     answer.line(&(question.panel, question.cursor, [aid_byte(question.aid)]));
     if let Some(panel) = host.panels().panel(question.panel) {
-        put_values(answer, panel, &question.values)
+        for field in panel.fields() {
+            if let Some(value) = question.values.get(field.number) {
+                answer.name(field.name.as_str(), value);
+            }
+        }
     }
 }
 
@@ -156,8 +150,9 @@ impl Made for Host {
         if word == "restart" {
             return self.restart();
         }
-        if let Some(conn) = words.index(MOST_CONNECTIONS) {
-            take_on(self, conn, word, words, answer)
+        match words.number() {
+            conn if conn < MOST_CONNECTIONS => take_on(self, conn, word, words, answer),
+            _ => words.fail(Fault::Line),
         }
     }
 }

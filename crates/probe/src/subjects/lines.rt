@@ -5,8 +5,7 @@
 //! check TEXT       the report of panel_check on a panel text, and what the readers answer
 //! faults           faults of which the system gives few
 //! ```
-use crate::subjects::Subject;
-use crate::talk::{Answer, Done, Fault, Words};
+use crate::talk::{Answer, Done, Fault, Subject, Words};
 use applications::{Absence, AnswerFault, ApplicationFault, application_of};
 use cli::words;
 use jobs::{FileFault, LiveFault};
@@ -71,51 +70,37 @@ fn put_script(answer: &mut Answer, line: &str) {
     }
 }
 
-fn put_socket_faults(answer: &mut Answer) {
+fn put_faults(alloc: Global, answer: &mut Answer) -> Done {
     // An address for documentation (RFC 5737).
     let peer = SocketAddr::from((Ipv4Addr::new(192, 0, 2, 1), 3270));
+    answer.say(&jobs::Fault::SocketFailed);
+    answer.say(&jobs::Fault::NotRandom);
+    answer.say(&LiveFault::Closed(Cause::Wire));
     for kind in [ErrorKind::PermissionDenied, ErrorKind::InvalidInput] {
-        writeln!(answer, "{}", jobs::Fault::CannotListen(peer, kind));
+        answer.say(&jobs::Fault::CannotListen(peer, kind));
     }
     for kind in [ErrorKind::TimedOut, ErrorKind::PermissionDenied] {
-        writeln!(answer, "{}", LiveFault::CannotConnect(peer, kind));
+        answer.say(&LiveFault::CannotConnect(peer, kind));
     }
-}
-
-fn put_faults(alloc: Global, answer: &mut Answer) -> Done {
-    writeln!(answer, "{}", jobs::Fault::SocketFailed);
-    writeln!(answer, "{}", jobs::Fault::NotRandom);
-    writeln!(answer, "{}", LiveFault::Closed(Cause::Wire));
-    put_socket_faults(answer);
+    let name = "a.toml";
     for why in [ErrorKind::PermissionDenied, ErrorKind::InvalidFilename] {
-        writeln!(
-            answer,
-            "{}",
-            FileFault {
-                name: "a.toml",
-                why
-            }
-        );
+        answer.say(&FileFault { name, why });
     }
-    let name = String::from_str(alloc, "a\"b\\c\n")?;
-    writeln!(
-        answer,
-        "{}",
-        ApplicationFault::Answer(AnswerFault::UnknownField(name))
-    );
-    writeln!(answer, "{}", ApplicationFault::Absent(Absence::NoMemory));
-    Ok(writeln!(answer, "{}", ApplicationFault::Answer(AnswerFault::Memory)))
+    let field = String::from_str(alloc, "a\"b\\c\n")?;
+    answer.say(&ApplicationFault::Answer(AnswerFault::UnknownField(field)));
+    answer.say(&ApplicationFault::Absent(Absence::NoMemory));
+    Ok(answer.say(&ApplicationFault::Answer(AnswerFault::Memory)))
 }
 
 impl Subject for Lines {
-    fn take(&mut self, words: &mut Words<'_>, answer: &mut Answer) {
-        let (alloc, kind) = (words.alloc, words.word());
+    fn take(&mut self, word: &str, words: &mut Words<'_>, answer: &mut Answer) {
+        let alloc = words.alloc;
         let text = words.text();
-        let done = match kind {
+        let done = match word {
             "words" => put_words(alloc, answer, text),
             "script" => Ok(put_script(answer, text)),
             "terminal" => Ok(answer.line(&TerminalCommand::read(text))),
-            "typed" => Ok(writeln!(answer, "{}", typed_text(text))),
+            "typed" => Ok(answer.say(&typed_text(text))),
             "check" => put_report(alloc, answer, text),
             "faults" => put_faults(alloc, answer),
             _ => Err(Fault::Line),

@@ -7,13 +7,12 @@
 //! hears ITEM; takes ITEM      the host, or the terminal, takes `record BYTES`, `sub BYTES`, `other BYTE`, `VERB BYTE`
 //! granted BYTES; refused BYTE the host's pool grants this LU, or none, for this reason
 //! ```
-use crate::subjects::Subject;
 use crate::subjects::wire::VERBS;
-use crate::talk::{Answer, Done, Fault, Words, named};
+use crate::talk::{Answer, Done, Fault, Subject, Words};
 use codes3270::Model;
 use std::alloc::Global;
 use std::fmt::Debug;
-use telnet_wire::Item;
+use telnet_wire::{Item, Verb};
 use tn3270e_msg::{
     ALWAYS_RESPONSE, Cause, Device, ERROR_RESPONSE, HEADER_LENGTH, HostTalk, Lu, NEGATIVE,
     NO_RESPONSE, POSITIVE, RECORD_LIMIT, REPLY_ROOM, Reason, Reply, TermTalk, header_bytes,
@@ -39,21 +38,21 @@ static CAUSES: [Cause; 10] = [
     Cause::RuleBroken,
 ];
 
-fn put_device(answer: &mut Answer, device: Device, text: &[u8]) {
-    let told = (device.text(), device.model(), device.has_text(text));
-    answer.line(&Some(told))
+fn put_device(answer: &mut Answer, device: Option<Device>, text: &[u8]) {
+    answer.line(&device.map(|it| (it.text(), it.model(), it.has_text(text))))
 }
 
-fn item_of<'a>(alloc: Global, word: &str, bytes: &'a [u8]) -> Result<Item<'a>, Fault> {
-    match (word, bytes) {
-        ("record", _) => Ok(Item::Record(bytes)),
-        ("sub", _) => Ok(Item::Sub(bytes)),
-        ("other", [code]) => Ok(Item::Other(*code)),
-        (_, [code]) => {
-            let verb = named(alloc, &VERBS, word)?;
-            Ok(Item::Opt { verb, code: *code })
+fn item_of<'a>(words: &'a mut Words<'_>) -> Item<'a> {
+    let line = words.rest;
+    match words.word() {
+        "record" => Item::Record(words.bytes()),
+        "sub" => Item::Sub(words.bytes()),
+        "other" => Item::Other(words.byte()),
+        _ => {
+            words.rest = line;
+            let (verb, code) = (words.named(&VERBS, Verb::Will), words.byte());
+            Item::Opt { verb, code }
         }
-        _ => Err(Fault::Line),
     }
 }
 
@@ -61,8 +60,7 @@ fn item_of<'a>(alloc: Global, word: &str, bytes: &'a [u8]) -> Result<Item<'a>, F
 fn put_after<S: Debug>(alloc: Global, answer: &mut Answer, reply: &Reply, state: &S) -> Done {
     let mut out = Vec::with_capacity(alloc, REPLY_ROOM)?;
     let cause = put_reply(&mut out, reply);
-    let sent = out.as_slice();
-    Ok(writeln!(answer, "({sent:?}, {reply:?}, {cause:?}, {state:?})"))
+    Ok(answer.line(&(out.as_slice(), reply, cause, state)))
 }
 
 fn read_lu(words: &mut Words<'_>) -> Option<Lu> {
@@ -77,10 +75,10 @@ fn read_lu(words: &mut Words<'_>) -> Option<Lu> {
 fn put_header(answer: &mut Answer, bytes: &[u8]) {
     match read_header(bytes) {
         Ok((header, data)) => {
-            writeln!(answer, "({header:?}, {data:?})");
+            answer.line(&(&header, data));
             answer.line(&header_bytes(&header))
         }
-        Err(fault) => writeln!(answer, "{fault}"),
+        Err(fault) => answer.say(&fault),
     }
 }
 
@@ -93,20 +91,15 @@ fn take_bytes(word: &str, bytes: &[u8], answer: &mut Answer) -> Done {
             put_sub_message(&mut answer.out, &message)?;
             writeln!(answer.text, "{:?}", answer.out.as_slice())?
         }
-        ("sub", Err(fault)) => writeln!(answer, "{fault}"),
+        ("sub", Err(fault)) => answer.say(&fault),
         ("put", Ok(message)) => {
             let called = put_sub_message(&mut answer.out, &message);
             answer.done(called)
         }
-        ("lu", _) => {
-            if let Some(lu) = Lu::read(bytes) {
-                writeln!(answer, "{lu} {:?}", lu.as_bytes())
-            }
-        }
-        ("device", _) => match Device::read(bytes) {
-            Some(device) => put_device(answer, device, bytes),
-            None => writeln!(answer, "None"),
+        ("lu", _) => if let Some(lu) = Lu::read(bytes) {
+            writeln!(answer, "{lu} {:?}", lu.as_bytes())
         },
+        ("device", _) => put_device(answer, Device::read(bytes), bytes),
         _ => return Err(Fault::Line),
     }
     Ok(())
@@ -129,8 +122,7 @@ impl Messages {
     }
 
     fn take_item(&mut self, words: &mut Words<'_>, answer: &mut Answer, is_host: bool) -> Done {
-        let (alloc, word) = (words.alloc, words.word());
-        let item = item_of(alloc, word, words.bytes())?;
+        let (alloc, item) = (words.alloc, item_of(words));
         if is_host {
             let reply = self.host.take(&item);
             return put_after(alloc, answer, &reply, &self.host.state());
@@ -157,10 +149,25 @@ impl Messages {
         answer.line(&(self.terminal.lu(), agreed, self.terminal.reason_refused()))
     }
 
-    fn take_talk(&mut self, word: &str, words: &mut Words<'_>, answer: &mut Answer) -> Done {
+    fn take_word(&mut self, word: &str, words: &mut Words<'_>, answer: &mut Answer) -> Done {
         match word {
-            "hears" => self.take_item(words, answer, true),
-            "takes" => self.take_item(words, answer, false),
+            "next" => Ok(answer.line(&next_seq(words.number()))),
+            "device-of" => {
+                let device = Device::of(words.model());
+                Ok(put_device(answer, Some(device), device.text()))
+            }
+            "reason" => {
+                let reason = Reason(words.byte());
+                Ok(writeln!(answer, "{} {reason}", reason.name().unwrap_or("-")))
+            }
+            "causes" => Ok(for cause in &CAUSES {
+                writeln!(answer, "{} {} {cause}", cause.number(), cause.name());
+            }),
+            "constants" => {
+                answer.line(&(NO_RESPONSE, ERROR_RESPONSE, ALWAYS_RESPONSE));
+                Ok(answer.line(&(POSITIVE, NEGATIVE, HEADER_LENGTH, RECORD_LIMIT, REPLY_ROOM)))
+            }
+            "hears" | "takes" => self.take_item(words, answer, word == "hears"),
             "granted" => match read_lu(words) {
                 Some(lu) => self.answered(words.alloc, Ok(lu), answer),
                 None => Err(Fault::Line),
@@ -175,33 +182,9 @@ impl Messages {
     }
 }
 
-fn put_causes(answer: &mut Answer) {
-    for cause in &CAUSES {
-        writeln!(answer, "{} {} {cause}", cause.number(), cause.name());
-    }
-}
-
 impl Subject for Messages {
-    fn take(&mut self, words: &mut Words<'_>, answer: &mut Answer) {
-        match words.word() {
-            "next" => answer.line(&next_seq(words.number())),
-            "device-of" => {
-                let device = Device::of(words.model());
-                put_device(answer, device, device.text())
-            }
-            "reason" => {
-                let reason = Reason(words.byte());
-                writeln!(answer, "{} {reason}", reason.name().unwrap_or("-"))
-            }
-            "causes" => put_causes(answer),
-            "constants" => {
-                answer.line(&(NO_RESPONSE, ERROR_RESPONSE, ALWAYS_RESPONSE));
-                answer.line(&(POSITIVE, NEGATIVE, HEADER_LENGTH, RECORD_LIMIT, REPLY_ROOM))
-            }
-            word => {
-                let done = self.take_talk(word, words, answer);
-                words.note(done)
-            }
-        }
+    fn take(&mut self, word: &str, words: &mut Words<'_>, answer: &mut Answer) {
+        let done = self.take_word(word, words, answer);
+        words.note(done)
     }
 }

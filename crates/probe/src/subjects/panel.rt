@@ -7,13 +7,11 @@
 //! next BYTE            where the key of an AID leads
 //! copy; swap           makes a copy of the values; exchanges them and the copy
 //! ```
-ghost use Rattle.std.specs.Prelude.{◌≡◌, ◌≢◌, true, false};
+ghost use Rattle.std.specs.Prelude.{◌≡◌, true};
 ghost use Rattle.panels.specs.Characters.{AreCharacters};
-ghost use Rattle.panels.specs.declared.message.Message.TheVariants.{Fresh};
 
-use crate::subjects::Subject;
 use crate::subjects::cells::{aid, put_wanted};
-use crate::talk::{Answer, Fault, Put, Words};
+use crate::talk::{Answer, Fault, Put, Subject, Words};
 use codes3270::storable;
 use panels::{Message, Panel, PanelFault, PanelSet, Values};
 use std::alloc::{AllocError, Global};
@@ -29,19 +27,12 @@ pub(crate) struct Panels {
 
 fn read_message(words: &mut Words<'_>) -> Message {
     match words.word() {
-        "fresh" => return Message::Fresh,
-        "plain" => {}
-        "key-not-active" => return Message::KeyNotActive,
-        "required" => return Message::Required(words.number()),
-        _ => words.fail(Fault::Line),
+        "fresh" => Message::Fresh,
+        "plain" => Message::Plain,
+        "key-not-active" => Message::KeyNotActive,
+        "required" => Message::Required(words.number()),
+        _ => words.or(None, Message::Plain),
     }
-    Message::Plain
-}
-
-fn is_fresh(message: &Message) -> bool
-    ensures { result ≡ false → message.now ≢ Fresh }
-{
-    matches!(message, Message::Fresh)
 }
 
 fn are_characters(bytes: &[u8]) -> bool
@@ -72,7 +63,7 @@ fn put_panel(answer: &mut Answer, panel: &Panel) {
 
 fn put_screens(words: &mut Words<'_>, answer: &mut Answer, panel: &Panel, values: &Values) {
     let (keep, message) = (words.number::<bool>(), read_message(words));
-    if keep && is_fresh(&message) {
+    if let (Message::Fresh, true) = (message, keep) {
         return words.fail(Fault::Line);
     }
     let mut wanted = panel.wanted(values, message, keep);
@@ -109,7 +100,10 @@ impl Panels {
     }
 
     /// Executes a command on the panel of the index, if there is one.
-    fn take_panel(&self, word: &str, words: &mut Words<'_>, answer: &mut Answer) {
+    fn take_panel(&mut self, word: &str, words: &mut Words<'_>, answer: &mut Answer) {
+        if word == "panel" {
+            self.index = words.number();
+        }
         let Some(set) = &self.set else {
             return words.fail(Fault::Line);
         };
@@ -118,30 +112,24 @@ impl Panels {
             ("panel", None) => {}
             ("wanted", Some(panel)) => put_screens(words, answer, panel, &self.values),
             ("next", Some(panel)) => answer.line(&panel.next(aid(words))),
-            ("shown", _) => {
-                if let Some(index) = words.index(set.len()) {
-                    answer.line(&set.shown(index, words.model()))
-                }
-            }
+            ("shown", _) => match words.number() {
+                index if index < set.len() => answer.line(&set.shown(index, words.model())),
+                _ => words.fail(Fault::Line),
+            },
             _ => words.fail(Fault::Line),
         }
     }
 }
 
 impl Subject for Panels {
-    fn take(&mut self, words: &mut Words<'_>, answer: &mut Answer) {
-        match words.word() {
+    fn take(&mut self, word: &str, words: &mut Words<'_>, answer: &mut Answer) {
+        match word {
             "read" => self.read(words, answer),
             "set" => answer.done(set_value(words, &mut self.values)),
             "copy" => answer.done(self.copy()),
             "swap" => mem::swap(&mut self.values, &mut self.copy),
             "value" => answer.line(&self.values.get(words.number())),
-            word => {
-                if word == "panel" {
-                    self.index = words.number();
-                }
-                self.take_panel(word, words, answer)
-            }
+            _ => self.take_panel(word, words, answer),
         }
     }
 }

@@ -1,6 +1,5 @@
 //! Calls of lu_pool, by Debug. `ask CONN BYTES` asks for the LU of a name, or for any if there are no bytes.
-use crate::subjects::Subject;
-use crate::talk::{Answer, Done, Fault, Words};
+use crate::talk::{Answer, Done, Fault, Subject, Words};
 use lu_pool::{Pool, PoolFault};
 
 #[derive(Drop)]
@@ -16,25 +15,25 @@ fn ask(answer: &mut Answer, pool: &mut Pool, conn: usize, name: &[u8]) -> Done {
     }
 }
 
-fn read(words: &mut Words<'_>) -> Result<Result<Pool, PoolFault>, Fault> {
+fn read(words: &mut Words<'_>) -> Result<Pool, PoolFault> {
     let mut names = Vec::new(words.alloc);
     for word in words.rest().split_whitespace() {
-        let name = String::from_utf8(words.bytes_of(word));
-        names.push(name.ok().ok_or(Fault::Line)?)?;
+        match String::from_utf8(words.bytes_of(word)) {
+            Ok(name) => if names.push(name).is_err() {
+                words.fail(Fault::NoMemory)
+            },
+            Err(_) => words.fail(Fault::Line),
+        }
     }
-    Ok(Pool::read(words.alloc, names.as_slice()))
+    Pool::read(words.alloc, names.as_slice())
 }
 
 impl Subject for Pools {
-    fn take(&mut self, words: &mut Words<'_>, answer: &mut Answer) {
-        match (words.word(), &mut self.pool) {
+    fn take(&mut self, word: &str, words: &mut Words<'_>, answer: &mut Answer) {
+        match (word, &mut self.pool) {
             ("read", pool) => match read(words) {
-                Ok(Ok(read)) => {
-                    *pool = Some(read);
-                    answer.done(Ok(()))
-                }
-                Ok(Err(fault)) => writeln!(answer, "{fault}"),
-                Err(fault) => words.fail(fault),
+                Ok(read) => answer.done(Ok(*pool = Some(read))),
+                Err(fault) => answer.say(&fault),
             },
             ("ask", Some(pool)) => {
                 let done = ask(answer, pool, words.number(), words.bytes());

@@ -5,9 +5,8 @@
 //!                          the field of the first
 //! press NAME; char NUMBER  a key by its name, the key of a character
 //! ```
-use crate::subjects::Subject;
 use crate::subjects::cells::{aid, at, form, key, place_on};
-use crate::talk::{Answer, Done, Fault, Words};
+use crate::talk::{Answer, Done, Fault, Subject, Words};
 use codes3270::{Model, storable};
 use datastream::{CommandFault, Form, read_command};
 use keyboard::{Key, Keyboard};
@@ -19,19 +18,17 @@ pub(crate) struct Display {
     keyboard: Keyboard,
 }
 
-fn store(screen: &mut Screen, first: u16, codes: &[u8]) {
+fn store(screen: &mut Screen, words: &mut Words<'_>) {
+    let first = place_on(words, screen.size());
     let mut place = first;
-    for code in codes {
+    for code in words.bytes() {
         let here = at(place, screen.size());
         if screen.cell(here).is_character() && storable(*code) {
             screen.set_char(here, *code);
         }
         place = place.saturating_add(1) % screen.size().cells();
     }
-}
-
-fn mark(screen: &mut Screen, place: u16) {
-    if let Some(field) = screen.field_at(at(place, screen.size())) {
+    if let Some(field) = screen.field_at(at(first, screen.size())) {
         let attr = at(field.attr.get(), screen.size());
         if !screen.cell(attr).is_character() {
             screen.set_mdt(attr);
@@ -42,12 +39,10 @@ fn mark(screen: &mut Screen, place: u16) {
 fn put_looks(answer: &mut Answer, screen: &Screen) {
     let size = screen.size();
     for place in 0..size.cells() {
-        answer.line(&(
-            screen.cell(at(place, size)),
-            screen.field_at(at(place, size)),
-            screen.attribute_over(at(place, size)),
-            u32::from(screen.glyph_at(at(place, size))),
-        ));
+        let here = at(place, size);
+        let (cell, glyph) = (screen.cell(here), u32::from(screen.glyph_at(here)));
+        let (field, over) = (screen.field_at(here), screen.attribute_over(here));
+        answer.line(&(cell, field, over, glyph));
     }
 }
 
@@ -90,33 +85,15 @@ impl Display {
         answer.line(&self.keyboard.press(&mut self.screen, key))
     }
 
-    fn store(&mut self, words: &mut Words<'_>) {
-        let first = place_on(words, self.screen.size());
-        store(&mut self.screen, first, words.bytes());
-        mark(&mut self.screen, first)
-    }
-
     fn copy(&mut self) -> Done {
         Ok(self.screen = self.screen.clone()?)
-    }
-
-    fn change(&mut self, words: &mut Words<'_>, answer: &mut Answer, word: &str) {
-        let size = self.screen.size();
-        match word {
-            "new" => *self = Display::blank(words.model()),
-            "store" => self.store(words),
-            "cursor" => self.screen.set_cursor(at(place_on(words, size), size)),
-            "aid" => self.screen.set_aid(aid(words)),
-            "clear" => self.screen.clear(),
-            "erase-input" => self.screen.erase_unprotected(),
-            _ => look(&self.screen, words, answer, word),
-        }
     }
 }
 
 impl Subject for Display {
-    fn take(&mut self, words: &mut Words<'_>, answer: &mut Answer) {
-        match words.word() {
+    fn take(&mut self, word: &str, words: &mut Words<'_>, answer: &mut Answer) {
+        let size = self.screen.size();
+        match word {
             "apply" => answer.line(&self.apply(words.bytes())),
             "press" => self.press(answer, key(words)),
             "char" => match char::from_u32(words.number()) {
@@ -124,7 +101,13 @@ impl Subject for Display {
                 None => words.fail(Fault::Line),
             },
             "copy" => words.note(self.copy()),
-            word => self.change(words, answer, word),
+            "new" => *self = Display::blank(words.model()),
+            "store" => store(&mut self.screen, words),
+            "cursor" => self.screen.set_cursor(at(place_on(words, size), size)),
+            "aid" => self.screen.set_aid(aid(words)),
+            "clear" => self.screen.clear(),
+            "erase-input" => self.screen.erase_unprotected(),
+            _ => look(&self.screen, words, answer, word),
         }
     }
 }

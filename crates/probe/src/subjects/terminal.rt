@@ -1,8 +1,7 @@
 //! A terminal: term_core's `Terminal`. `connected` has the LU that it asks for, if one; `lines` are those of `text`
 //! without the one below the screen; `see` shows all that is to be seen; a refusal has its number and its name.
-use crate::subjects::Made;
 use crate::subjects::cells::{key, put_cells};
-use crate::talk::{Answer, Fault, Words};
+use crate::talk::{Answer, Fault, Made, Words};
 use codes3270::aid_byte;
 use keyboard::{Key, Pressed};
 use term_core::{TermPhase, Terminal, screen_lines};

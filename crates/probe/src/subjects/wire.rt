@@ -4,8 +4,7 @@
 //! push BYTES     each byte by `push`: the 1-based place of each byte that completes an item, or is refused
 //! feed BYTES     as `push`, but bytes that `push_data` takes are taken at once; `data` calls only that
 //! ```
-use crate::subjects::Subject;
-use crate::talk::{Answer, Fault, Put, Words};
+use crate::talk::{Answer, Fault, Put, Subject, Words};
 use std::alloc::AllocError;
 use telnet_wire::{Decoder, Step, Verb, put_option, put_record, put_sub, put_sub_parts};
 
@@ -26,13 +25,10 @@ fn put_parts(words: &mut Words<'_>, out: &mut Vec<u8>) -> Result<Put, AllocError
 fn push_each(decoder: &mut Decoder, bytes: &[u8], is_fed: bool, answer: &mut Answer) {
     let mut next = 0;
     for (index, byte) in bytes.iter().enumerate() {
-        if index < next {
-            continue;
-        }
-        if is_fed {
+        if is_fed && next <= index {
             next = index + decoder.push_data(&bytes[index..]);
         }
-        if next > index {
+        if index < next {
             continue;
         }
         match decoder.push(*byte) {
@@ -43,18 +39,9 @@ fn push_each(decoder: &mut Decoder, bytes: &[u8], is_fed: bool, answer: &mut Ans
     }
 }
 
-fn renew(decoder: &mut Decoder, words: &mut Words<'_>, answer: &mut Answer) {
-    match Decoder::new(words.alloc, words.number()) {
-        Ok(new) => {
-            *decoder = new;
-            answer.done(Ok(()))
-        }
-        Err(fault) => writeln!(answer, "{fault}"),
-    }
-}
-
-fn append(words: &mut Words<'_>, out: &mut Vec<u8>, word: &str) -> Put {
-    match word {
+fn append(words: &mut Words<'_>, answer: &mut Answer, word: &str) {
+    let out = &mut answer.out;
+    let called = match word {
         "record" => put_record(out, words.bytes()),
         "option" => put_option(out, words.named(&VERBS, Verb::Will), words.byte()),
         "sub" => put_sub(out, words.bytes()),
@@ -63,21 +50,21 @@ fn append(words: &mut Words<'_>, out: &mut Vec<u8>, word: &str) -> Put {
             Err(_) => Ok(words.fail(Fault::NoMemory)),
         },
         _ => Ok(words.fail(Fault::Line)),
-    }
+    };
+    answer.done(called)
 }
 
 impl Subject for Decoder {
-    fn take(&mut self, words: &mut Words<'_>, answer: &mut Answer) {
-        match words.word() {
-            "new" => renew(self, words, answer),
-            "push" => push_each(self, words.bytes(), false, answer),
-            "feed" => push_each(self, words.bytes(), true, answer),
+    fn take(&mut self, word: &str, words: &mut Words<'_>, answer: &mut Answer) {
+        match word {
+            "new" => match Decoder::new(words.alloc, words.number()) {
+                Ok(new) => answer.done(Ok(*self = new)),
+                Err(fault) => answer.say(&fault),
+            },
+            "push" | "feed" => push_each(self, words.bytes(), word == "feed", answer),
             "data" => answer.line(&self.push_data(words.bytes())),
             "reset" => self.reset(),
-            word => {
-                let called = append(words, &mut answer.out, word);
-                answer.done(called)
-            }
+            _ => append(words, answer, word),
         }
     }
 }

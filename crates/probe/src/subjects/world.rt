@@ -10,8 +10,8 @@
 //! ```
 use crate::subjects::cells::put_cells;
 use crate::subjects::host::{self, put_state, read_service};
-use crate::subjects::{Made, terminal};
-use crate::talk::{Answer, Done, Fault, MODELS, Words};
+use crate::subjects::terminal;
+use crate::talk::{Answer, Fault, MODELS, Made, Words};
 use host_core::{MOST_CONNECTIONS, Phase};
 use keyboard::Key;
 use scripts::{ScriptCommand, typed_text};
@@ -48,36 +48,23 @@ fn put_states(answer: &mut Answer, world: &World) {
     }
 }
 
-/// Shows what the commands on a connection show.
-fn look_at_connection(world: &World, word: &str, words: &mut Words<'_>, answer: &mut Answer) {
-    match (word, words.index(MOST_CONNECTIONS)) {
-        ("host", Some(conn)) => host::put_all(answer, world.host(), conn),
-        ("queued", Some(conn)) => {
-            answer.name("up", world.queued_up(conn));
-            answer.name("down", world.queued_down(conn))
+/// Shows what the commands on a connection or a terminal show.
+fn look(world: &World, word: &str, words: &mut Words<'_>, answer: &mut Answer) {
+    let number = words.number();
+    match word {
+        "host" if number < MOST_CONNECTIONS => host::put_all(answer, world.host(), number),
+        "queued" if number < MOST_CONNECTIONS => {
+            answer.name("up", world.queued_up(number));
+            answer.name("down", world.queued_down(number))
         }
+        _ if number >= world.terminals() => words.fail(Fault::Line),
+        "terminal" => terminal::put_all(answer, world.terminal(number)),
+        "left" => {
+            writeln!(answer, "erased {}", world.erased(number));
+            put_cells(answer, world.last_restored(number))
+        }
+        "text" => answer.page(world.terminal(number).screen_text(words.alloc)),
         _ => words.fail(Fault::Line),
-    }
-}
-
-/// Shows what the commands on a terminal show.
-fn look_at_terminal(world: &World, word: &str, words: &mut Words<'_>, answer: &mut Answer) {
-    match (word, words.index(world.terminals())) {
-        ("terminal", Some(terminal)) => terminal::put_all(answer, world.terminal(terminal)),
-        ("left", Some(terminal)) => {
-            writeln!(answer, "erased {}", world.erased(terminal));
-            put_cells(answer, world.last_restored(terminal))
-        }
-        ("text", Some(terminal)) => {
-            answer.page(world.terminal(terminal).screen_text(words.alloc))
-        }
-        _ => words.fail(Fault::Line),
-    }
-}
-
-impl Worlds {
-    fn list(&mut self, line: &str) -> Done {
-        Ok(self.events.push(read_event(line)?)?)
     }
 }
 
@@ -91,22 +78,19 @@ impl Made for Worlds {
 
     fn take(&mut self, word: &str, words: &mut Words<'_>, answer: &mut Answer) {
         match word {
-            "step" => match read_event(words.rest()) {
-                Ok(event) => answer.line(&self.world.step(event)),
+            "step" | "list" => match read_event(words.rest()) {
+                Ok(event) if word == "step" => answer.line(&self.world.step(event)),
+                Ok(event) => if self.events.push(event).is_err() {
+                    words.fail(Fault::NoMemory)
+                },
                 Err(fault) => words.fail(fault),
             },
-            "list" => {
-                let listed = self.list(words.rest());
-                words.note(listed)
-            }
             "run" => {
-                let ran = self.world.run(self.events.as_slice());
-                self.events.clear();
-                answer.line(&ran)
+                answer.line(&self.world.run(self.events.as_slice()));
+                self.events.clear()
             }
             "states" => put_states(answer, &self.world),
-            "host" | "queued" => look_at_connection(&self.world, word, words, answer),
-            _ => look_at_terminal(&self.world, word, words, answer),
+            _ => look(&self.world, word, words, answer),
         }
     }
 }
