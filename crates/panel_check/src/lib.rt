@@ -14,12 +14,10 @@
 //! lines. `specs/Report`: a report has each of these faults, and no other. Words, lines and warnings are only tested.
 #![tactic(auto)]
 
-mod layout;
 mod lines;
+mod parts;
 mod report;
-mod targets;
 mod telling;
-mod wording;
 mod words;
 
 pub use report::{Cause, Finding, Report, Sizes, check};

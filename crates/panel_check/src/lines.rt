@@ -89,6 +89,7 @@ impl Lines {
         let mut letters = text.chars();
         match letters.next() {
             Some(',') => Ok(letters.as_str()),
+            Some('=') => self.value(skip_ws(letters.as_str())),
             Some(']' | '}') => {
                 self.open.pop();
                 Ok(letters.as_str())
@@ -116,15 +117,13 @@ impl Lines {
         let Some((path, is_array)) = self.open.last() else {
             return Ok("");
         };
-        let is_array = *is_array;
         self.path.clear();
         self.path.push_str(path.as_str())?;
-        if is_array {
-            self.next_element(text)?;
-            return self.value(text);
+        if !*is_array {
+            return self.key(text);
         }
-        let after = self.key(text)?;
-        self.value(skip_ws(after.strip_prefix('=').unwrap_or(after)))
+        self.next_element(text)?;
+        self.value(text)
     }
 
     /// Walks over a key, and notes the line of each of its parts. An array on the way means its last table.

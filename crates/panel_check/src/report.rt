@@ -66,15 +66,15 @@ pub struct Sizes {
 }
 
 pub(crate) fn sizes_of(draft: &Draft) -> Sizes {
-    let mut fields: usize = 0;
+    let (panels, lus, mut fields) = (draft.panels.len(), draft.lus.len(), 0usize);
     for panel in &draft.panels {
         let own = panel.fields.iter().filter(|item| !item.is_value);
         fields = fields.saturating_add(own.count());
     }
     Sizes {
-        panels: draft.panels.len(),
+        panels,
         fields,
-        lus: draft.lus.len(),
+        lus,
     }
 }
 
@@ -97,8 +97,7 @@ pub fn check(alloc: Global, text: &str) -> Result<Report, AllocError>
     ensures reason { IfOk result (λ report. HasFirstCause (panel_text text.now) report.findings.items) }
 {
     let (text, _) = split_input(text);
-    let report = report_on(alloc, text)?;
-    Ok(report)
+    report_on(alloc, text)
 }
 
 /// A number and a noun, which is in the plural unless the number is 1.

@@ -105,8 +105,7 @@ fn tell(findings: &mut Vec<Finding>, draft: &Draft, lines: &Lines, cause: Cause)
         return Ok(());
     }
     let found = words_on(draft, lines, cause)?;
-    add_all(findings, reported, &found)?;
-    Ok(())
+    add_all(findings, reported, &found)
 }
 
 /// The findings for all faults of a text and for warnings, in the order of its lines.
@@ -139,8 +138,7 @@ fn report_no_toml(alloc: Global, text: &str, error: &Error) -> Result<Report, Al
     let start = error.span().map_or(0, |span| span.start);
     let line = line_ends(text, start).saturating_add(1);
     let words = String::from_str(alloc, error.message())?;
-    let (cause, sizes) = (Cause::NotToml, None);
-    let mut findings = Vec::new(alloc);
+    let (cause, sizes, mut findings) = (Cause::NotToml, None, Vec::new(alloc));
     findings.push(Finding { cause, line, words })?;
     Ok(Report { findings, sizes })
 }

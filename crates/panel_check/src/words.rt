@@ -1,20 +1,91 @@
-//! The messages of a report for each fault whose value is in the text, and for each warning.
+//! The messages of a report for each fault whose value is in the text, and for each warning; and how they print names.
 ghost use Rattle.std.specs.Prelude.{◌≡◌, ◌≤◌, true, length, IfOk, OnOk};
 ghost use Rattle.panel_check.specs.Report.{is_fault};
 
 use crate::lines::Lines;
 use crate::report::Cause;
-use crate::wording::{Cut, MOST_PRINTED, Place, table_at, text_at};
 use codes3270::from_latin1;
 use lu_pool::PoolFault;
 use panels::TreeFault::*;
 use panels::rules::{KeyKind, KeyRule, knows_key, table_rules};
-use panels::{Draft, Location, MOST_FIELDS, MOST_PANELS, MOST_TEXTS, PanelDraft, key_names};
+use panels::{
+    Draft, ItemDraft, Location, MOST_FIELDS, MOST_PANELS, MOST_TEXTS, PanelDraft, key_names,
+};
 use std::alloc::AllocError;
-use std::fmt::Display;
+use std::fmt::{self, Display};
 use strsim::osa_distance;
 use tn3270e_msg::Lu;
 use toml::{Table, Value};
+
+/// The most characters of a text that a message prints, and the most bytes of a word that is compared with others.
+const MOST_PRINTED: usize = 40;
+
+/// Prints a text on one line: each control character as `?`, and only the first 40 characters, with `..` after them.
+#[derive(Clone, Copy)]
+pub(crate) struct Cut<'a>(pub &'a str);
+
+impl fmt::Display for Cut<'_> {
+    fn fmt<W: fmt::Write>(&self, f: &mut fmt::Formatter<W>) -> fmt::Result {
+        for (place, letter) in self.0.chars().enumerate() {
+            if place == MOST_PRINTED {
+                return f.write_str("..");
+            }
+            f.write_char(if letter.is_control() { '?' } else { letter })?;
+        }
+        Ok(())
+    }
+}
+
+/// The table of a part, if there is one.
+pub(crate) fn table_at<'a>(draft: &Draft<'a>, part: Location) -> Option<&'a Table> {
+    match part {
+        Location::Top => Some(draft.table),
+        Location::Panel(panel) => Some(draft.panel(panel)?.table),
+        Location::Keys(panel) => draft.panel(panel)?.table.get("keys")?.as_table(),
+        _ => Some(draft.item(part)?.table),
+    }
+}
+
+/// The string at a key of a part's table.
+pub(crate) fn text_at<'a>(draft: &Draft<'a>, part: Location, key: &str) -> Option<&'a str> {
+    table_at(draft, part)?.get(key)?.as_str()
+}
+
+/// How messages name a table, as `panel MENU, field option`; nothing for the text's own table.
+#[derive(Clone, Copy)]
+pub(crate) struct Place<'s, 'a>(pub &'s Draft<'a>, pub Location);
+
+/// Prints a table's name, or its number from 1 on if it has none.
+fn put_named<W: fmt::Write>(
+    f: &mut fmt::Formatter<W>,
+    kind: &str,
+    name: Option<&str>,
+    index: usize,
+) -> fmt::Result {
+    match name {
+        Some(name) => write!(f, "{kind} {}", Cut(name)),
+        None => write!(f, "{kind} #{}", index.saturating_add(1)),
+    }
+}
+
+impl fmt::Display for Place<'_, '_> {
+    fn fmt<W: fmt::Write>(&self, f: &mut fmt::Formatter<W>) -> fmt::Result {
+        let Place(draft, part) = *self;
+        let (name, show) = (text_at(draft, part, "name"), text_at(draft, part, "show"));
+        if let Some(panel) = part.panel() {
+            let name = text_at(draft, Location::Panel(panel), "name");
+            put_named(f, "panel", name, panel)?;
+        }
+        match (draft.table(part), text_at(draft, part, "text")) {
+            (Location::Text(_, _), Some(text)) => write!(f, ", text '{}'", Cut(text)),
+            (Location::Text(_, _), _) if show.is_some() => put_named(f, ", show", show, 0),
+            (Location::Text(_, index), _) => put_named(f, ", text", None, index),
+            (Location::Field(_, index), _) => put_named(f, ", field", name, index),
+            (Location::Value(_, index), _) => put_named(f, ", value", name, index),
+            _ => Ok(()),
+        }
+    }
+}
 
 pub(crate) type Done = Result<(), AllocError>;
 
@@ -109,39 +180,34 @@ impl<'s, 'a> Words<'s, 'a> {
         text_at(self.draft, self.part, key).unwrap_or("")
     }
 
-    /// The panel that has the part.
-    pub fn panel(&self) -> Option<&'s PanelDraft<'a>> {
-        self.draft.panel(self.part.panel()?)
-    }
-
     fn tell(&mut self) -> Done {
-        let (draft, name) = (self.draft, Cut(self.text("name")));
-        let letters = match self.part {
-            Location::Panel(_) => "A-Z and 0-9",
-            _ => "a-z, 0-9 and _",
-        };
-        match (self.cause, self.panel()) {
-            (Cause::Lus(fault), _) => self.lu_fault(fault),
-            (Cause::TextWraps | Cause::FillNotNumeric, _) => self.warn_of_items(),
-            (Cause::NoKeyLeads, _) => self.unreached(),
-            (Cause::Tree(UnknownKey | Missing | BadKind, _), _) => self.keys(),
-            (Cause::Tree(TooMany, _), Some(panel)) => {
+        let (draft, part, name) = (self.draft, self.part, Cut(self.text("name")));
+        let panel = part.panel().and_then(|index| draft.panel(index));
+        match (self.cause, panel, draft.item(part)) {
+            (Cause::Lus(fault), _, _) => self.lu_fault(fault),
+            (Cause::TextWraps | Cause::FillNotNumeric, _, _) => self.warn_of_items(),
+            (Cause::NoKeyLeads, _, _) => self.unreached(),
+            (Cause::Tree(UnknownKey | Missing | BadKind, _), _, _) => self.keys(),
+            (Cause::Tree(TooMany, _), Some(panel), _) => {
                 self.most("text", panel.texts.len(), MOST_TEXTS)?;
                 self.most("field", panel.fields.len(), MOST_FIELDS)
             }
-            (Cause::Tree(TooMany, _), None) => self.most("panel", draft.panels.len(), MOST_PANELS),
-            (Cause::Tree(BadName, _), _) => say!(self, "name";
-                "bad name '{name}': a name has 1 to 16 of {letters}"),
-            (Cause::Tree(BadKey, Location::Keys(at)), Some(it)) => self.bad_keys(at, it),
-            (Cause::Tree(TwiceNamed, Location::Keys(at)), Some(it)) => self.asked_twice(at, it),
-            (Cause::Tree(TwiceNamed, _), _) => self.named_twice(),
-            (Cause::Tree(BadModel, _), Some(panel)) =>
+            (Cause::Tree(TooMany, _), _, _) => self.most("panel", draft.panels.len(), MOST_PANELS),
+            (Cause::Tree(BadName, Location::Panel(_)), _, _) => say!(self, "name";
+                "bad name '{name}': a name has 1 to 16 of A-Z and 0-9"),
+            (Cause::Tree(BadName, _), _, _) => say!(self, "name";
+                "bad name '{name}': a name has 1 to 16 of a-z, 0-9 and _"),
+            (Cause::Tree(BadKey, Location::Keys(at)), Some(it), _) => self.bad_keys(at, it),
+            (Cause::Tree(TwiceNamed, Location::Keys(at)), Some(it), _) => self.asked_twice(at, it),
+            (Cause::Tree(TwiceNamed, _), _, item) => self.named_twice(item),
+            (Cause::Tree(BadModel, _), Some(panel), _) =>
                 say!(self, "model"; "'model' must be 2, 3, 4 or 5, not {}", panel.model),
-            (Cause::Tree(OutOfPlace, _), _) => self.misplaced(),
-            (Cause::Tree(Overlap, _), _) => self.overlap(),
-            (Cause::Tree(NoCode, _), _) => self.no_code(),
-            (Cause::Tree(NoTarget, _), _) => self.no_target(),
-            (Cause::NotToml | Cause::Tree(BadKey | BadModel, _), _) => Ok(()),
+            (Cause::Tree(OutOfPlace, _), _, Some(item)) => self.misplaced(item),
+            (Cause::Tree(Overlap, _), _, _) => self.overlap(),
+            (Cause::Tree(NoCode, _), _, _) => self.no_code(),
+            (Cause::Tree(NoTarget, _), _, Some(item)) => self.lost_shown(item),
+            (Cause::Tree(NoTarget, _), panel, _) => self.no_target(panel),
+            (Cause::NotToml | Cause::Tree(BadKey | BadModel | OutOfPlace, _), _, _) => Ok(()),
         }
     }
 
@@ -220,9 +286,9 @@ impl<'s, 'a> Words<'s, 'a> {
         say!(self, key; "{count} {items} in '{key}'{all}: at most {most} are allowed")
     }
 
-    fn named_twice(&mut self) -> Done {
+    fn named_twice(&mut self, item: Option<&ItemDraft>) -> Done {
         let (draft, name, part) = (self.draft, self.text("name"), self.part);
-        let copy = draft.item(part).map_or(name, |item| item.name.as_str());
+        let copy = item.map_or(name, |item| item.name.as_str());
         let item = match draft.item_named(copy) {
             Some(at) if Location::Field(at.0, at.1) != part => Some(at),
             _ => draft.item_named(name),
@@ -299,11 +365,8 @@ impl<'s, 'a> Words<'s, 'a> {
             return say!(self, "lus"; "{} LUs: there must be 1 to 64", lus.len());
         };
         let text = lus.get(index).copied().unwrap_or("");
-        let (key, name, lu) = (
-            format_args!("lus'{index}"),
-            Cut(text),
-            Lu::read(text.as_bytes()),
-        );
+        let (key, name) = (format_args!("lus'{index}"), Cut(text));
+        let lu = Lu::read(text.as_bytes());
         if lu.is_none() {
             return say!(self, key;
                 "bad LU name '{name}': 1 to 8 of A-Z, 0-9, @, # and $, the first no digit");

@@ -1,12 +1,20 @@
 use Rattle.std.proofs.Common.{subst}
-use Rattle.panel_check.specs.Report.{HasFirstCause, IsFaultlessIfAccepted, ReportsFaults}
+use Rattle.std.proofs.lemmas.Result.{IfOk-weaker}
+use Rattle.panels.specs.PanelText.{panel_text}
+use Rattle.panel_check.specs.Report.{HasFirstCause, IsFaultlessIfAccepted, IsReportOn, ReportsFaults}
 use Rattle.panel_check.proofs.report.check.Goals as goal
 
 pub returns-clause-faults : goal.returns-clause-faults
-returns-clause-faults c = subst (λ text. ReportsFaults text c.in_ok-report.report.findings.items) c.split_input.ensures.panels c.in_ok-report.ensures.faults
+returns-clause-faults c = IfOk-weaker c.report_on.result (λ report. IsReportOn c.split_input.result.0.now report.findings.items)
+    (λ report. ReportsFaults (panel_text c.args.text.now) report.findings.items)
+    (λ report is. subst (λ text. ReportsFaults text report.findings.items) c.split_input.ensures.panels is.faults) c.report_on.ensures
 
 pub returns-clause-faultless : goal.returns-clause-faultless
-returns-clause-faultless c = subst (λ text. IsFaultlessIfAccepted text c.in_ok-report.report.findings.items) c.split_input.ensures.panels c.in_ok-report.ensures.faultless
+returns-clause-faultless c = IfOk-weaker c.report_on.result (λ report. IsReportOn c.split_input.result.0.now report.findings.items)
+    (λ report. IsFaultlessIfAccepted (panel_text c.args.text.now) report.findings.items)
+    (λ report is. subst (λ text. IsFaultlessIfAccepted text report.findings.items) c.split_input.ensures.panels is.faultless) c.report_on.ensures
 
 pub returns-clause-reason : goal.returns-clause-reason
-returns-clause-reason c = subst (λ text. HasFirstCause text c.in_ok-report.report.findings.items) c.split_input.ensures.panels c.in_ok-report.ensures.reason
+returns-clause-reason c = IfOk-weaker c.report_on.result (λ report. IsReportOn c.split_input.result.0.now report.findings.items)
+    (λ report. HasFirstCause (panel_text c.args.text.now) report.findings.items)
+    (λ report is. subst (λ text. HasFirstCause text report.findings.items) c.split_input.ensures.panels is.reason) c.report_on.ensures
