@@ -84,7 +84,7 @@ impl Lines {
         Ok(())
     }
 
-    /// Walks over a header, a comma, the end of an array or a table, the beginning of one, or any other value.
+    /// Walks over a header, a comma, the end of an array or a table, a key, or `=` and the value after it.
     fn step<'t>(&mut self, text: &'t str) -> Result<&'t str, ParseError> {
         let mut letters = text.chars();
         match letters.next() {
@@ -112,7 +112,7 @@ impl Lines {
         Ok(after.trim_start_matches(']'))
     }
 
-    /// Walks over the next value of the array or the table that is open, and its key.
+    /// Walks over the next value of the array that is open, or the next key of the table that is.
     fn entry<'t>(&mut self, text: &'t str) -> Result<&'t str, ParseError> {
         let Some((path, is_array)) = self.open.last() else {
             return Ok("");
