@@ -131,8 +131,8 @@ fn code_or_null(byte: Option<u8>) -> u8
     ensures storable { is_storable result ≡ true }
 {
     match byte {
+        None | Some(0) => 0,
         Some(byte) => from_latin1(char::from(byte)).unwrap_or(0),
-        None => 0,
     }
 }
 
