@@ -10,7 +10,17 @@ import socket
 import time
 
 from harness import hosts
-from harness.applications import Application, Host, LIMIT, OWN, Operator, PANELS, a_host, reply
+from harness.applications import (
+    Application,
+    Host,
+    KEYS,
+    LIMIT,
+    OWN,
+    Operator,
+    PANELS,
+    a_host,
+    reply,
+)
 from harness.case import Checks, expect
 
 check = Checks()
@@ -339,6 +349,20 @@ def an_operator_who_waits_for_the_application_is_not_idle():
         hosts.in_seconds(0.8, 3, "it is dropped", first.hears_the_end)
         host.has_said("idle turns=1")
         application.hears_end(exchange.asked["session"], "PNL01", "idle")
+
+
+@check
+def an_answer_acknowledges_the_key():
+    """Half a record is answered by NOP; the other half by nothing but the application's answer."""
+    with a_host() as (_, application, first, _):
+        first.hears_nop()
+        first.says(b"\x00\x00\x00\x00\x00")
+        first.hears_nop()
+        first.says(KEYS["enter"], bytes.fromhex("C2 E8 FF EF"))
+        exchange = application.takes()
+        expect("who waits hears", bool(select.select([first.socket], [], [], 0.3)[0]), False)
+        exchange.sends({"message": "DONE"})
+        first.sees("DONE")
 
 
 @check

@@ -52,10 +52,11 @@ module _ {S : Type 0} where
   due_at limits conn info server = due limits (awaited_at conn (host_at conn server.hosts)) (activity_at conn info server)
       server.now
 
-  -- Whether bytes were received since the limits were last applied, and none sent: the peer's TCP waits for an ACK.
+  -- Whether bytes were received since the limits were last applied, and none sent: the peer's TCP waits for an ACK, which
+  -- the host's decision will carry if that is awaited.
   abbrev pub is_unanswered_at : ℕ → ConnectionInfo → Server S → Bool
   is_unanswered_at conn info server = is_unanswered info.activity (slot_at conn server.sockets).received
-      (slot_at conn server.sockets).sent
+      (slot_at conn server.sockets).sent (awaited_at conn (host_at conn server.hosts))
 
   abbrev pub with_activity : ℕ → ConnectionInfo → Activity → Server S → Server S
   with_activity conn info activity server =

@@ -45,7 +45,7 @@ impl<S: RawRead + RawWrite + Drop> Server<S> {
     {
         let (received, sent) = (self.sockets.received(conn), self.sockets.sent(conn));
         let awaited = self.awaited(conn);
-        let unanswered = info.activity.is_unanswered(received, sent);
+        let unanswered = info.activity.is_unanswered(received, sent, awaited);
         let mut activity = info.activity;
         activity.hear(received, sent, awaited, self.now);
         match activity.due(limits, awaited, self.now) {
@@ -132,8 +132,9 @@ impl<S: RawRead + RawWrite + Drop> Server<S> {
     /// Sets the time after a turn, in milliseconds. If bytes moved or the host acted in the turn (`moved`), or if 100
     /// ms have passed since this was last done, ends each connection whose session the application ends and that waits
     /// for the operator, and applies the time limits to the others. Applying them sends IAC NOP or drops a connection.
-    /// It also sends IAC NOP if bytes were received since and nothing was sent: the NOP carries the acknowledgement
-    /// that the peer's TCP waits for. Answers whether it did something. A fault of the watcher is returned.
+    /// It also sends IAC NOP if bytes were received since and nothing was sent, unless the host is about to decide: the
+    /// NOP carries the acknowledgement that the peer's TCP waits for, as the host's decision will. Answers whether it
+    /// did something. A fault of the watcher is returned.
     pub fn keep_time<W: Watcher>(
         &mut self,
         now: u64,

@@ -7,7 +7,7 @@ use Rattle.host_core.specs.declared.turn.Turn.TheVariants as turn
 use Rattle.jobs.specs.declared.service.TimeLimits.{TimeLimits}
 use Rattle.service_events.specs.declared.limits.Activity.{Activity}
 use Rattle.service_events.specs.declared.limits.Awaited.{Awaited}
-use Rattle.service_events.specs.declared.limits.Awaited.TheVariants.{Agreement, Operator, Host}
+use Rattle.service_events.specs.declared.limits.Awaited.TheVariants.{Agreement, Operator, Decision, Response}
 use Rattle.service_events.specs.declared.limits.Due.{Due}
 use Rattle.service_events.specs.declared.limits.Due.TheVariants as due_now
 use Rattle.service_events.specs.declared.limits.Overdue.TheVariants as overdue
@@ -19,29 +19,32 @@ is_over seconds millis = nat_lt 0 seconds && nat_le (seconds * 1000) millis
 -- ---- what a connection waits for
 
 -- What a connection waits for. The operator can act in the terminal's turn, once the terminal has answered the command
--- that gave it the turn. At any other time a bound session waits for the host: it has the turn, or its command is
--- pending.
+-- that gave it the turn. At any other time a bound session waits for the host: for its decision in its turn, or for the
+-- response to its pending command.
 abbrev pub awaited_on : Phase → Turn → (pending : Option ℕ) → Awaited
 awaited_on (phase.Bound lu) turn.Terminal None = Operator
-awaited_on (phase.Bound lu) turn.Terminal (Some number) = Host
-awaited_on (phase.Bound lu) turn.Host pending = Host
+awaited_on (phase.Bound lu) turn.Host None = Decision
+awaited_on (phase.Bound lu) whose (Some number) = Response
 awaited_on _ whose pending = Agreement
 
 -- whether the ends have agreed on a session
 abbrev pub is_agreed : Awaited → Bool
 is_agreed Agreement = false
 is_agreed Operator = true
-is_agreed Host = true
+is_agreed Decision = true
+is_agreed Response = true
 
 abbrev pub is_operator : Awaited → Bool
 is_operator Agreement = false
 is_operator Operator = true
-is_operator Host = false
+is_operator Decision = false
+is_operator Response = false
 
 abbrev pub is_host : Awaited → Bool
 is_host Agreement = false
 is_host Operator = false
-is_host Host = true
+is_host Decision = true
+is_host Response = true
 
 -- What the limits require. A connection is dropped if it isn't bound in time, or if it was silent for too long while it
 -- didn't wait for the host. A bound one that sent nothing is sent IAC NOP.
@@ -68,9 +71,10 @@ are_applied moved applied now = moved || nat_le limits_interval (now - applied)
 abbrev pub new_activity : (now : ℕ) → Activity
 new_activity now = record { began = now; silent_since = now; kept_alive = now; received = 0; sent = 0 }
 
--- whether bytes were received since the last record, and none were sent
-abbrev pub is_unanswered : Activity → (received sent : ℕ) → Bool
-is_unanswered activity received sent = not (activity.received == received) && activity.sent == sent
+-- whether bytes were received since the last record, and none were sent; the host's decision will answer them
+abbrev pub is_unanswered : Activity → (received sent : ℕ) → Awaited → Bool
+is_unanswered activity received sent Decision = false
+is_unanswered activity received sent _ = not (activity.received == received) && activity.sent == sent
 
 -- the activity after a record of the bytes received and sent until now
 abbrev pub counted_now : (received sent now : ℕ) → Activity → Activity

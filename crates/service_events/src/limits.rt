@@ -35,9 +35,10 @@ pub enum Awaited {
     Agreement,
     /// A key of the operator, who has the turn.
     Operator,
-    /// The host, which has the turn, for example while the application decides; or the terminal's answer to a pending
-    /// command, such as a write.
-    Host,
+    /// The decision of the host, which has the turn; an application makes it.
+    Decision,
+    /// The terminal's response to a pending command of the host, such as a write.
+    Response,
 }
 
 /// When a connection began, and when it was last active. Times are milliseconds of the server's time.
@@ -79,7 +80,8 @@ pub fn awaited_on(phase: &Phase, turn: Turn, pending: Option<u16>) -> Awaited
     match phase {
         Phase::Bound(_) => match (turn, pending) {
             (Turn::Terminal, None) => Awaited::Operator,
-            (Turn::Terminal, Some(_)) | (Turn::Host, _) => Awaited::Host,
+            (Turn::Host, None) => Awaited::Decision,
+            (Turn::Terminal | Turn::Host, Some(_)) => Awaited::Response,
         },
         Phase::Free | Phase::Talking | Phase::Closed(_) => Awaited::Agreement,
     }
@@ -92,7 +94,7 @@ impl Awaited {
     {
         match self {
             Awaited::Agreement => false,
-            Awaited::Operator | Awaited::Host => true,
+            Awaited::Operator | Awaited::Decision | Awaited::Response => true,
         }
     }
 
@@ -102,16 +104,16 @@ impl Awaited {
     {
         match self {
             Awaited::Operator => true,
-            Awaited::Agreement | Awaited::Host => false,
+            Awaited::Agreement | Awaited::Decision | Awaited::Response => false,
         }
     }
 
-    /// Whether the connection waits for the host.
+    /// Whether the connection waits for the host: for its decision, or until its command is answered.
     fn is_host(self) -> bool
         ensures { result ≡ is_host self }
     {
         match self {
-            Awaited::Host => true,
+            Awaited::Decision | Awaited::Response => true,
             Awaited::Agreement | Awaited::Operator => false,
         }
     }
@@ -150,11 +152,17 @@ impl Activity {
     }
 
     /// Whether bytes were received and none were sent since the last `hear`. The peer's TCP then waits for an
-    /// acknowledgement that the system delays, since no data carries it.
-    pub fn is_unanswered(&self, received: u64, sent: u64) -> bool
-        ensures { result ≡ is_unanswered self.now received sent }
+    /// acknowledgement that the system delays, since no data carries it. Never while a decision is awaited: what the
+    /// host then sends will carry it.
+    pub fn is_unanswered(&self, received: u64, sent: u64, awaited: Awaited) -> bool
+        ensures { result ≡ is_unanswered self.now received sent awaited }
     {
-        self.received != received && self.sent == sent
+        match awaited {
+            Awaited::Decision => false,
+            Awaited::Agreement | Awaited::Operator | Awaited::Response => {
+                self.received != received && self.sent == sent
+            }
+        }
     }
 
     /// Records the number of bytes received and sent until now, and what the connection waits for.
