@@ -71,7 +71,7 @@ are_applied moved applied now = moved || nat_le limits_interval (now - applied)
 abbrev pub new_activity : (now : ℕ) → Activity
 new_activity now = record { began = now; silent_since = now; kept_alive = now; received = 0; sent = 0 }
 
--- whether bytes were received since the last record, and none were sent; the host's decision will answer them
+-- Whether bytes were received since the last record, and none were sent. A decision that is awaited will answer them.
 abbrev pub is_unanswered : Activity → (received sent : ℕ) → Awaited → Bool
 is_unanswered activity received sent Decision = false
 is_unanswered activity received sent _ = not (activity.received == received) && activity.sent == sent
