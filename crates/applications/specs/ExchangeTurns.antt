@@ -345,30 +345,6 @@ pub data CannotBegin {S : Type 0} (connected : Result S Error → Type 0) (reaso
       → CannotBegin connected reason
 
 module _ {A : Type 0} (served : A → ℕ → Panels → Type 0) (answered : AnswerCall A) (reported : FaultCall A) where
-  -- Holds if an exchange for an open question begins, or fails at once.
-  pub data AsksAbout {S : Type 0} (gave : ReadCall S) (connected : ConnectCall A S) (written : Request → List ℕ)
-      (boot now conn : ℕ) (kept : Option (KeptConnection S)) (query : Query) (old : A) (result : Result Bool Fault)
-      (new : A) (after : Option (ApplicationConnection S)) : Type 0 where
-    begins : (asks : QuestionExchange S)
-        → BeginsFor written boot now (served old conn) (Connects gave (connected old) now kept) query asks
-        → after ≡ Some (Asking asks) → new ≡ old → result ≡ Ok true
-        → AsksAbout gave connected written boot now conn kept query old result new after
-    cannot_begin : (reason : Absence) → CannotBegin (Connects gave (connected old) now kept) reason → after ≡ None
-        → Fails answered reported old conn query.question.ticket (why.Absent reason) result new
-        → AsksAbout gave connected written boot now conn kept query old result new after
-
-  -- Holds for a turn without a current exchange: one begins if a question is open.
-  pub data Asks {S : Type 0} (gave : ReadCall S) (connected : ConnectCall A S) (asked : QuestionCall A)
-      (written : Request → List ℕ) (boot now : ℕ) (has_operator : Bool) (conn : ℕ) (kept : Option (KeptConnection S))
-      (old : A) (result : Result Bool Fault) (new : A) (after : Option (ApplicationConnection S)) : Type 0 where
-    asks_about : (query : Query) → asked old conn (Ok (Some query))
-        → AsksAbout gave connected written boot now conn kept query old result new after
-        → Asks gave connected asked written boot now has_operator conn kept old result new after
-    no_question : asked old conn (Ok None) → after ≡ still_kept kept has_operator now → new ≡ old → result ≡ Ok false
-        → Asks gave connected asked written boot now has_operator conn kept old result new after
-    asking_fails : (fault : Fault) → asked old conn (Err fault) → after ≡ None → new ≡ old → result ≡ Err fault
-        → Asks gave connected asked written boot now has_operator conn kept old result new after
-
   -- Holds for a turn of the current exchange: it continues, or it ends, and its connection is kept or closed.
   pub data Goes {S : Type 0} (gave : ReadCall S) (took : WriteCall S) (noted : ReplyCall A) (has_operator : Bool)
       (now most conn : ℕ) (asked : QuestionExchange S) (old : A) (result : Result Bool Fault) (new : A)
@@ -385,14 +361,39 @@ module _ {A : Type 0} (served : A → ℕ → Panels → Type 0) (answered : Ans
         → Ends answered reported noted served asked.panel old conn asked.ticket outcome result new
         → Goes gave took noted has_operator now most conn asked old result new after
 
+  -- Holds if an exchange for an open question begins and takes its first turn, or can't begin.
+  pub data AsksAbout {S : Type 0} (gave : ReadCall S) (took : WriteCall S) (connected : ConnectCall A S)
+      (noted : ReplyCall A) (written : Request → List ℕ) (boot now most : ℕ) (has_operator : Bool) (conn : ℕ)
+      (kept : Option (KeptConnection S)) (query : Query) (old : A) (result : Result Bool Fault) (new : A)
+      (after : Option (ApplicationConnection S)) : Type 0 where
+    begins : (asks : QuestionExchange S)
+        → BeginsFor written boot now (served old conn) (Connects gave (connected old) now kept) query asks
+        → Goes gave took noted has_operator now most conn asks old result new after
+        → AsksAbout gave took connected noted written boot now most has_operator conn kept query old result new after
+    cannot_begin : (reason : Absence) → CannotBegin (Connects gave (connected old) now kept) reason → after ≡ None
+        → Fails answered reported old conn query.question.ticket (why.Absent reason) result new
+        → AsksAbout gave took connected noted written boot now most has_operator conn kept query old result new after
+
+  -- Holds for a turn without a current exchange: one begins if a question is open.
+  pub data Asks {S : Type 0} (gave : ReadCall S) (took : WriteCall S) (connected : ConnectCall A S)
+      (asked : QuestionCall A) (noted : ReplyCall A) (written : Request → List ℕ) (boot now most : ℕ)
+      (has_operator : Bool) (conn : ℕ) (kept : Option (KeptConnection S)) (old : A) (result : Result Bool Fault) (new : A) (after : Option (ApplicationConnection S)) : Type 0 where
+    asks_about : (query : Query) → asked old conn (Ok (Some query))
+        → AsksAbout gave took connected noted written boot now most has_operator conn kept query old result new after
+        → Asks gave took connected asked noted written boot now most has_operator conn kept old result new after
+    no_question : asked old conn (Ok None) → after ≡ still_kept kept has_operator now → new ≡ old → result ≡ Ok false
+        → Asks gave took connected asked noted written boot now most has_operator conn kept old result new after
+    asking_fails : (fault : Fault) → asked old conn (Err fault) → after ≡ None → new ≡ old → result ≡ Err fault
+        → Asks gave took connected asked noted written boot now most has_operator conn kept old result new after
+
   -- holds for a turn of a connection, with or without a current exchange
   abbrev pub Turns : {S : Type 0} → ReadCall S → WriteCall S → ConnectCall A S → QuestionCall A → ReplyCall A
       → (written : Request → List ℕ) → (boot now most : ℕ) → (has_operator : Bool) → (conn : ℕ)
       → Option (ApplicationConnection S) → A → Result Bool Fault → A → Option (ApplicationConnection S) → Type 0
   Turns gave took connected asked noted written boot now most has_operator conn None old result new after =
-      Asks gave connected asked written boot now has_operator conn None old result new after
+      Asks gave took connected asked noted written boot now most has_operator conn None old result new after
   Turns gave took connected asked noted written boot now most has_operator conn (Some (Kept kept)) old result new after =
-      Asks gave connected asked written boot now has_operator conn (Some kept) old result new after
+      Asks gave took connected asked noted written boot now most has_operator conn (Some kept) old result new after
   Turns gave took connected asked noted written boot now most has_operator conn (Some (Asking begun)) old result new
       after = Goes gave took noted has_operator now most conn begun old result new after
 

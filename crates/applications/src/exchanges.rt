@@ -304,74 +304,6 @@ fn begin<S: RawRead + RawWrite + Drop, A: AskingServer<Stream = S>>(
     }
 }
 
-/// Begins an exchange for an open question in an empty slot.
-fn ask_about<S: RawRead + RawWrite + Drop, A: AskingServer<Stream = S>>(
-    slot: &mut Option<ApplicationConnection<S>>,
-    kept: Option<KeptConnection<S>>,
-    asking: Asking<'_>,
-    server: &mut A,
-    conn: usize,
-    query: &Query,
-) -> Result<bool, Fault>
-    requires empty { slot.old ≡ None }
-    requires number { conn < most_connections }
-    ensures { AsksAbout A.served A.answered A.reported S.read_gave A.connected
-        (request_bytes asking.entry.endpoint.now) asking.entry.boot asking.entry.now conn kept query.now server.old
-        result server.new slot.new }
-{
-    match begin(kept, asking, server, conn, query) {
-        Ok(asked) => {
-            *slot = Some(ApplicationConnection::Asking(asked));
-            Ok(true)
-        }
-        Err(absence) => {
-            let fault = ApplicationFault::Absent(absence);
-            fail(asking.alloc, server, conn, query.question.ticket, &fault)
-        }
-    }
-}
-
-/// The connection that is kept on while no question is open: none if the operator left, or the time is over.
-fn still_kept<S: Drop>(
-    kept: Option<KeptConnection<S>>,
-    has_operator: bool,
-    now: u64,
-) -> Option<ApplicationConnection<S>>
-    ensures { result ≡ still_kept kept has_operator now }
-{
-    match kept {
-        Some(kept) if has_operator && is_kept(kept.since, kept.seconds, now) => {
-            Some(ApplicationConnection::Kept(kept))
-        }
-        _ => None,
-    }
-}
-
-/// Begins an exchange in an empty slot, if a question is open.
-fn ask<S: RawRead + RawWrite + Drop, A: AskingServer<Stream = S>>(
-    slot: &mut Option<ApplicationConnection<S>>,
-    kept: Option<KeptConnection<S>>,
-    asking: Asking<'_>,
-    server: &mut A,
-    conn: usize,
-    has_operator: bool,
-) -> Result<bool, Fault>
-    requires empty { slot.old ≡ None }
-    requires number { conn < most_connections }
-    ensures { Asks A.served A.answered A.reported S.read_gave A.connected A.asked
-        (request_bytes asking.entry.endpoint.now) asking.entry.boot asking.entry.now has_operator conn kept server.old
-        result server.new slot.new }
-{
-    match server.question(conn) {
-        Ok(Some(query)) => ask_about(slot, kept, asking, server, conn, &query),
-        Ok(None) => {
-            *slot = still_kept(kept, has_operator, asking.now);
-            Ok(false)
-        }
-        Err(fault) => Err(fault),
-    }
-}
-
 /// What is left of the connection of an exchange that ended at `now`: it is kept if its reply says so.
 fn kept_after<S: Drop>(
     outcome: &Result<Reply, ApplicationFault>,
@@ -417,6 +349,72 @@ fn go_on<S: RawRead + RawWrite + Drop, A: AskingServer<Stream = S>>(
             *slot = kept_after(&outcome, asking.now, asked.exchange.into_stream());
             end(asking.alloc, server, conn, ticket, panel, &outcome)
         }
+    }
+}
+
+/// Begins an exchange for an open question in an empty slot, and takes its first turn.
+fn ask_about<S: RawRead + RawWrite + Drop, A: AskingServer<Stream = S>>(
+    slot: &mut Option<ApplicationConnection<S>>,
+    kept: Option<KeptConnection<S>>,
+    asking: Asking<'_>,
+    server: &mut A,
+    conn: usize,
+    has_operator: bool,
+    query: &Query,
+) -> Result<bool, Fault>
+    requires empty { slot.old ≡ None }
+    requires number { conn < most_connections }
+    ensures { AsksAbout A.served A.answered A.reported S.read_gave S.write_took A.connected A.noted
+        (request_bytes asking.entry.endpoint.now) asking.entry.boot asking.entry.now asking.entry.most has_operator conn
+        kept query.now server.old result server.new slot.new }
+{
+    match begin(kept, asking, server, conn, query) {
+        Ok(asked) => go_on(slot, asked, asking, server, conn, has_operator),
+        Err(absence) => {
+            let fault = ApplicationFault::Absent(absence);
+            fail(asking.alloc, server, conn, query.question.ticket, &fault)
+        }
+    }
+}
+
+/// The connection that is kept on while no question is open: none if the operator left, or the time is over.
+fn still_kept<S: Drop>(
+    kept: Option<KeptConnection<S>>,
+    has_operator: bool,
+    now: u64,
+) -> Option<ApplicationConnection<S>>
+    ensures { result ≡ still_kept kept has_operator now }
+{
+    match kept {
+        Some(kept) if has_operator && is_kept(kept.since, kept.seconds, now) => {
+            Some(ApplicationConnection::Kept(kept))
+        }
+        _ => None,
+    }
+}
+
+/// Begins an exchange in an empty slot, if a question is open.
+fn ask<S: RawRead + RawWrite + Drop, A: AskingServer<Stream = S>>(
+    slot: &mut Option<ApplicationConnection<S>>,
+    kept: Option<KeptConnection<S>>,
+    asking: Asking<'_>,
+    server: &mut A,
+    conn: usize,
+    has_operator: bool,
+) -> Result<bool, Fault>
+    requires empty { slot.old ≡ None }
+    requires number { conn < most_connections }
+    ensures { Asks A.served A.answered A.reported S.read_gave S.write_took A.connected A.asked A.noted
+        (request_bytes asking.entry.endpoint.now) asking.entry.boot asking.entry.now asking.entry.most has_operator conn
+        kept server.old result server.new slot.new }
+{
+    match server.question(conn) {
+        Ok(Some(query)) => ask_about(slot, kept, asking, server, conn, has_operator, &query),
+        Ok(None) => {
+            *slot = still_kept(kept, has_operator, asking.now);
+            Ok(false)
+        }
+        Err(fault) => Err(fault),
     }
 }
 
