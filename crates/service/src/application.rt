@@ -217,6 +217,10 @@ impl Application {
         let told = self.notifications.turn(asking, &mut watched, conn);
         let outcome = watched.outcome;
         report(&mut self.asked[conn], did, outcome, now, watcher)?;
+        if !matches!(outcome, Outcome::Open) {
+            // What the host answered is sent at once.
+            server.serve_if_open(conn, watcher)?;
+        }
         Ok(did | told)
     }
 }
