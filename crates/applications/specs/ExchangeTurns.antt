@@ -271,10 +271,10 @@ is_kept since seconds now = nat_lt (now - since) (1000 * (seconds - 1))
 
 -- what is left of the connection of an exchange that ended at `now`: it is kept if its reply says so (RFC 9112, section
 -- 9.3); after a fault it is closed
-abbrev pub kept_after : {S : Type 0} → Result Reply ApplicationFault → (now : ℕ) → S → Option (ApplicationConnection S)
-kept_after (Ok reply) now stream = if nat_lt 1 reply.kept
+abbrev pub connection_after : {S : Type 0} → Result Reply ApplicationFault → (now : ℕ) → S → Option (ApplicationConnection S)
+connection_after (Ok reply) now stream = if nat_lt 1 reply.kept
     then Some (Kept (record { stream = stream; since = now; seconds = reply.kept })) else None
-kept_after (Err fault) now stream = None
+connection_after (Err fault) now stream = None
 
 -- the connection that is kept on while no question is open: none if the operator left, or the time is over
 abbrev pub still_kept : {S : Type 0} → Option (KeptConnection S) → (has_operator : Bool) → (now : ℕ)
@@ -357,7 +357,7 @@ module _ {A : Type 0} (served : A → ℕ → Panels → Type 0) (answered : Ans
         → Goes gave took noted has_operator now most conn asked old result new after
     ends : (outcome : Result Reply ApplicationFault) (last : Exchange S)
         → GoesOn gave took has_operator now most asked.exchange (Over outcome) last
-        → after ≡ kept_after outcome now last.stream
+        → after ≡ connection_after outcome now last.stream
         → Ends answered reported noted served asked.panel old conn asked.ticket outcome result new
         → Goes gave took noted has_operator now most conn asked old result new after
 

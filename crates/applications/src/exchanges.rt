@@ -2,7 +2,7 @@
 //! waits.
 ghost use Rattle.std.specs.Prelude.{◌≡◌, ◌<◌, IfErr, IfOk, None, replicate};
 ghost use Rattle.application_http.specs.Requests.{request_bytes};
-ghost use Rattle.applications.specs.ExchangeTurns.{Asks, AsksAbout, BeginsFor, CannotBegin, Connects, Ends, Fails, Goes, Hands, IsRead, LooksOpen, Shows, Turns, is_kept, kept_after, slot_at, still_kept, unless_failed, with_slot};
+ghost use Rattle.applications.specs.ExchangeTurns.{Asks, AsksAbout, BeginsFor, CannotBegin, Connects, Ends, Fails, Goes, Hands, IsRead, LooksOpen, Shows, Turns, is_kept, connection_after, slot_at, still_kept, unless_failed, with_slot};
 ghost use Rattle.host_core.specs.State.{most_connections};
 
 use crate::application_fault::{Absence, ApplicationFault};
@@ -305,12 +305,12 @@ fn begin<S: RawRead + RawWrite + Drop, A: AskingServer<Stream = S>>(
 }
 
 /// What is left of the connection of an exchange that ended at `now`: it is kept if its reply says so.
-fn kept_after<S: Drop>(
+fn connection_after<S: Drop>(
     outcome: &Result<Reply, ApplicationFault>,
     now: u64,
     stream: S,
 ) -> Option<ApplicationConnection<S>>
-    ensures { result ≡ kept_after outcome.now now stream }
+    ensures { result ≡ connection_after outcome.now now stream }
 {
     match outcome {
         Ok(reply) if reply.kept > 1 => Some(ApplicationConnection::Kept(KeptConnection {
@@ -346,7 +346,7 @@ fn go_on<S: RawRead + RawWrite + Drop, A: AskingServer<Stream = S>>(
         }
         IoProgress::Over(outcome) => {
             let (ticket, panel) = (asked.ticket, asked.panel);
-            *slot = kept_after(&outcome, asking.now, asked.exchange.into_stream());
+            *slot = connection_after(&outcome, asking.now, asked.exchange.into_stream());
             end(asking.alloc, server, conn, ticket, panel, &outcome)
         }
     }

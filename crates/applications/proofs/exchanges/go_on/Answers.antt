@@ -1,5 +1,5 @@
 use Rattle.std.proofs.Common.{◌∙◌, ap, refl}
-use Rattle.applications.specs.ExchangeTurns.{ends, kept_after, moves, waits}
+use Rattle.applications.specs.ExchangeTurns.{ends, connection_after, moves, waits}
 use Rattle.applications.proofs.exchanges.go_on.Goals as goal
 
 pub returns-in-Moved : goal.returns-in-Moved
@@ -11,4 +11,4 @@ returns-in-Still g c = waits c.go_on.new.self c.in-Still.ensures refl refl refl
 pub returns-in-Over : goal.returns-in-Over
 returns-in-Over g c =
     ends c.in-Over.outcome c.go_on.new.self c.in-Over.ensures
-    (c.kept_after.ensures ∙ ap (kept_after c.in-Over.outcome c.args.asking.now) c.into_stream.ensures) c.end.ensures
+    (c.connection_after.ensures ∙ ap (connection_after c.in-Over.outcome c.args.asking.now) c.into_stream.ensures) c.end.ensures
