@@ -271,7 +271,8 @@ is_kept since seconds now = nat_lt (now - since) (1000 * (seconds - 1))
 
 -- what is left of the connection of an exchange that ended at `now`: it is kept if its reply says so (RFC 9112, section
 -- 9.3); after a fault it is closed
-abbrev pub connection_after : {S : Type 0} → Result Reply ApplicationFault → (now : ℕ) → S → Option (ApplicationConnection S)
+abbrev pub connection_after : {S : Type 0} → Result Reply ApplicationFault → (now : ℕ) → S
+    → Option (ApplicationConnection S)
 connection_after (Ok reply) now stream = if nat_lt 1 reply.kept
     then Some (Kept (record { stream = stream; since = now; seconds = reply.kept })) else None
 connection_after (Err fault) now stream = None
