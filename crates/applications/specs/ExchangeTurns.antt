@@ -378,7 +378,8 @@ module _ {A : Type 0} (served : A → ℕ → Panels → Type 0) (answered : Ans
   -- Holds for a turn without a current exchange: one begins if a question is open.
   pub data Asks {S : Type 0} (gave : ReadCall S) (took : WriteCall S) (connected : ConnectCall A S)
       (asked : QuestionCall A) (noted : ReplyCall A) (written : Request → List ℕ) (boot now most : ℕ)
-      (has_operator : Bool) (conn : ℕ) (kept : Option (KeptConnection S)) (old : A) (result : Result Bool Fault) (new : A) (after : Option (ApplicationConnection S)) : Type 0 where
+      (has_operator : Bool) (conn : ℕ) (kept : Option (KeptConnection S)) (old : A) (result : Result Bool Fault)
+      (new : A) (after : Option (ApplicationConnection S)) : Type 0 where
     asks_about : (query : Query) → asked old conn (Ok (Some query))
         → AsksAbout gave took connected noted written boot now most has_operator conn kept query old result new after
         → Asks gave took connected asked noted written boot now most has_operator conn kept old result new after
@@ -393,8 +394,8 @@ module _ {A : Type 0} (served : A → ℕ → Panels → Type 0) (answered : Ans
       → Option (ApplicationConnection S) → A → Result Bool Fault → A → Option (ApplicationConnection S) → Type 0
   Turns gave took connected asked noted written boot now most has_operator conn None old result new after =
       Asks gave took connected asked noted written boot now most has_operator conn None old result new after
-  Turns gave took connected asked noted written boot now most has_operator conn (Some (Kept kept)) old result new after =
-      Asks gave took connected asked noted written boot now most has_operator conn (Some kept) old result new after
+  Turns gave took connected asked noted written boot now most has_operator conn (Some (Kept kept)) old result new
+      after = Asks gave took connected asked noted written boot now most has_operator conn (Some kept) old result new after
   Turns gave took connected asked noted written boot now most has_operator conn (Some (Asking begun)) old result new
       after = Goes gave took noted has_operator now most conn begun old result new after
 
