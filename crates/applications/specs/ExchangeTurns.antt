@@ -395,7 +395,8 @@ module _ {A : Type 0} (served : A → ℕ → Panels → Type 0) (answered : Ans
   Turns gave took connected asked noted written boot now most has_operator conn None old result new after =
       Asks gave took connected asked noted written boot now most has_operator conn None old result new after
   Turns gave took connected asked noted written boot now most has_operator conn (Some (Kept kept)) old result new
-      after = Asks gave took connected asked noted written boot now most has_operator conn (Some kept) old result new after
+      after = Asks gave took connected asked noted written boot now most has_operator conn (Some kept) old result new
+      after
   Turns gave took connected asked noted written boot now most has_operator conn (Some (Asking begun)) old result new
       after = Goes gave took noted has_operator now most conn begun old result new after
 
