@@ -2,14 +2,20 @@
 """Prints turns a second of `panel3270 serve`: of a key that an application decides, beside those of
 a key that leads by itself.
 
-usage: turns.py [--seconds S] PROGRAM. It starts the program and an application, works as 1 and as
-64 terminals, and ends both. Linux, for /proc. Both keys show the same panel again, so only who
-decides differs. The application answers at once, in a process of its own; host, application and
-terminals have a processor each if the machine has three that are free.
+usage: turns.py [--seconds S] [--close] PROGRAM. It starts the program and an application, works as
+1 and as 64 terminals, and ends both. Linux, for /proc. Both keys show the same panel again, so only
+who decides differs. The application answers at once, in a process of its own, and keeps its
+connections, or closes them with --close; host, application and terminals have a processor each if
+the machine has three that are free.
+
+The keys take turns, ten of each, and a row has the median of its turns: another load of the machine
+meets both alike.
 """
-import argparse, multiprocessing, os, re, selectors, socket, subprocess, sys, time
+import argparse, multiprocessing, os, re, selectors, socket, statistics, subprocess, sys, time
 
 SESSIONS = (1, 64)
+# The turns that each key gets.
+PARTS = 10
 # Enter and PF1.
 KEYS = (
     ("a key that leads by itself", b"\x7d"),
@@ -22,7 +28,7 @@ panel = [{{name = "WORD", field = [
 ], keys = {{enter = "WORD"}}, asks = ["pf1"]}}]
 """.format(", ".join(f'"LOAD{number:02}"' for number in range(max(SESSIONS))))
 CONTENT = b'{"panel":"WORD"}'
-REPLY = b"HTTP/1.1 200 OK\r\nContent-Length: %d\r\n\r\n%s" % (len(CONTENT), CONTENT)
+REPLY = b"HTTP/1.1 200 OK\r\n%sContent-Length: %d\r\n\r\n%s"
 LENGTH = re.compile(rb"Content-Length: (\d+)\r\n")
 END, SE = b"\xff\xef", b"\xff\xf0"  # IAC EOR, IAC SE
 RECORD = re.compile(rb"((?:[^\xff]|\xff[^\xef])*)\xff\xef", re.DOTALL)
@@ -34,15 +40,30 @@ TALK = [
 ]
 
 
-def application(listener):
-    """Reads a question, and sends the reply, one connection after another."""
-    while True:
-        connection, _ = listener.accept()
-        with connection:
-            asked = b""
-            while not is_whole(asked) and (more := connection.recv(65536)):
-                asked += more
-            connection.sendall(REPLY)
+def application(listener, keeps):
+    """Reads questions, and sends replies."""
+    reply = REPLY % (b"Keep-Alive: timeout=60\r\n" if keeps else b"", len(CONTENT), CONTENT)
+    with selectors.DefaultSelector() as selector:
+        selector.register(listener, selectors.EVENT_READ)
+        asked = {}
+        while True:
+            for ready in (entry.fileobj for entry, _ in selector.select()):
+                if ready is listener:
+                    connection, _ = listener.accept()
+                    connection.setsockopt(socket.IPPROTO_TCP, socket.TCP_NODELAY, 1)
+                    selector.register(connection, selectors.EVENT_READ)
+                    asked[connection] = b""
+                    continue
+                more = ready.recv(65536)
+                asked[ready] += more
+                if is_whole(asked[ready]):
+                    ready.sendall(reply)
+                    asked[ready] = b""
+                    more = more if keeps else b""
+                if not more:
+                    selector.unregister(ready)
+                    del asked[ready]
+                    ready.close()
 
 
 def is_whole(asked):
@@ -113,15 +134,12 @@ def processor_time(pid):
 
 
 def measure(processes, terminals, key, seconds):
-    """A row of the table: turns a second; microseconds of processor time a turn, of each process;
-    the application's part of the time."""
-    turns(terminals, key, min(1, seconds))
+    """Turns a second; microseconds of processor time a turn, of each process; the application's
+    part of the time."""
     before = [processor_time(pid) for pid in processes]
     done, took = turns(terminals, key, seconds)
     used = [processor_time(pid) - it for pid, it in zip(processes, before)]
-    return [
-        f"{done / took:.0f}", *(f"{it * 1e6 / done:.0f}" for it in used), f"{used[1] / took:.0%}"
-    ]
+    return [done / took, *(it * 1e6 / done for it in used), 100 * used[1] / took]
 
 
 def is_connected(port):
@@ -136,6 +154,9 @@ def arguments():
     words.add_argument("program", help="the path of panel3270")
     words.add_argument(
         "--seconds", type=float, default=10, help="how long each row is measured [default: 10]"
+    )
+    words.add_argument(
+        "--close", action="store_true", help="the application closes each connection"
     )
     return words.parse_args()
 
@@ -153,12 +174,20 @@ def begin(host, port):
 
 def measure_all(pids, port, seconds):
     """The rows of the table, the titles first."""
-    figures = ["turns a second", "host", "application", "terminals", "application's part"]
+    figures = ["turns a second", "host", "application", "terminals", "application's part, %"]
     rows, terminals = [["sessions", "", *figures]], []
     for sessions in SESSIONS:
         terminals += [Terminal(port) for _ in range(sessions - len(terminals))]
-        for name, key in KEYS:
-            rows.append([str(sessions), name, *measure(pids, terminals, key, seconds)])
+        for _, key in KEYS:
+            turns(terminals, key, seconds / PARTS)
+        parts = [
+            [measure(pids, terminals, key, seconds / PARTS) for _, key in KEYS] for _ in range(PARTS)
+        ]
+        for (name, _), of_key in zip(KEYS, zip(*parts)):
+            row = map(statistics.median, zip(*of_key))
+            rows.append([str(sessions), name, *(f"{it:.1f}" for it in row)])
+        ratio = statistics.median(asked[1] / alone[1] for alone, asked in parts)
+        rows.append([str(sessions), "the second by the first", "", f"{ratio:.2f}", "", "", ""])
     return rows
 
 
@@ -174,7 +203,7 @@ def main():
     listener = socket.create_server(("127.0.0.1", 0), backlog=max(SESSIONS))
     url = f"http://127.0.0.1:{listener.getsockname()[1]}/"
     asked = multiprocessing.get_context("fork").Process(
-        target=application, args=(listener,), daemon=True
+        target=application, args=(listener, not given.close), daemon=True
     )
     asked.start()
     with socket.create_server(("127.0.0.1", 0)) as it:

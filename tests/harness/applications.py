@@ -187,17 +187,22 @@ class Exchange:
             self.connection.sendall(reply(content, status))
             self.connection.shutdown(socket.SHUT_WR)
 
+    def keeps(self, content, seconds=5):
+        """Sends a reply that promises to keep the connection for so many seconds."""
+        self.connection.sendall(reply(content, fields=f"Keep-Alive: timeout={seconds}\r\n"))
+
     def is_closed(self):
         """Hears the host close the connection."""
         with contextlib.suppress(OSError):
             expect("the end of an exchange", self.connection.recv(1), b"")
 
 
-def reply(content, status="200 OK"):
-    """A reply with its length."""
+def reply(content, status="200 OK", fields=""):
+    """A reply with its length, and with these fields."""
     if not isinstance(content, bytes):
         content = json.dumps(content).encode()
-    return f"HTTP/1.1 {status}\r\nContent-Length: {len(content)}\r\n\r\n".encode() + content
+    head = f"HTTP/1.1 {status}\r\n{fields}Content-Length: {len(content)}\r\n\r\n"
+    return head.encode() + content
 
 
 class Host(hosts.Server):

@@ -12,6 +12,7 @@ import time
 from harness import hosts
 from harness.applications import (
     Application,
+    Exchange,
     Host,
     KEYS,
     LIMIT,
@@ -288,6 +289,73 @@ def a_reply_that_breaks_off_is_no_application():
     for content in (b"", b"HTTP/1.1 200", reply({"message": "X"})[:-1]):
         event = "application-not-available reason=broken"
         a_failure_is_told_and_the_key_asks_again(content, "", NOT_AVAILABLE, event, raw=True)
+
+
+@check
+def a_connection_that_is_kept_has_the_next_question():
+    """The operator's next question comes on it, and gets its own reply; another operator's comes on
+    a connection of its own. When the operator leaves, the host closes it."""
+    with a_host() as (_, application, first, second):
+        first.presses("enter", "ONE")
+        exchange = application.takes()
+        exchange.keeps({"message": "FIRST"})
+        first.sees("FIRST")
+        second.presses("enter", "TWO")
+        other = application.takes()
+        first.presses("enter", "THREE")
+        again = Exchange(exchange.connection)
+        expect("who asks", [it.asked["lu"] for it in (again, other)], ["PNL01", "PNL02"])
+        other.sends({"message": "OTHER"})
+        second.sees("OTHER")
+        again.keeps({"message": "SECOND"})
+        first.sees("SECOND")
+        application.has_no_other()
+        first.ends()
+        application.hears_end(again.asked["session"], "PNL01", "lost").sends({})
+        again.is_closed()
+
+
+@check
+def a_connection_that_is_not_kept_is_closed():
+    """So it is after a reply without a promise, or with one of a second; after one that closes, or
+    that isn't alone; after a fault; and once the time that was promised is over but for a second.
+    The next question comes on another connection."""
+    kept = "Keep-Alive: timeout=5\r\n"
+    with a_host() as (_, application, first, _):
+        for content in (
+            reply({}),
+            reply({}, fields="Keep-Alive: timeout=1\r\n"),
+            reply({}, fields="Keep-Alive: timeout\r\n"),
+            reply({}, fields=kept + "Connection: close\r\n"),
+            reply({}, fields=kept).replace(b"HTTP/1.1", b"HTTP/1.0"),
+            reply({}, fields=kept) + reply({"message": "NOBODY ASKED"}),
+            reply({}, "500 No", fields=kept),
+            reply({"cursor": "none"}, fields=kept.replace("5", "2")),
+            reply({}, fields=kept.replace("5", "2")),
+        ):
+            first.presses("enter", "WORD")
+            exchange = application.takes()
+            exchange.connection.sendall(content)
+            first.sees()
+            exchange.is_closed()
+
+
+@check
+def a_kept_connection_with_something_on_it_is_not_used():
+    """If the application has closed it, or has sent bytes that nobody asked for, the next question
+    comes on another connection, once, and gets its own reply."""
+    with a_host() as (_, application, first, _):
+        for unasked in (b"", reply({"message": "NOBODY ASKED"})):
+            first.presses("enter", "WORD")
+            exchange = application.takes()
+            exchange.keeps({})
+            first.sees()
+            exchange.connection.sendall(unasked)
+            exchange.connection.shutdown(socket.SHUT_WR)
+            first.presses("enter", "WORD")
+            application.takes().sends({"message": "ASKED"})
+            first.sees("ASKED")
+            exchange.is_closed()
 
 
 @check

@@ -1,8 +1,9 @@
--- Exchanges with an application (our profile): a request is sent on its own connection, and the reply is read from it.
+-- Exchanges with an application (our profile): a request is sent on a connection that no other exchange uses, and the
+-- reply is read from it.
 -- Each exchange about a question ends once: with an answer; with a fault, which is reported and for which the operator
 -- sees a message; or because the operator left. The end of a session is reported once, and the reply to that is
 -- ignored.
-use Rattle.std.specs.Prelude.{◌≡◌, ◌<◌, ℕ, ◌+◌, Bool, true, false, List, [], ◌∷◌, ◌++◌, drop, length, if◌then◌else◌, Option, Some, None, Result, Ok, Err, IfErr, IfOk, slice_index_or, slice_set, unwrap_or, ⊤}
+use Rattle.std.specs.Prelude.{◌≡◌, ◌<◌, ℕ, ◌+◌, ◌-◌, ◌*◌, nat_lt, ◌&&◌, Bool, true, false, List, [], ◌∷◌, ◌++◌, drop, length, if◌then◌else◌, Option, Some, None, Result, Ok, Err, IfErr, IfOk, slice_index_or, slice_set, unwrap_or, ⊤}
 use Rattle.std.specs.IoError.{error_kind}
 use Rattle.std.specs.declared.io.Error.{Error}
 use Rattle.std.specs.declared.io.ErrorKind.{ErrorKind}
@@ -30,6 +31,9 @@ use Rattle.applications.specs.declared.application_reply.AnswerFault.{AnswerFaul
 use Rattle.applications.specs.declared.application_request.Query.{Query}
 use Rattle.applications.specs.declared.ended_session.EndedSession.{EndedSession}
 use Rattle.applications.specs.declared.exchange.IoProgress.{IoProgress}
+use Rattle.applications.specs.declared.exchanges.ApplicationConnection.{ApplicationConnection}
+use Rattle.applications.specs.declared.exchanges.ApplicationConnection.TheVariants.{Asking, Kept}
+use Rattle.applications.specs.declared.exchanges.KeptConnection.{KeptConnection}
 use Rattle.applications.specs.declared.exchanges.QuestionExchange.{QuestionExchange}
 use Rattle.applications.specs.Exchange.{Exchange}
 use Rattle.applications.specs.declared.exchange.IoProgress.TheVariants.{Moved, Still, Over}
@@ -258,6 +262,64 @@ module _ {A : Type 0} (answered : AnswerCall A) (reported : FaultCall A) where
       fails : (fault : ApplicationFault) → outcome ≡ Err fault → Fails old conn ticket fault result new
           → Ends served panel old conn ticket outcome result new
 
+-- ---- connections that are kept
+
+-- whether the application keeps a connection for more than a second from `now` on, in milliseconds; the second is for a
+-- request that is on its way when the application closes the connection
+abbrev pub is_kept : (since seconds now : ℕ) → Bool
+is_kept since seconds now = nat_lt (now - since) (1000 * (seconds - 1))
+
+-- what is left of the connection of an exchange that ended at `now`: it is kept if its reply says so (RFC 9112, section
+-- 9.3); after a fault it is closed
+abbrev pub connection_after : {S : Type 0} → Result Reply ApplicationFault → (now : ℕ) → S
+    → Option (ApplicationConnection S)
+connection_after (Ok reply) now stream = if nat_lt 1 reply.kept
+    then Some (Kept (record { stream = stream; since = now; seconds = reply.kept })) else None
+connection_after (Err fault) now stream = None
+
+-- the connection that is kept on while no question is open: none if the operator left, or the time is over
+abbrev pub still_kept : {S : Type 0} → Option (KeptConnection S) → (has_operator : Bool) → (now : ℕ)
+    → Option (ApplicationConnection S)
+still_kept None has_operator now = None
+still_kept (Some kept) has_operator now = if has_operator && is_kept kept.since kept.seconds now
+    then Some (Kept kept) else None
+
+abbrev pub is_not_now : ErrorKind → Bool
+is_not_now kind.WouldBlock = true
+is_not_now _ = false
+
+-- whether a read found nothing there: neither bytes nor the end of the connection
+abbrev pub found_nothing : Result ℕ Error → Bool
+found_nothing (Ok count) = false
+found_nothing (Err error) = is_not_now (error_kind error)
+
+-- holds if a kept connection is read once, and whether nothing was there
+pub record IsRead {S : Type 0} (gave : ReadCall S) (old : KeptConnection S) (silent : Bool) (new : KeptConnection S)
+    : Type 0 where
+  pub bytes : List ℕ
+  pub answer : Result ℕ Error
+  pub called : gave old.stream 1 bytes answer new.stream
+  pub silent_is : silent ≡ found_nothing answer
+  pub new_is : new ≡ record old { stream = new.stream }
+
+-- Holds for whether a kept connection is open: the application keeps it, and a read finds nothing there. So neither
+-- bytes that nobody asked for nor a closed connection come before a reply.
+pub data LooksOpen {S : Type 0} (gave : ReadCall S) (now : ℕ) (old : KeptConnection S) (usable : Bool)
+    (new : KeptConnection S) : Type 0 where
+  is_over : is_kept old.since old.seconds now ≡ false → usable ≡ false → new ≡ old
+      → LooksOpen gave now old usable new
+  is_read : is_kept old.since old.seconds now ≡ true → IsRead gave old usable new
+      → LooksOpen gave now old usable new
+
+-- holds for the connection of a request: the kept one, if it is open, or else a new one
+pub data Connects {S : Type 0} (gave : ReadCall S) (connected : Result S Error → Type 0) (now : ℕ)
+    (kept : Option (KeptConnection S)) (result : Result S Error) : Type 0 where
+  uses : (old new : KeptConnection S) → kept ≡ Some old → LooksOpen gave now old true new → result ≡ Ok new.stream
+      → Connects gave connected now kept result
+  replaces : (old new : KeptConnection S) → kept ≡ Some old → LooksOpen gave now old false new → connected result
+      → Connects gave connected now kept result
+  opens : kept ≡ None → connected result → Connects gave connected now kept result
+
 -- ---- a turn of a connection
 
 -- the exchange about a question that begins
@@ -265,8 +327,8 @@ abbrev pub asked_by : {S : Type 0} → S → Question → (request : List ℕ) �
 asked_by stream question request began =
     record { ticket = question.ticket; panel = question.panel; exchange = begun stream request began }
 
--- Holds if an exchange begins for a question, on the stream that the server connected. `written` is how a request is
--- written for its application.
+-- Holds if an exchange begins for a question, on a connection of its own. `written` is how a request is written for its
+-- application.
 pub record BeginsFor {S : Type 0} (written : Request → List ℕ) (boot now : ℕ) (served : Panels → Type 0)
     (connected : Result S Error → Type 0) (query : Query) (asked : QuestionExchange S) : Type 0 where
   pub panels : Panels
@@ -284,52 +346,59 @@ pub data CannotBegin {S : Type 0} (connected : Result S Error → Type 0) (reaso
       → CannotBegin connected reason
 
 module _ {A : Type 0} (served : A → ℕ → Panels → Type 0) (answered : AnswerCall A) (reported : FaultCall A) where
-  -- Holds if an exchange for an open question begins, or fails at once.
-  pub data AsksAbout {S : Type 0} (connected : ConnectCall A S) (written : Request → List ℕ) (boot now conn : ℕ)
-      (query : Query) (old : A) (result : Result Bool Fault) (new : A) (after : Option (QuestionExchange S))
-      : Type 0 where
-    begins : (asks : QuestionExchange S) → BeginsFor written boot now (served old conn) (connected old) query asks
-        → after ≡ Some asks → new ≡ old → result ≡ Ok true
-        → AsksAbout connected written boot now conn query old result new after
-    cannot_begin : (reason : Absence) → CannotBegin (connected old) reason → after ≡ None
-        → Fails answered reported old conn query.question.ticket (why.Absent reason) result new
-        → AsksAbout connected written boot now conn query old result new after
-
-  -- Holds for a turn without a current exchange: one begins if a question is open.
-  pub data Asks {S : Type 0} (connected : ConnectCall A S) (asked : QuestionCall A) (written : Request → List ℕ)
-      (boot now conn : ℕ) (old : A) (result : Result Bool Fault) (new : A) (after : Option (QuestionExchange S))
-      : Type 0 where
-    asks_about : (query : Query) → asked old conn (Ok (Some query))
-        → AsksAbout connected written boot now conn query old result new after
-        → Asks connected asked written boot now conn old result new after
-    no_question : asked old conn (Ok None) → after ≡ None → new ≡ old → result ≡ Ok false
-        → Asks connected asked written boot now conn old result new after
-    asking_fails : (fault : Fault) → asked old conn (Err fault) → after ≡ None → new ≡ old → result ≡ Err fault
-        → Asks connected asked written boot now conn old result new after
-
-  -- Holds for a turn of the current exchange: it continues, or it ends and its slot is empty.
+  -- Holds for a turn of the current exchange: it continues, or it ends, and its connection is kept or closed.
   pub data Goes {S : Type 0} (gave : ReadCall S) (took : WriteCall S) (noted : ReplyCall A) (has_operator : Bool)
       (now most conn : ℕ) (asked : QuestionExchange S) (old : A) (result : Result Bool Fault) (new : A)
-      (after : Option (QuestionExchange S)) : Type 0 where
+      (after : Option (ApplicationConnection S)) : Type 0 where
     moves : (next : Exchange S) → GoesOn gave took has_operator now most asked.exchange Moved next
-        → after ≡ Some (record asked { exchange = next }) → new ≡ old → result ≡ Ok true
+        → after ≡ Some (Asking (record asked { exchange = next })) → new ≡ old → result ≡ Ok true
         → Goes gave took noted has_operator now most conn asked old result new after
     waits : (next : Exchange S) → GoesOn gave took has_operator now most asked.exchange Still next
-        → after ≡ Some (record asked { exchange = next }) → new ≡ old → result ≡ Ok false
+        → after ≡ Some (Asking (record asked { exchange = next })) → new ≡ old → result ≡ Ok false
         → Goes gave took noted has_operator now most conn asked old result new after
     ends : (outcome : Result Reply ApplicationFault) (last : Exchange S)
-        → GoesOn gave took has_operator now most asked.exchange (Over outcome) last → after ≡ None
+        → GoesOn gave took has_operator now most asked.exchange (Over outcome) last
+        → after ≡ connection_after outcome now last.stream
         → Ends answered reported noted served asked.panel old conn asked.ticket outcome result new
         → Goes gave took noted has_operator now most conn asked old result new after
+
+  -- Holds if an exchange for an open question begins and takes its first turn, or can't begin.
+  pub data AsksAbout {S : Type 0} (gave : ReadCall S) (took : WriteCall S) (connected : ConnectCall A S)
+      (noted : ReplyCall A) (written : Request → List ℕ) (boot now most : ℕ) (has_operator : Bool) (conn : ℕ)
+      (kept : Option (KeptConnection S)) (query : Query) (old : A) (result : Result Bool Fault) (new : A)
+      (after : Option (ApplicationConnection S)) : Type 0 where
+    begins : (asks : QuestionExchange S)
+        → BeginsFor written boot now (served old conn) (Connects gave (connected old) now kept) query asks
+        → Goes gave took noted has_operator now most conn asks old result new after
+        → AsksAbout gave took connected noted written boot now most has_operator conn kept query old result new after
+    cannot_begin : (reason : Absence) → CannotBegin (Connects gave (connected old) now kept) reason → after ≡ None
+        → Fails answered reported old conn query.question.ticket (why.Absent reason) result new
+        → AsksAbout gave took connected noted written boot now most has_operator conn kept query old result new after
+
+  -- Holds for a turn without a current exchange: one begins if a question is open.
+  pub data Asks {S : Type 0} (gave : ReadCall S) (took : WriteCall S) (connected : ConnectCall A S)
+      (asked : QuestionCall A) (noted : ReplyCall A) (written : Request → List ℕ) (boot now most : ℕ)
+      (has_operator : Bool) (conn : ℕ) (kept : Option (KeptConnection S)) (old : A) (result : Result Bool Fault)
+      (new : A) (after : Option (ApplicationConnection S)) : Type 0 where
+    asks_about : (query : Query) → asked old conn (Ok (Some query))
+        → AsksAbout gave took connected noted written boot now most has_operator conn kept query old result new after
+        → Asks gave took connected asked noted written boot now most has_operator conn kept old result new after
+    no_question : asked old conn (Ok None) → after ≡ still_kept kept has_operator now → new ≡ old → result ≡ Ok false
+        → Asks gave took connected asked noted written boot now most has_operator conn kept old result new after
+    asking_fails : (fault : Fault) → asked old conn (Err fault) → after ≡ None → new ≡ old → result ≡ Err fault
+        → Asks gave took connected asked noted written boot now most has_operator conn kept old result new after
 
   -- holds for a turn of a connection, with or without a current exchange
   abbrev pub Turns : {S : Type 0} → ReadCall S → WriteCall S → ConnectCall A S → QuestionCall A → ReplyCall A
       → (written : Request → List ℕ) → (boot now most : ℕ) → (has_operator : Bool) → (conn : ℕ)
-      → Option (QuestionExchange S) → A → Result Bool Fault → A → Option (QuestionExchange S) → Type 0
+      → Option (ApplicationConnection S) → A → Result Bool Fault → A → Option (ApplicationConnection S) → Type 0
   Turns gave took connected asked noted written boot now most has_operator conn None old result new after =
-      Asks connected asked written boot now conn old result new after
-  Turns gave took connected asked noted written boot now most has_operator conn (Some begun) old result new after =
-      Goes gave took noted has_operator now most conn begun old result new after
+      Asks gave took connected asked noted written boot now most has_operator conn None old result new after
+  Turns gave took connected asked noted written boot now most has_operator conn (Some (Kept kept)) old result new
+      after = Asks gave took connected asked noted written boot now most has_operator conn (Some kept) old result new
+      after
+  Turns gave took connected asked noted written boot now most has_operator conn (Some (Asking begun)) old result new
+      after = Goes gave took noted has_operator now most conn begun old result new after
 
 -- ---- a turn of a notification
 

@@ -2,7 +2,7 @@
 ghost use Rattle.std.specs.Prelude.{◌≡◌, drop, length, string_bytes};
 ghost use Rattle.std.specs.IoError.{error_kind};
 ghost use Rattle.applications.specs.Applications.{is_reply_late};
-ghost use Rattle.applications.specs.ExchangeTurns.{GoesOn, Hears, Reads, Serves, Writes, absence_by, begun, failed_by, hearing, in_time, read_as, unconnected_by, unsent_by};
+ghost use Rattle.applications.specs.ExchangeTurns.{GoesOn, Hears, Reads, Serves, Writes, absence_by, begun, failed_by, hearing, in_time, is_not_now, read_as, unconnected_by, unsent_by};
 
 use crate::application_fault::{Absence, ApplicationFault};
 use application_http::{Reply, ReplyFault, ReplyReader};
@@ -42,6 +42,13 @@ pub(crate) fn absence_of(error: &Error) -> Absence
     ensures { result ≡ unconnected_by (error_kind error.now) }
 {
     absence_by(error.kind()).unwrap_or(Absence::Broken)
+}
+
+/// Whether an error of this kind means that a read would have to wait.
+pub(crate) fn is_not_now(kind: ErrorKind) -> bool
+    ensures { result ≡ is_not_now kind }
+{
+    matches!(kind, ErrorKind::WouldBlock)
 }
 
 /// The progress of an exchange after a read failed.
@@ -138,6 +145,13 @@ impl<S: RawRead + RawWrite + Drop> Exchange<S> {
             sent: 0,
             reader: ReplyReader::new(alloc),
         }
+    }
+
+    /// Its connection.
+    pub(crate) fn into_stream(self) -> S
+        ensures { result ≡ self.stream }
+    {
+        self.stream
     }
 
     /// Writes the rest of the request, as much as the stream takes.

@@ -2,14 +2,14 @@
 //! waits.
 ghost use Rattle.std.specs.Prelude.{◌≡◌, ◌<◌, IfErr, IfOk, None, replicate};
 ghost use Rattle.application_http.specs.Requests.{request_bytes};
-ghost use Rattle.applications.specs.ExchangeTurns.{Asks, AsksAbout, BeginsFor, CannotBegin, Ends, Fails, Hands, Shows, Turns, slot_at, unless_failed, with_slot};
+ghost use Rattle.applications.specs.ExchangeTurns.{Asks, AsksAbout, BeginsFor, CannotBegin, Connects, Ends, Fails, Goes, Hands, IsRead, LooksOpen, Shows, Turns, is_kept, connection_after, slot_at, still_kept, unless_failed, with_slot};
 ghost use Rattle.host_core.specs.State.{most_connections};
 
 use crate::application_fault::{Absence, ApplicationFault};
 use crate::application_reply::{answer_of, telling};
 use crate::application_request::{Query, request_of};
 use crate::ended_session::EndedSession;
-use crate::exchange::{Exchange, IoProgress, absence_of};
+use crate::exchange::{Exchange, IoProgress, absence_of, is_not_now};
 use application_http::{Endpoint, Reply};
 use host_core::{Acted, Answer, MOST_CONNECTIONS, Ticket};
 use jobs::{Fault, RawRead, RawWrite};
@@ -207,8 +207,73 @@ struct QuestionExchange<S> {
     exchange: Exchange<S>,
 }
 
+/// A connection that the application keeps for the next question.
+#[derive(Drop)]
+struct KeptConnection<S> {
+    stream: S,
+    /// When its last reply was complete, in milliseconds of the server's time.
+    since: u64,
+    /// For how many seconds from then the application keeps it.
+    seconds: u32,
+}
+
+/// A connection to the application.
+#[derive(Drop)]
+enum ApplicationConnection<S> {
+    Asking(QuestionExchange<S>),
+    Kept(KeptConnection<S>),
+}
+
+/// Whether the application keeps a connection for more than a second from `now` on. The second is for a request that is
+/// on its way when the application closes the connection.
+fn is_kept(since: u64, seconds: u32, now: u64) -> bool
+    ensures { result ≡ is_kept since seconds now }
+{
+    now.saturating_sub(since) < 1000 * u64::from(seconds.saturating_sub(1))
+}
+
+impl<S: RawRead> KeptConnection<S> {
+    /// Reads once. Whether nothing is there now, neither bytes nor the connection's end.
+    fn is_silent(&mut self) -> bool
+        ensures { IsRead S.read_gave self.old result self.new }
+    {
+        match self.stream.read_once(&mut [0]) {
+            Ok(_) => false,
+            Err(error) => is_not_now(error.kind()),
+        }
+    }
+
+    /// Whether a request may be sent on it at `now`.
+    fn is_open(&mut self, now: u64) -> bool
+        ensures { LooksOpen S.read_gave now self.old result self.new }
+    {
+        is_kept(self.since, self.seconds, now) && self.is_silent()
+    }
+}
+
+/// A connection for a request: the kept one, if it is open, or else a new one.
+fn stream_for<S: RawRead + RawWrite + Drop, A: AskingServer<Stream = S>>(
+    kept: Option<KeptConnection<S>>,
+    now: u64,
+    server: &A,
+) -> io::Result<S>
+    ensures { Connects S.read_gave (A.connected server.now) now kept result }
+{
+    match kept {
+        Some(mut kept) => {
+            if kept.is_open(now) {
+                Ok(kept.stream)
+            } else {
+                server.connect()
+            }
+        }
+        None => server.connect(),
+    }
+}
+
 /// A new exchange for a question.
 fn begin<S: RawRead + RawWrite + Drop, A: AskingServer<Stream = S>>(
+    kept: Option<KeptConnection<S>>,
     asking: Asking<'_>,
     server: &A,
     conn: usize,
@@ -216,8 +281,9 @@ fn begin<S: RawRead + RawWrite + Drop, A: AskingServer<Stream = S>>(
 ) -> Result<QuestionExchange<S>, Absence>
     requires { conn < most_connections }
     ensures begins { IfOk result (BeginsFor (request_bytes asking.entry.endpoint.now) asking.entry.boot asking.entry.now
-        (A.served server.now conn) (A.connected server.now) query.now) }
-    ensures cannot { IfErr result (CannotBegin (A.connected server.now)) }
+        (A.served server.now conn) (Connects S.read_gave (A.connected server.now) asking.entry.now kept) query.now) }
+    ensures cannot { IfErr result
+        (CannotBegin (Connects S.read_gave (A.connected server.now) asking.entry.now kept)) }
 {
     match request_of(
         asking.alloc,
@@ -226,7 +292,7 @@ fn begin<S: RawRead + RawWrite + Drop, A: AskingServer<Stream = S>>(
         server.panels(conn),
         query,
     ) {
-        Ok(Some(request)) => match server.connect() {
+        Ok(Some(request)) => match stream_for(kept, asking.now, server) {
             Ok(stream) => Ok(QuestionExchange {
                 ticket: query.question.ticket,
                 panel: query.question.panel,
@@ -238,24 +304,72 @@ fn begin<S: RawRead + RawWrite + Drop, A: AskingServer<Stream = S>>(
     }
 }
 
-/// Begins an exchange for an open question in an empty slot.
-fn ask_about<S: RawRead + RawWrite + Drop, A: AskingServer<Stream = S>>(
-    slot: &mut Option<QuestionExchange<S>>,
+/// What is left of the connection of an exchange that ended at `now`: it is kept if its reply says so.
+fn connection_after<S: Drop>(
+    outcome: &Result<Reply, ApplicationFault>,
+    now: u64,
+    stream: S,
+) -> Option<ApplicationConnection<S>>
+    ensures { result ≡ connection_after outcome.now now stream }
+{
+    match outcome {
+        Ok(reply) if reply.kept > 1 => Some(ApplicationConnection::Kept(KeptConnection {
+            stream,
+            since: now,
+            seconds: reply.kept,
+        })),
+        _ => None,
+    }
+}
+
+/// Continues an exchange, and puts it back into its empty slot unless it is over.
+fn go_on<S: RawRead + RawWrite + Drop, A: AskingServer<Stream = S>>(
+    slot: &mut Option<ApplicationConnection<S>>,
+    mut asked: QuestionExchange<S>,
     asking: Asking<'_>,
     server: &mut A,
     conn: usize,
+    has_operator: bool,
+) -> Result<bool, Fault>
+    requires { conn < most_connections }
+    ensures { Goes A.served A.answered A.reported S.read_gave S.write_took A.noted has_operator asking.entry.now
+        asking.entry.most conn asked server.old result server.new slot.new }
+{
+    match asked.exchange.go_on(has_operator, asking.now, asking.most) {
+        IoProgress::Moved => {
+            *slot = Some(ApplicationConnection::Asking(asked));
+            Ok(true)
+        }
+        IoProgress::Still => {
+            *slot = Some(ApplicationConnection::Asking(asked));
+            Ok(false)
+        }
+        IoProgress::Over(outcome) => {
+            let (ticket, panel) = (asked.ticket, asked.panel);
+            *slot = connection_after(&outcome, asking.now, asked.exchange.into_stream());
+            end(asking.alloc, server, conn, ticket, panel, &outcome)
+        }
+    }
+}
+
+/// Begins an exchange for an open question in an empty slot, and takes its first turn.
+fn ask_about<S: RawRead + RawWrite + Drop, A: AskingServer<Stream = S>>(
+    slot: &mut Option<ApplicationConnection<S>>,
+    kept: Option<KeptConnection<S>>,
+    asking: Asking<'_>,
+    server: &mut A,
+    conn: usize,
+    has_operator: bool,
     query: &Query,
 ) -> Result<bool, Fault>
     requires empty { slot.old ≡ None }
     requires number { conn < most_connections }
-    ensures { AsksAbout A.served A.answered A.reported A.connected (request_bytes asking.entry.endpoint.now)
-        asking.entry.boot asking.entry.now conn query.now server.old result server.new slot.new }
+    ensures { AsksAbout A.served A.answered A.reported S.read_gave S.write_took A.connected A.noted
+        (request_bytes asking.entry.endpoint.now) asking.entry.boot asking.entry.now asking.entry.most has_operator conn
+        kept query.now server.old result server.new slot.new }
 {
-    match begin(asking, server, conn, query) {
-        Ok(asked) => {
-            *slot = Some(asked);
-            Ok(true)
-        }
+    match begin(kept, asking, server, conn, query) {
+        Ok(asked) => go_on(slot, asked, asking, server, conn, has_operator),
         Err(absence) => {
             let fault = ApplicationFault::Absent(absence);
             fail(asking.alloc, server, conn, query.question.ticket, &fault)
@@ -263,29 +377,50 @@ fn ask_about<S: RawRead + RawWrite + Drop, A: AskingServer<Stream = S>>(
     }
 }
 
+/// The connection that is kept on while no question is open: none if the operator left, or the time is over.
+fn still_kept<S: Drop>(
+    kept: Option<KeptConnection<S>>,
+    has_operator: bool,
+    now: u64,
+) -> Option<ApplicationConnection<S>>
+    ensures { result ≡ still_kept kept has_operator now }
+{
+    match kept {
+        Some(kept) if has_operator && is_kept(kept.since, kept.seconds, now) => {
+            Some(ApplicationConnection::Kept(kept))
+        }
+        _ => None,
+    }
+}
+
 /// Begins an exchange in an empty slot, if a question is open.
 fn ask<S: RawRead + RawWrite + Drop, A: AskingServer<Stream = S>>(
-    slot: &mut Option<QuestionExchange<S>>,
+    slot: &mut Option<ApplicationConnection<S>>,
+    kept: Option<KeptConnection<S>>,
     asking: Asking<'_>,
     server: &mut A,
     conn: usize,
+    has_operator: bool,
 ) -> Result<bool, Fault>
     requires empty { slot.old ≡ None }
     requires number { conn < most_connections }
-    ensures { Asks A.served A.answered A.reported A.connected A.asked (request_bytes asking.entry.endpoint.now)
-        asking.entry.boot asking.entry.now conn server.old result server.new slot.new }
+    ensures { Asks A.served A.answered A.reported S.read_gave S.write_took A.connected A.asked A.noted
+        (request_bytes asking.entry.endpoint.now) asking.entry.boot asking.entry.now asking.entry.most has_operator conn
+        kept server.old result server.new slot.new }
 {
     match server.question(conn) {
-        Ok(Some(query)) => ask_about(slot, asking, server, conn, &query),
-        Ok(None) => Ok(false),
+        Ok(Some(query)) => ask_about(slot, kept, asking, server, conn, has_operator, &query),
+        Ok(None) => {
+            *slot = still_kept(kept, has_operator, asking.now);
+            Ok(false)
+        }
         Err(fault) => Err(fault),
     }
 }
 
-/// Takes a turn on a connection with this slot: continues its exchange, and empties it when the exchange is over, or
-/// begins one if a question is open.
+/// Takes a turn on a connection with this slot: continues its exchange, or begins one if a question is open.
 fn turn_of<S: RawRead + RawWrite + Drop, A: AskingServer<Stream = S>>(
-    slot: &mut Option<QuestionExchange<S>>,
+    slot: &mut Option<ApplicationConnection<S>>,
     asking: Asking<'_>,
     server: &mut A,
     conn: usize,
@@ -296,17 +431,14 @@ fn turn_of<S: RawRead + RawWrite + Drop, A: AskingServer<Stream = S>>(
         (request_bytes asking.entry.endpoint.now) asking.entry.boot asking.entry.now asking.entry.most has_operator conn
         slot.old server.old result server.new slot.new }
 {
-    match slot {
-        Some(asked) => match asked.exchange.go_on(has_operator, asking.now, asking.most) {
-            IoProgress::Moved => Ok(true),
-            IoProgress::Still => Ok(false),
-            IoProgress::Over(outcome) => {
-                let (ticket, panel) = (asked.ticket, asked.panel);
-                *slot = None;
-                end(asking.alloc, server, conn, ticket, panel, &outcome)
-            }
-        },
-        None => ask(slot, asking, server, conn),
+    match slot.take() {
+        Some(ApplicationConnection::Asking(asked)) => {
+            go_on(slot, asked, asking, server, conn, has_operator)
+        }
+        Some(ApplicationConnection::Kept(kept)) => {
+            ask(slot, Some(kept), asking, server, conn, has_operator)
+        }
+        None => ask(slot, None, asking, server, conn, has_operator),
     }
 }
 
@@ -321,18 +453,19 @@ pub(crate) fn empty_slots<T: Drop>(alloc: Global) -> Result<Vec<Option<T>>, Allo
     Ok(slots)
 }
 
-/// The exchanges of 64 connections about their questions: at most one on each.
+/// The exchanges of 64 connections about their questions, at most one on each, and the connections to the application
+/// that are kept for their next questions.
 #[derive(Drop)]
 pub struct Exchanges<S> {
-    slots: Vec<Option<QuestionExchange<S>>>,
+    slots: Vec<Option<ApplicationConnection<S>>>,
 }
 
 impl<S> Model for Exchanges<S> {
     ghost use Rattle.std.specs.Prelude.{◌≡◌, List, Option, length};
     ghost use Rattle.host_core.specs.State.{most_connections};
-    ghost use Rattle.applications.specs.declared.exchanges.QuestionExchange.{QuestionExchange as QuestionExchangeValue};
+    ghost use Rattle.applications.specs.declared.exchanges.ApplicationConnection.{ApplicationConnection as ConnectionValue};
 
-    ghost Value = { List (Option (QuestionExchangeValue S)) };
+    ghost Value = { List (Option (ConnectionValue S)) };
 
     ghost view = { λ exchanges. exchanges.slots.items };
 

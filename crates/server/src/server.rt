@@ -273,8 +273,9 @@ impl<S: RawRead + RawWrite + Drop> Server<S> {
         Ok(acted)
     }
 
-    /// Serves a number's connection once, if it is open. Answers whether the number of unsent bytes changed.
-    fn serve_if_open<W: Watcher>(&mut self, conn: usize, watcher: &mut W) -> Result<bool, Fault>
+    /// Serves a number's connection once, if it is open. Answers whether the number of unsent bytes changed. NoMemory if
+    /// memory is refused; any fault of the watcher is returned.
+    pub fn serve_if_open<W: Watcher>(&mut self, conn: usize, watcher: &mut W) -> Result<bool, Fault>
         requires number { conn < most_connections }
         ensures { ServesAt S.read_gave S.write_took W.noticed W.showed conn self.old watcher.old result self.new
             watcher.new }

@@ -25,6 +25,8 @@ const EXCHANGE_TOKEN: usize = MOST_CONNECTIONS + 3;
 pub(crate) struct Application {
     alloc: Global,
     endpoint: Endpoint,
+    /// Its address.
+    address: SocketAddr,
     /// How long a reply may take, in milliseconds.
     most: u64,
     exchanges: Exchanges<TcpStream>,
@@ -156,6 +158,7 @@ impl Application {
     ) -> Result<Application, AllocError> {
         Ok(Application {
             alloc,
+            address: endpoint.address(),
             endpoint,
             most: u64::from(reply_time.get()) * 1000,
             exchanges: Exchanges::new(alloc)?,
@@ -202,7 +205,7 @@ impl Application {
         let has_operator = server.is_connected(conn);
         let mut watched = Watched {
             rt,
-            address: self.endpoint.address(),
+            address: self.address,
             server,
             port,
             watcher,
@@ -214,6 +217,10 @@ impl Application {
         let told = self.notifications.turn(asking, &mut watched, conn);
         let outcome = watched.outcome;
         report(&mut self.asked[conn], did, outcome, now, watcher)?;
+        if !matches!(outcome, Outcome::Open) {
+            // What the host answered is sent at once.
+            server.serve_if_open(conn, watcher)?;
+        }
         Ok(did | told)
     }
 }
