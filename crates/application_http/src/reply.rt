@@ -26,6 +26,8 @@ pub struct Reply {
     pub cursor: Option<String>,
     /// Whether the session ends once the terminal has taken this answer.
     pub end: bool,
+    /// For how many seconds the application keeps the connection for the next request; 0 if it closes it or doesn't say.
+    pub kept: u32,
 }
 
 /// Whether each of these values is a text.
@@ -275,6 +277,7 @@ fn reply_of(alloc: Global, value: &Value) -> Result<Reply, AllocError>
         message: text_at(alloc, value, "message")?,
         cursor: text_at(alloc, value, "cursor")?,
         end: flag_at(value, "end"),
+        kept: 0,
     })
 }
 
