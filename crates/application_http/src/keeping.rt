@@ -20,7 +20,9 @@ fn number_in(text: &[u8]) -> u32
         if !byte.is_ascii_digit() {
             return 0;
         }
-        number = number.saturating_mul(10).saturating_add(u32::from(*byte - b'0'));
+        number = number
+            .saturating_mul(10)
+            .saturating_add(u32::from(*byte - b'0'));
     }
     number
 }
@@ -67,16 +69,18 @@ pub(crate) fn kept_by(bytes: &[u8], fields: &[HeaderSpan], minor: u8, known: &Kn
     }
 }
 
-/// The seconds that are left of a promise if so many bytes follow the head: all if they are the body, or none.
+/// The seconds that are left of a promise if so many bytes follow the head: all if they are a body of stated length and
+/// the connection isn't over, or none.
 pub(crate) fn kept_after(
+    is_over: bool,
     framing: Result<Framing, FramingError>,
     received: usize,
     seconds: u32,
 ) -> u32
-    ensures { result ≡ kept_after framing received seconds }
+    ensures { result ≡ kept_after is_over framing received seconds }
 {
     match framing {
-        Ok(Framing::Length(len)) if len == received as u64 => seconds,
+        Ok(Framing::Length(len)) if !is_over && len == received as u64 => seconds,
         _ => 0,
     }
 }
