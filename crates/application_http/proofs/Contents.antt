@@ -1,12 +1,13 @@
 -- From the body to the whole message.
-use Rattle.std.proofs.Common.{◌≡◌, ℕ, List, drop, sym, ◌∙◌, subst, Bool, true, Option, Some, None, Result, Ok, Err, Vec, Global, IfOk, IfErr, inr}
+use Rattle.std.proofs.Common.{◌≡◌, ℕ, List, drop, length, sym, ◌∙◌, subst, Bool, true, Option, Some, None, Result, Ok, Err, Vec, Global, IfOk, IfErr, inr}
 use Rattle.std.specs.Prelude.{MatchOption, ⊤}
 use Rattle.http1.specs.declared.framing.Framing.{Framing}
 use Rattle.http1.specs.declared.framing.Framing.TheVariants.{NoBody, Length, Chunked, UntilClose}
+use Rattle.application_http.specs.Keeping.{kept_after}
 use Rattle.application_http.specs.declared.content.Head.{Head}
 use Rattle.application_http.specs.declared.fault.ReplyFault.{ReplyFault}
 use Rattle.application_http.specs.declared.fault.ReplyFault.TheVariants as fault
-use Rattle.application_http.specs.Contents.{IsHead, IsAccepted, IsCompleteBody, IsIncompleteBody, HasContent, IsUnfinished, IsBadBody, IsBadMessage, accepted_status}
+use Rattle.application_http.specs.Contents.{IsHead, IsKept, IsAccepted, IsCompleteBody, IsIncompleteBody, HasContent, IsUnfinished, IsBadBody, IsBadMessage, accepted_status}
 
 pub accepts : (bytes : List ℕ) (found : Head) (framing : Framing) → IsHead bytes found → found.status ≡ accepted_status → found.framing ≡ Ok framing → IsAccepted bytes framing (drop found.len bytes)
 accepts bytes found framing h ok framed = record {
@@ -15,6 +16,11 @@ accepts bytes found framing h ok framed = record {
   status = sym h.status ∙ ok;
   framed = sym h.framing ∙ framed;
 }
+
+pub is_kept : (is_over : Bool) (bytes after : List ℕ) (found : Head) (kept : ℕ) → IsHead bytes found → after ≡ drop found.len bytes
+    → kept ≡ kept_after is_over found.framing (length after) found.kept → IsKept is_over bytes kept
+is_kept is_over bytes after found kept h behind e =
+    (h.head, drop found.len bytes, h.reads, e ∙ (λ i. kept_after is_over (h.framing i) (length (behind i)) (h.kept i)))
 
 abbrev pub Contents : Type 0
 Contents = Result (Option (Vec ℕ Global)) ReplyFault

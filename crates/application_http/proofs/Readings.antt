@@ -1,14 +1,15 @@
 -- What is found in the front of the bytes, and in all of them.
 use Rattle.std.proofs.Common.{◌≡◌, ◌++◌, ◌≤◌, ◌<◌, ◌+◌, ◌-◌, ℕ, List, Bool, length, take, ap, true, false, true≢false, Option, Some, None, sym, subst, ◌∙◌, inl, inr, arith, length-take}
 use Rattle.std.proofs.Math.Seq.{take-append-add}
+use Rattle.std.proofs.lemmas.Bool.Decides.{nat_tests}
 use Rattle.std.proofs.lemmas.List.{take_all, length-append}
 use Rattle.application_http.specs.declared.fault.ReplyFault.{ReplyFault}
 use Rattle.application_http.specs.declared.fault.ReplyFault.TheVariants as fault
-use Rattle.application_http.specs.Contents.{most_bytes, IsUnfinished}
+use Rattle.application_http.specs.Contents.{most_bytes, IsKept, IsUnfinished}
 use Rattle.application_http.specs.Readings.{HasReply, IsBadReply, IsRefused, front}
 use Rattle.application_http.specs.Replies.{answer_in}
 use Rattle.application_http.specs.declared.reply.Reply.{Reply}
-use Rattle.std.specs.Prelude.{MatchOption, if◌then◌else◌}
+use Rattle.std.specs.Prelude.{MatchOption, nat_lt, ⊤, if◌then◌else◌}
 
 -- what is taken of more bytes, if what is there is no more than may be taken
 pub take_more_of : (most : ℕ) (old bytes : List ℕ) → length old ≤ most → take most (old ++ bytes) ≡ old ++ take (most - length old) bytes
@@ -59,8 +60,18 @@ Finds closed bytes found = MatchOption found (IsUnfinished closed bytes) (λ rep
 pub some_found : (closed : Bool) (bytes kept : List ℕ) (found : Option Reply) (reply : Reply) → found ≡ Some reply → kept ≡ front bytes → Finds closed kept found → HasReply closed (front bytes) (answer_in reply)
 some_found closed bytes kept found reply is all h = subst (λ b. HasReply closed b (answer_in reply)) all (subst (Finds closed kept) is h)
 
+pub some_kept : (over later : Bool) (bytes kept : List ℕ) (found : Option Reply) (reply : Reply) → found ≡ Some reply → kept ≡ front bytes → over ≡ later
+    → MatchOption found ⊤ (λ reply. IsKept over kept reply.kept) → IsKept later (front bytes) reply.kept
+some_kept over later bytes kept found reply is all same h =
+    subst (λ o. IsKept o (front bytes) reply.kept) same
+    (subst (λ b. IsKept over b reply.kept) all (subst (λ it. MatchOption it ⊤ (λ reply. IsKept over kept reply.kept)) is h))
+
 pub none_found : (closed : Bool) (bytes kept : List ℕ) (found : Option Reply) → found ≡ None → kept ≡ front bytes → Finds closed kept found → IsUnfinished closed (front bytes)
 none_found closed bytes kept found is all h = subst (IsUnfinished closed) all (subst (Finds closed kept) is h)
+
+-- whether more bytes follow those that are taken
+pub same_more : (old bytes : List ℕ) → length old ≤ most_bytes → nat_lt (most_bytes - length old) (length bytes) ≡ nat_lt most_bytes (length (old ++ bytes))
+same_more old bytes fits = grind (arith, nat_tests, length-append old bytes)
 
 pub longer : (old bytes : List ℕ) → length old ≤ most_bytes → most_bytes - length old < length bytes → most_bytes < length (old ++ bytes)
 longer old bytes fits more = omega (arith, length-append old bytes)

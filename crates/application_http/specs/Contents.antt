@@ -1,7 +1,7 @@
 -- The content of a reply (RFC 9112, sections 4, 6, 7), by the grammars of httparse and http1. Limits are our profile.
-use Rattle.std.specs.Prelude.{◌≡◌, ℕ, ◌<◌, ◌≤◌, ◌⊎◌, Bool, true, List, ◌++◌, length, drop, Ok, Err, Result}
+use Rattle.std.specs.Prelude.{◌≡◌, ℕ, ◌<◌, ◌≤◌, ◌⊎◌, Bool, true, List, ◌++◌, length, drop, map, Ok, Err, Result}
 use Rattle.httparse.specs.Grammar.{Field, ResponseHead, ReadsResponse, HasNoResponse, NeverHasResponse, status_code}
-use Rattle.httparse.specs.Spans.{ResponseExceeds}
+use Rattle.httparse.specs.Spans.{ResponseExceeds, name_and_value}
 use Rattle.http1.specs.Body.{Body, body_of, ReadsBody}
 use Rattle.http1.specs.Framing.{response_framing}
 use Rattle.http1.specs.Message.{known_of}
@@ -10,6 +10,7 @@ use Rattle.http1.specs.declared.framing.Framing.{Framing}
 use Rattle.http1.specs.declared.framing.Framing.TheVariants.{NoBody, Length, Chunked, UntilClose}
 use Rattle.http1.specs.declared.framing.FramingError.{FramingError}
 use Rattle.http1.specs.declared.framing.MethodKind.TheVariants.{Other}
+use Rattle.application_http.specs.Keeping.{kept_after, kept_by}
 use Rattle.application_http.specs.declared.content.Head.{Head}
 use Rattle.application_http.specs.declared.fault.ReplyFault.{ReplyFault}
 use Rattle.application_http.specs.declared.fault.ReplyFault.TheVariants as fault
@@ -33,13 +34,24 @@ accepted_status = 200
 abbrev pub framing_of : ResponseHead → Result Framing FramingError
 framing_of head = response_framing Other (status_code head) head.minor (known_of head.fields)
 
--- holds if the bytes begin with a head that has this length, status and framing
+-- for how many seconds a response with this head keeps the connection
+abbrev pub promise_of : ResponseHead → ℕ
+promise_of head = kept_by head.minor (known_of head.fields) (map name_and_value head.fields)
+
+-- holds if the bytes begin with a head that has this length, status, framing and promise
 pub record IsHead (bytes : List ℕ) (found : Head) : Type 0 where
   pub head : ResponseHead
   pub reads : ReadsResponse bytes head (drop found.len bytes)
   pub within : found.len ≤ length bytes
   pub status : found.status ≡ status_code head
   pub framing : found.framing ≡ framing_of head
+  pub kept : found.kept ≡ promise_of head
+
+-- holds if the bytes begin with a head after which the connection is kept for so many seconds; it is over if it is
+-- closed, or if more bytes follow these
+abbrev pub IsKept : (is_over : Bool) → (bytes : List ℕ) → ℕ → Type 0
+IsKept is_over bytes kept = (head : ResponseHead) × (after : List ℕ) × ReadsResponse bytes head after
+    × (kept ≡ kept_after is_over (framing_of head) (length after) (promise_of head))
 
 -- holds if the bytes begin with a head of status 200 with this framing, and these bytes follow it
 pub record IsAccepted (bytes : List ℕ) (framing : Framing) (after : List ℕ) : Type 0 where

@@ -1,6 +1,6 @@
 -- The answers of a reader (our profile): a function of the bytes received, and of whether the connection is closed.
-use Rattle.std.specs.Prelude.{◌≡◌, ℕ, ◌<◌, ◌≤◌, ◌⊎◌, Bool, true, false, List, ◌++◌, length, take, Option, Some, None, Result, Ok, Err, ⊤}
-use Rattle.application_http.specs.Contents.{most_bytes, HasContent, IsUnfinished, IsBadMessage}
+use Rattle.std.specs.Prelude.{◌≡◌, ℕ, ◌<◌, ◌≤◌, nat_lt, ◌⊎◌, Bool, ◌||◌, true, false, List, ◌++◌, length, take, Option, Some, None, Result, Ok, Err, ⊤}
+use Rattle.application_http.specs.Contents.{most_bytes, HasContent, IsKept, IsUnfinished, IsBadMessage}
 use Rattle.application_http.specs.Replies.{Answer, Says, IsBadContent, answer_in}
 use Rattle.application_http.specs.declared.fault.ReplyFault.{ReplyFault}
 use Rattle.application_http.specs.declared.fault.ReplyFault.TheVariants as fault
@@ -23,6 +23,7 @@ front bytes = take most_bytes bytes
 abbrev pub IsFound : (closed : Bool) → (bytes : List ℕ) → Option Reply → Type 0
 IsFound closed bytes None = IsUnfinished closed bytes × (length bytes ≤ most_bytes)
 IsFound closed bytes (Some reply) = HasReply closed (front bytes) (answer_in reply)
+    × IsKept (closed || nat_lt most_bytes (length bytes)) (front bytes) reply.kept
 
 -- holds if all bytes received are refused for this reason
 abbrev pub IsRefused : (closed : Bool) → (bytes : List ℕ) → ReplyFault → Type 0

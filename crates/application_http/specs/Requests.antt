@@ -112,7 +112,7 @@ first_line url = codes "POST " ++ (url.path ++ (query_mark url ++ (query_text ur
 unfoldable pub field_lines : Parts → (length : ℕ) → List ℕ
 field_lines url length =
     codes "Host: " ++ (host_of url ++ (codes "\r\nContent-Type: application/json\r\nContent-Length: "
-    ++ (decimal length ++ codes "\r\nConnection: close\r\n\r\n")))
+    ++ (decimal length ++ codes "\r\n\r\n")))
 
 -- a whole request: the head, which states the length of the body, and the body
 abbrev pub post_bytes : Parts → (body : List ℕ) → List ℕ

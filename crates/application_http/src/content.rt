@@ -4,9 +4,10 @@ ghost use Rattle.httparse.specs.Grammar.{HasNoResponse};
 ghost use Rattle.httparse.specs.declared.spans.HeaderSpan.{HeaderSpan};
 ghost use Rattle.http1.specs.Decoder.{Decodes, HasNoBody};
 ghost use Rattle.http1.specs.declared.framing.Framing.TheVariants as framed;
-ghost use Rattle.application_http.specs.Contents.{HasContent, StoresContent, IsBadBody, IsBadMessage, IsHead, IsUnfinished, IsCompleteBody, IsIncompleteBody, limits, most_fields};
+ghost use Rattle.application_http.specs.Contents.{HasContent, StoresContent, IsBadBody, IsBadMessage, IsHead, IsKept, IsUnfinished, IsCompleteBody, IsIncompleteBody, limits, most_fields};
 
 use crate::fault::ReplyFault;
+use crate::keeping::{kept_after, kept_by};
 use http1::decode::{Decoded, Decoder};
 use http1::fields::KnownFields;
 use http1::framing::{Framing, FramingError, MethodKind, response_framing};
@@ -32,6 +33,8 @@ pub struct Head {
     status: u16,
     /// How the length of the body is determined.
     framing: Result<Framing, FramingError>,
+    /// For how many seconds the application promises to keep the connection.
+    kept: u32,
 }
 
 /// The limits of a chunked body: no part has a lower limit than the whole reply.
@@ -46,19 +49,20 @@ fn limits() -> Limits
 }
 
 /// The head at the start of the bytes; None if it isn't complete yet.
-fn head_of(bytes: &[u8]) -> Result<Option<Head>, ReplyFault>
+pub(crate) fn head_of(bytes: &[u8]) -> Result<Option<Head>, ReplyFault>
     ensures found { IfOk result (λ found. MatchOption found (HasNoResponse bytes.now) (IsHead bytes.now)) }
     ensures wrong { IfErr result (λ why. (closed : Bool) → IsBadMessage closed bytes.now why) }
 {
     let mut headers = [EMPTY_HEADER_SPAN; MOST_FIELDS];
     match parse_response(bytes, &mut headers) {
         Ok(Status::Complete(head)) => {
-            let fields = KnownFields::from_spans(bytes, &headers[..head.headers]);
-            let framing = response_framing(MethodKind::Other, head.code, head.version, &fields);
+            let fields = &headers[..head.headers];
+            let known = KnownFields::from_spans(bytes, fields);
             Ok(Some(Head {
                 len: head.len,
                 status: head.code,
-                framing,
+                framing: response_framing(MethodKind::Other, head.code, head.version, &known),
+                kept: kept_by(bytes, fields, head.version, &known),
             }))
         }
         Ok(Status::Partial) => Ok(None),
@@ -182,20 +186,33 @@ fn body_content(
     }
 }
 
-/// The content of the reply at the start of the bytes; None if it isn't complete yet. `is_closed` says whether the
+/// For how many seconds the connection is kept after the reply that the bytes begin with. `is_over` says whether it is
+/// closed, or more bytes follow these.
+pub(crate) fn kept_in(bytes: &[u8], head: Head, is_over: bool) -> u32
+    requires { IsHead bytes.now head }
+    ensures { IsKept is_over bytes.now result }
+{
+    kept_after(
+        is_over,
+        head.framing,
+        behind(bytes, head.len).len(),
+        head.kept,
+    )
+}
+
+/// The content of the reply that the bytes begin with, by its head; None if it isn't complete yet. `is_closed` says whether the
 /// connection is closed after them, which ends a body without a stated length.
 pub(crate) fn content_of(
     alloc: Global,
     bytes: &[u8],
+    head: Head,
     is_closed: bool,
 ) -> Result<Option<Vec<u8>>, ReplyFault>
+    requires { IsHead bytes.now head }
     ensures found { IfOk result (λ found. MatchOption found (IsUnfinished is_closed bytes.now)
         (λ content. HasContent is_closed bytes.now content.items)) }
     ensures wrong { IfErr result (IsBadMessage is_closed bytes.now) }
 {
-    let Some(head) = head_of(bytes)? else {
-        return Ok(None);
-    };
     if head.status != ACCEPTED {
         return Err(ReplyFault::Status(head.status));
     }

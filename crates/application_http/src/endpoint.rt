@@ -143,7 +143,7 @@ impl Endpoint {
         let host = quirks::host(&self.url);
         write!(
             text,
-            "Host: {host}\r\nContent-Type: application/json\r\nContent-Length: {length}\r\nConnection: close\r\n\r\n"
+            "Host: {host}\r\nContent-Type: application/json\r\nContent-Length: {length}\r\n\r\n"
         )
     }
 

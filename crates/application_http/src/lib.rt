@@ -8,6 +8,7 @@
 mod content;
 mod endpoint;
 mod fault;
+mod keeping;
 mod notification;
 mod reader;
 mod reply;

@@ -1,25 +1,37 @@
 //! Reads an application's reply from bytes that are received in any pieces.
 ghost use Rattle.std.specs.Prelude.{◌≡◌, ◌≤◌, ◌++◌, ◌↔◌, ℕ, ⊤, false, true, [], List, length, take, Some, None, IfErr, IfOk, IsSome, IsTrue, MatchOption};
-ghost use Rattle.application_http.specs.Contents.{IsUnfinished, most_bytes};
+ghost use Rattle.application_http.specs.Contents.{IsKept, IsUnfinished, most_bytes};
 ghost use Rattle.application_http.specs.Readings.{ReturnsNone, HasReply, IsBadReply, IsFound, IsRefused, IsRefusedAfter, is_last, left_by};
 ghost use Rattle.application_http.specs.Replies.{answer_in};
 
-use crate::content::{MOST_BYTES, content_of};
+use crate::content::{MOST_BYTES, content_of, head_of, kept_in};
 use crate::fault::ReplyFault;
 use crate::reply::{Reply, read_reply};
 use std::alloc::Global;
 use std::marker::Model;
 
-/// The reply at the start of the bytes; None if it isn't complete yet.
-fn reply_at(alloc: Global, bytes: &[u8], is_closed: bool) -> Result<Option<Reply>, ReplyFault>
+/// The reply at the start of the bytes; None if it isn't complete yet. `is_closed` says whether the connection is closed
+/// after them, `is_over` whether it is closed, or more bytes follow.
+fn reply_at(
+    alloc: Global,
+    bytes: &[u8],
+    is_closed: bool,
+    is_over: bool,
+) -> Result<Option<Reply>, ReplyFault>
     ensures found { IfOk result (λ found. MatchOption found (IsUnfinished is_closed bytes.now)
         (λ reply. HasReply is_closed bytes.now (answer_in reply))) }
+    ensures kept { IfOk result
+        (λ found. MatchOption found ⊤ (λ reply. IsKept is_over bytes.now reply.kept)) }
     ensures bad { IfErr result (IsBadReply is_closed bytes.now) }
 {
-    let Some(content) = content_of(alloc, bytes, is_closed)? else {
+    let Some(head) = head_of(bytes)? else {
         return Ok(None);
     };
-    Ok(Some(read_reply(alloc, content.as_slice())?))
+    let kept = kept_in(bytes, head, is_over);
+    let Some(content) = content_of(alloc, bytes, head, is_closed)? else {
+        return Ok(None);
+    };
+    Ok(Some(read_reply(alloc, content.as_slice(), kept)?))
 }
 
 /// The first `room` bytes, or all if there are fewer.
@@ -40,9 +52,10 @@ fn advance(alloc: Global, so_far: &mut Vec<u8>, bytes: &[u8]) -> Result<Option<R
 {
     let room = MOST_BYTES - so_far.as_slice().len();
     so_far.extend_from_slice(front_of(bytes, room))?;
-    match reply_at(alloc, so_far.as_slice(), false) {
+    let has_more = bytes.len() > room;
+    match reply_at(alloc, so_far.as_slice(), false, has_more) {
         Ok(Some(reply)) => Ok(Some(reply)),
-        Ok(None) if bytes.len() > room => Err(ReplyFault::TooLong),
+        Ok(None) if has_more => Err(ReplyFault::TooLong),
         Ok(None) => Ok(None),
         Err(why) => Err(why),
     }
@@ -55,7 +68,7 @@ fn conclude(alloc: Global, bytes: &[u8]) -> Result<Option<Reply>, ReplyFault>
     ensures found { IfOk result (IsFound true bytes.now) }
     ensures refused { IfErr result (IsRefused true bytes.now) }
 {
-    match reply_at(alloc, bytes, true) {
+    match reply_at(alloc, bytes, true, true) {
         Ok(Some(reply)) => Ok(Some(reply)),
         Ok(None) => Err(ReplyFault::CutShort),
         Err(why) => Err(why),

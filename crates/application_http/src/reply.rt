@@ -26,6 +26,8 @@ pub struct Reply {
     pub cursor: Option<String>,
     /// Whether the session ends once the terminal has taken this answer.
     pub end: bool,
+    /// For how many seconds the application keeps the connection for the next request; 0 if it closes it or doesn't say.
+    pub kept: u32,
 }
 
 /// Whether each of these values is a text.
@@ -263,9 +265,10 @@ fn texts_at(alloc: Global, value: &Value, key: &str) -> Result<Vec<FieldText>, A
     }
 }
 
-/// The reply that a valid object represents.
-fn reply_of(alloc: Global, value: &Value) -> Result<Reply, AllocError>
+/// The reply that a valid object represents; the connection is kept for so many seconds.
+fn reply_of(alloc: Global, value: &Value, kept: u32) -> Result<Reply, AllocError>
     ensures said { IfOk result (λ reply. answer_in reply ≡ answer_of (view value.now)) }
+    ensures kept { IfOk result (λ reply. reply.kept ≡ kept) }
     ensures refused { OnErr result (IsStored None (answer_of (view value.now))) }
 {
     Ok(Reply {
@@ -275,12 +278,14 @@ fn reply_of(alloc: Global, value: &Value) -> Result<Reply, AllocError>
         message: text_at(alloc, value, "message")?,
         cursor: text_at(alloc, value, "cursor")?,
         end: flag_at(value, "end"),
+        kept,
     })
 }
 
-/// The reply that a JSON value represents.
-fn reply_in(alloc: Global, value: &Value) -> Result<Reply, ReplyFault>
+/// The reply that a JSON value represents; the connection is kept for so many seconds.
+fn reply_in(alloc: Global, value: &Value, kept: u32) -> Result<Reply, ReplyFault>
     ensures said { IfOk result (λ reply. SaysIn (view value.now) (answer_in reply)) }
+    ensures kept { IfOk result (λ reply. reply.kept ≡ kept) }
     ensures bad { IfErr result (IsBadValue (view value.now)) }
 {
     let Some(members) = value.as_object() else {
@@ -291,17 +296,18 @@ fn reply_in(alloc: Global, value: &Value) -> Result<Reply, ReplyFault>
             what,
             key: copy_of(alloc, key)?,
         }),
-        None => Ok(reply_of(alloc, value)?),
+        None => Ok(reply_of(alloc, value, kept)?),
     }
 }
 
-/// The reply that the bytes of a content represent.
-pub(crate) fn read_reply(alloc: Global, content: &[u8]) -> Result<Reply, ReplyFault>
+/// The reply that the bytes of a content represent; the connection is kept for so many seconds.
+pub(crate) fn read_reply(alloc: Global, content: &[u8], kept: u32) -> Result<Reply, ReplyFault>
     ensures said { IfOk result (λ reply. Says content.now (answer_in reply)) }
+    ensures kept { IfOk result (λ reply. reply.kept ≡ kept) }
     ensures bad { IfErr result (IsBadContent content.now) }
 {
     match Value::from_slice(alloc, content) {
-        Ok(value) => reply_in(alloc, &value),
+        Ok(value) => reply_in(alloc, &value, kept),
         Err(fault) if fault.is_memory() => Err(ReplyFault::Memory),
         Err(_) => Err(ReplyFault::NotJson),
     }

@@ -1,6 +1,7 @@
-use Rattle.std.proofs.Common.{◌≡◌, ◌++◌, ◌-◌, ◌<◌, false, length, take, sym, ◌∙◌, inr, rules}
+use Rattle.std.proofs.Common.{◌≡◌, ◌++◌, ◌-◌, ◌<◌, ℕ, List, ap, false, length, take, sym, ◌∙◌, inr, rules}
+use Rattle.std.specs.Prelude.{nat_lt}
 use Rattle.application_http.specs.Contents.{most_bytes}
-use Rattle.application_http.proofs.Readings.{take_more_of, some_found, none_found, refused_at, longer, still_fits}
+use Rattle.application_http.proofs.Readings.{take_more_of, same_more, some_found, some_kept, none_found, refused_at, longer, still_fits}
 use Rattle.application_http.proofs.reader.advance.Goals as goal
 
 pub returns-in-Ok-Some-clause-found : goal.returns-in-Ok-Some-clause-found
@@ -8,7 +9,10 @@ returns-in-Ok-Some-clause-found c =
     let old = c.args.so_far.now.items in
     let added : c.extend_from_slice.new.self.items ≡ old ++ take (most_bytes - length old) c.args.bytes.now = search rules in
     let kept = c.as_slice-2.ensures.value ∙ added ∙ sym (take_more_of most_bytes old c.args.bytes.now c.requires) in
-    some_found false (old ++ c.args.bytes.now) c.as_slice-2.result.now c.in-Ok-Some.field-0 c.in-Ok-Some.reply c.in-Ok-Some.field-0-is kept c.in-Ok-Some.ensures.found
+    let more = ap (λ (slice : List ℕ). nat_lt (most_bytes - length slice) (length c.args.bytes.now)) c.as_slice.ensures.value in (
+      some_found false (old ++ c.args.bytes.now) c.as_slice-2.result.now c.in-Ok-Some.field-0 c.in-Ok-Some.reply c.in-Ok-Some.field-0-is kept c.in-Ok-Some.ensures.found,
+      some_kept _ _ (old ++ c.args.bytes.now) c.as_slice-2.result.now c.in-Ok-Some.field-0 c.in-Ok-Some.reply c.in-Ok-Some.field-0-is kept (more ∙ same_more old c.args.bytes.now c.requires) c.in-Ok-Some.ensures.kept,
+    )
 
 pub returns-in-Ok-None-clause-refused : goal.returns-in-Ok-None-clause-refused
 returns-in-Ok-None-clause-refused c =
