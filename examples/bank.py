@@ -217,13 +217,17 @@ class Bank:
 
 
 class Handler(http.server.BaseHTTPRequestHandler):
-    """A question, in a thread of its own."""
+    """A session's questions, in a thread of their own."""
+
+    # An idle connection is closed after 5 seconds; a reply is sent in one piece.
+    protocol_version, timeout, wbufsize = "HTTP/1.1", 5, -1
 
     def do_POST(self):
         question = json.loads(self.rfile.read(int(self.headers["Content-Length"])))
         content = json.dumps(self.server.bank.reply(question)).encode()
         self.send_response(200)
         self.send_header("Content-Length", str(len(content)))
+        self.send_header("Keep-Alive", f"timeout={self.timeout}")
         self.end_headers()
         self.wfile.write(content)
 

@@ -2,8 +2,9 @@
 //! a panel text.
 //!
 //! This crate opens no socket, and it does not write or parse HTTP and JSON (crate `application_http` does).
-//! [`Exchanges`] takes the open questions of an [`AskingServer`], sends each as a request on a stream that the server
-//! connects, and hands the server the answer or the fault. [`Notifications`] tells the application of ended sessions.
+//! [`Exchanges`] takes the open questions of an [`AskingServer`], sends each as a request on a connection that the server
+//! makes or the application keeps, and hands the server the answer or the fault. [`Notifications`] tells the application
+//! of ended sessions.
 //! [`put_question`] prints a question for a script, and [`answer_in`] reads an answer from one. [`host_of`] makes a host
 //! from a panel text, and [`first_asked`] finds a panel that needs an application. `specs/ExchangeTurns` defines a turn
 //! of an exchange; `ApplicationRequests`, `Applications`, `QuestionLines` and `AnswerLines` define the texts, and
