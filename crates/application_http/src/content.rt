@@ -200,8 +200,8 @@ pub(crate) fn kept_in(bytes: &[u8], head: Head, is_over: bool) -> u32
     )
 }
 
-/// The content of the reply that the bytes begin with, by its head; None if it isn't complete yet. `is_closed` says whether the
-/// connection is closed after them, which ends a body without a stated length.
+/// The content of the reply that the bytes begin with, by its head; None if it isn't complete yet. `is_closed` says
+/// whether the connection is closed after them, which ends a body without a stated length.
 pub(crate) fn content_of(
     alloc: Global,
     bytes: &[u8],
