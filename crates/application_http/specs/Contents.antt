@@ -47,8 +47,8 @@ pub record IsHead (bytes : List ℕ) (found : Head) : Type 0 where
   pub framing : found.framing ≡ framing_of head
   pub kept : found.kept ≡ promise_of head
 
--- holds if the bytes begin with a head after which the connection is kept for so many seconds; it is over if it is
--- closed, or if more bytes follow these
+-- holds if the bytes begin with a head after which the connection is kept for this time, in seconds; it is over if it
+-- is closed, or if more bytes follow these
 abbrev pub IsKept : (is_over : Bool) → (bytes : List ℕ) → ℕ → Type 0
 IsKept is_over bytes kept = (head : ResponseHead) × (after : List ℕ) × ReadsResponse bytes head after
     × (kept ≡ kept_after is_over (framing_of head) (length after) (promise_of head))

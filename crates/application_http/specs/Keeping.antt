@@ -38,8 +38,8 @@ persists minor known = not known.close && (nat_lt 0 minor || known.keep_alive)
 abbrev pub kept_by : (minor : ℕ) → KnownFields → List Header → ℕ
 kept_by minor known fields = if persists minor known then promised fields else 0
 
--- the seconds that are left of a promise if so many bytes follow the head: all if they are a body of stated length and
--- the connection isn't over, or none
+-- the seconds that are left of a promise, by the number of bytes after the head: all if they are a body of stated length
+-- and the connection isn't over, or none
 abbrev pub kept_after : (is_over : Bool) → Result Framing FramingError → (received seconds : ℕ) → ℕ
 kept_after is_over (Ok (Length len)) received seconds = if not is_over && (len == received) then seconds else 0
 kept_after is_over _ received seconds = 0

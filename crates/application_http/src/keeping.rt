@@ -69,8 +69,8 @@ pub(crate) fn kept_by(bytes: &[u8], fields: &[HeaderSpan], minor: u8, known: &Kn
     }
 }
 
-/// The seconds that are left of a promise if so many bytes follow the head: all if they are a body of stated length and
-/// the connection isn't over, or none.
+/// The seconds that are left of a promise, by the number of bytes received after the head: all if they are a body of
+/// stated length and the connection isn't over, or none.
 pub(crate) fn kept_after(
     is_over: bool,
     framing: Result<Framing, FramingError>,

@@ -265,7 +265,7 @@ fn texts_at(alloc: Global, value: &Value, key: &str) -> Result<Vec<FieldText>, A
     }
 }
 
-/// The reply that a valid object represents; the connection is kept for so many seconds.
+/// The reply that a valid object represents; the connection is kept for `kept` seconds.
 fn reply_of(alloc: Global, value: &Value, kept: u32) -> Result<Reply, AllocError>
     ensures said { IfOk result (λ reply. answer_in reply ≡ answer_of (view value.now)) }
     ensures kept { IfOk result (λ reply. reply.kept ≡ kept) }
@@ -282,7 +282,7 @@ fn reply_of(alloc: Global, value: &Value, kept: u32) -> Result<Reply, AllocError
     })
 }
 
-/// The reply that a JSON value represents; the connection is kept for so many seconds.
+/// The reply that a JSON value represents; the connection is kept for `kept` seconds.
 fn reply_in(alloc: Global, value: &Value, kept: u32) -> Result<Reply, ReplyFault>
     ensures said { IfOk result (λ reply. SaysIn (view value.now) (answer_in reply)) }
     ensures kept { IfOk result (λ reply. reply.kept ≡ kept) }
@@ -300,7 +300,7 @@ fn reply_in(alloc: Global, value: &Value, kept: u32) -> Result<Reply, ReplyFault
     }
 }
 
-/// The reply that the bytes of a content represent; the connection is kept for so many seconds.
+/// The reply that the bytes of a content represent; the connection is kept for `kept` seconds.
 pub(crate) fn read_reply(alloc: Global, content: &[u8], kept: u32) -> Result<Reply, ReplyFault>
     ensures said { IfOk result (λ reply. Says content.now (answer_in reply)) }
     ensures kept { IfOk result (λ reply. reply.kept ≡ kept) }

@@ -132,7 +132,7 @@ impl<S: RawRead + RawWrite + Drop> Server<S> {
     /// Sets the time after a turn, in milliseconds. If bytes moved or the host acted in the turn (`moved`), or if 100
     /// ms have passed since this was last done, ends each connection whose session the application ends and that waits
     /// for the operator, and applies the time limits to the others. Applying them sends IAC NOP or drops a connection.
-    /// It also sends IAC NOP if bytes were received since and nothing was sent, unless the host is about to decide: the
+    /// It also sends IAC NOP if bytes were received since and nothing was sent, unless the host decides next: the
     /// NOP carries the acknowledgement that the peer's TCP waits for, as the host's decision will. Answers whether it
     /// did something. A fault of the watcher is returned.
     pub fn keep_time<W: Watcher>(
