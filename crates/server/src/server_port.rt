@@ -29,24 +29,14 @@ pub struct PolledListener {
     /// None once the port is closed.
     listener: Option<TcpListener>,
     poll: Poll,
-    /// Whether a client may wait: an event said so, and no call has found since that none does.
-    is_ready: bool,
 }
 
 impl Listener<TcpStream> for PolledListener {
     ghost gave = { λ _ _ _. Unit {0} };
 
     fn accept(&mut self) -> Option<Arrival<TcpStream>> {
-        if !self.is_ready {
+        let Ok((mut socket, peer)) = self.listener.as_ref()?.accept() else {
             return None;
-        }
-        let (mut socket, peer) = match self.listener.as_ref()?.accept() {
-            Ok(arrived) => arrived,
-            Err(error) => {
-                // After any other error clients may still wait, and no further event says so.
-                self.is_ready = error.kind() != ErrorKind::WouldBlock;
-                return None;
-            }
         };
         // Records are short, and their senders wait for answers. If one of these calls fails, the socket is still
         // served.
@@ -71,7 +61,6 @@ fn listen(net: &impl Net, address: SocketAddr) -> io::Result<PolledListener> {
     Ok(PolledListener {
         listener: Some(listener),
         poll,
-        is_ready: true,
     })
 }
 
@@ -142,13 +131,14 @@ impl ServerPort {
         ensures { IfErr result (λ why. why ≡ fault.SocketFailed) }
     {
         self.arrivals.now = now;
-        let listener = &mut self.arrivals.listener;
-        if listener.poll.poll(&mut self.events, Some(timeout)).is_err() {
-            return Err(Fault::SocketFailed);
+        match self
+            .arrivals
+            .listener
+            .poll
+            .poll(&mut self.events, Some(timeout))
+        {
+            Ok(()) => Ok(()),
+            Err(_) => Err(Fault::SocketFailed),
         }
-        for event in self.events.iter() {
-            listener.is_ready |= event.token() == LISTENER;
-        }
-        Ok(())
     }
 }
