@@ -295,7 +295,7 @@ def a_reply_that_breaks_off_is_no_application():
 def a_connection_that_is_kept_has_the_next_question():
     """The operator's next question comes on it, and gets its own reply; another operator's comes on
     a connection of its own. When the operator leaves, the host closes it."""
-    with a_host() as (_, application, first, second):
+    with a_host(OWN) as (_, application, first, second):
         first.presses("enter", "ONE")
         exchange = application.takes()
         exchange.keeps({"message": "FIRST"})
@@ -321,7 +321,7 @@ def a_connection_that_is_not_kept_is_closed():
     that isn't alone; after a fault; and once the time that was promised is over but for a second.
     The next question comes on another connection."""
     kept = "Keep-Alive: timeout=5\r\n"
-    with a_host() as (_, application, first, _):
+    with a_host(OWN) as (_, application, first, _):
         for content in (
             reply({}),
             reply({}, fields="Keep-Alive: timeout=1\r\n"),
@@ -344,7 +344,7 @@ def a_connection_that_is_not_kept_is_closed():
 def a_kept_connection_with_something_on_it_is_not_used():
     """If the application has closed it, or has sent bytes that nobody asked for, the next question
     comes on another connection, once, and gets its own reply."""
-    with a_host() as (_, application, first, _):
+    with a_host(OWN) as (_, application, first, _):
         for unasked in (b"", reply({"message": "NOBODY ASKED"})):
             first.presses("enter", "WORD")
             exchange = application.takes()
