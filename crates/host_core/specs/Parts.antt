@@ -3,7 +3,6 @@ use Rattle.std.specs.Prelude.{◌≡◌, ⊤, ℕ, List, [], ◌++◌, Option, N
 use Rattle.std.specs.declared.alloc.Global.{Global}
 use Rattle.codes3270.specs.Size.{model_2}
 use Rattle.datastream.specs.Grammar.{CommandParts}
-use Rattle.datastream.specs.InboundText.{InboundParts}
 use Rattle.lu_pool.specs.Asking.{answer_to}
 use Rattle.lu_pool.specs.Holders.{granted_if}
 use Rattle.lu_pool.specs.declared.entry.Entry.{Entry}
@@ -17,9 +16,7 @@ use Rattle.host_core.specs.Messages.{ToTerminal}
 use Rattle.host_core.specs.Reports.{Reports, reported}
 use Rattle.host_core.specs.Says.{item_sent}
 use Rattle.host_core.specs.Session.{Session, Pending}
-use Rattle.host_core.specs.Takes.{HostStep, key_data_came, out_of_turn, with_talk}
-use Rattle.host_core.specs.declared.turn.Turn.{Turn}
-use Rattle.host_core.specs.declared.turn.Turn.TheVariants as whose
+use Rattle.host_core.specs.Takes.{with_talk}
 use Rattle.host_core.specs.declared.rejection.Rejection.{Rejection}
 
 -- the write if none waits
@@ -59,8 +56,3 @@ pub record TalkTaken (number : ℕ) (pool : List Entry) (old : Talk HostState) (
   pub pool_is : left ≡ granted_if number grants pool
   pub sent : after.items ≡ before.items ++ sent_bytes (map item_sent sends)
   pub reports : keeps ≡ reported rejects None None kept
-
--- data that is received while no paint or read waits for its answer
-abbrev pub key_data_in_turn : InboundParts → Turn → Session → HostStep
-key_data_in_turn parts whose.Host conn = out_of_turn parts conn
-key_data_in_turn parts whose.Terminal conn = key_data_came parts parts.form conn

@@ -27,7 +27,7 @@ use crate::asking::{has_its_panel, has_value_of, key_of, learn_without};
 use crate::learning::{first_missing, is_in_doubt, learn_all, texts_known};
 use crate::pending::Pending;
 use crate::question::{Answer, Question, Ticket, is_screen_empty, is_ticket};
-use crate::room::{COMMAND_ROOM, READ_BUFFER_ROOM};
+use crate::room::COMMAND_ROOM;
 use crate::sending::panel_in;
 use crate::session::Session;
 use crate::turn::Turn;
@@ -348,51 +348,6 @@ impl Session {
         panels.panels_are_sound();
     }
 
-    /// Sends Read Buffer, if there is room for it.
-    fn read_in_turn(&mut self, out: &mut Vec<u8>) -> Acted
-        requires known { IsOfSize (cells_in self.old.size) self.old.shadow }
-        ensures acted { (app : Application)
-            → DoesOn (Some (done app self.old ActValue.Read)) self.old out.old result self.new out.new }
-        ensures panel { self.new.panel ≡ self.old.panel }
-        ensures size { self.new.size ≡ self.old.size }
-        ensures capacity { vec_capacity out.old ≤ vec_capacity out.new }
-    {
-        if out.reserve(READ_BUFFER_ROOM).is_err() {
-            return Acted::Memory;
-        }
-        self.read(out);
-        Acted::Sent
-    }
-
-    /// Shows a panel, after learning if `learn` is set. The command and values that grow may need memory.
-    fn show_in_turn(
-        &mut self,
-        panels: &PanelSet,
-        shown: Shown,
-        learn: bool,
-        out: &mut Vec<u8>,
-    ) -> Acted
-        requires panel { IsShownOn panels.now self.old }
-        requires known { IsOfSize (cells_in self.old.size) self.old.shadow }
-        requires shows { CanBeShown (length panels.now.panels) shown }
-        ensures acted { DoesOn (Some (done (application_of panels.now) self.old
-            (act_of (values_with (application_of panels.now) self.old learn) shown)))
-            self.old out.old result self.new out.new }
-        ensures panel { IsShownOn panels.now self.new }
-        ensures capacity { vec_capacity out.old ≤ vec_capacity out.new }
-    {
-        if out.reserve(COMMAND_ROOM).is_err() {
-            return Acted::Memory;
-        }
-        self.fields_are_believed(panels);
-        panels.panels_are_sound();
-        if self.learn(panels, learn).is_err() {
-            return Acted::Memory;
-        }
-        self.show(panels, shown, out);
-        Acted::Sent
-    }
-
     /// Acts on what is decided now. Memory is needed only if the value of some field has to grow, or if the command
     /// may not fit into the output's room; if it is refused, nothing has changed.
     pub(crate) fn act(&mut self, panels: &PanelSet, out: &mut Vec<u8>) -> Acted
@@ -403,8 +358,19 @@ impl Session {
     {
         match self.decide(panels) {
             Decision::Nothing | Decision::Ask => Acted::Nothing,
-            Decision::Read => self.read_in_turn(out),
-            Decision::Show { shown, learn } => self.show_in_turn(panels, shown, learn, out),
+            Decision::Read => self.read(out),
+            Decision::Show { shown, learn } => {
+                if out.reserve(COMMAND_ROOM).is_err() {
+                    return Acted::Memory;
+                }
+                self.fields_are_believed(panels);
+                panels.panels_are_sound();
+                if self.learn(panels, learn).is_err() {
+                    return Acted::Memory;
+                }
+                self.show(panels, shown, out);
+                Acted::Sent
+            }
         }
     }
 

@@ -1,5 +1,5 @@
 //! How the host takes a terminal's records: data and responses.
-ghost use Rattle.std.specs.Prelude.{◌≡◌, true, drop, IfNone, unwrap_or};
+ghost use Rattle.std.specs.Prelude.{◌≡◌, true, drop, unwrap_or};
 ghost use Rattle.codes3270.specs.Size.{cells_in};
 ghost use Rattle.codes3270.specs.declared.attention.Aid.TheVariants.{Clear};
 ghost use Rattle.datastream.specs.Grammar.{IsSpelt};
@@ -12,8 +12,9 @@ ghost use Rattle.shadow.specs.Stores.{is_plain};
 ghost use Rattle.tn3270e_msg.specs.Header.{header_length};
 ghost use Rattle.host_core.specs.Items.{IsNoSecondKey, TakesData, TakesRecord, is_paint_or_read, may_be_second_key, second_key_size, verdict_of};
 ghost use Rattle.host_core.specs.Representation.{IsPlainWrite, command_in, silent, step_of};
-ghost use Rattle.host_core.specs.Parts.{IsWrite, key_data_in_turn, write_of};
-ghost use Rattle.host_core.specs.Takes.{believed, buffer_came, buffer_heard, data_came, form_awaited, hears, is_verified, key_data_came, once_read, out_of_turn, rule_broken_by, second_key, refused, response_came, verdict_came};
+ghost use Rattle.host_core.specs.Parts.{IsWrite, write_of};
+ghost use Rattle.host_core.specs.declared.after_record.AfterRecord.TheVariants.{GoesOn};
+ghost use Rattle.host_core.specs.Takes.{believed, buffer_came, data_came, form_awaited, hears, is_verified, once_read, out_of_turn, rule_broken_by, second_key, refused, response_came, verdict_came};
 
 use crate::after_record::AfterRecord;
 use crate::pending::Pending;
@@ -78,22 +79,12 @@ impl Session {
             return AfterRecord::Closes(Cause::BadRecord);
         };
         match header.kind {
-            DataType::Data3270 => self.take_data(body),
+            DataType::Data3270 => match read_inbound(body, self.form_awaited(), self.size()) {
+                Ok(inbound) => self.hear(&inbound),
+                Err(_) => self.take_second_key(body),
+            },
             DataType::Response => AfterRecord::of(self.take_response(&header)),
             _ => AfterRecord::GoesOn,
-        }
-    }
-
-    /// Takes data in the awaited form. Data in another form may be a second key's, or else closes the connection.
-    fn take_data(&mut self, body: &[u8]) -> AfterRecord
-        ensures taken { TakesData self.old body.now (step_of self.new result) }
-        ensures talk { self.new.talk ≡ self.old.talk }
-        ensures panel { self.new.panel ≡ self.old.panel }
-        ensures size { self.new.size ≡ self.old.size }
-    {
-        match read_inbound(body, self.form_awaited(), self.size()) {
-            Ok(inbound) => self.hear(&inbound),
-            Err(_) => self.take_second_key(body),
         }
     }
 
@@ -159,10 +150,21 @@ impl Session {
         ensures size { self.new.size ≡ self.old.size }
     {
         match self.pending {
-            Pending::Reading(_) => self.hear_meanwhile(inbound),
+            Pending::Reading(_) => match inbound.form() {
+                Form::Buffer => self.take_buffer(inbound),
+                Form::Modified | Form::All => self.hear_out_of_turn(inbound),
+            },
             Pending::Writing(_) => self.hear_out_of_turn(inbound),
-            Pending::Nothing => self.hear_in_turn(inbound),
-            Pending::Noting(_) => self.hear_in_turn(inbound),
+            Pending::Nothing | Pending::Noting(_) => match self.turn {
+                Turn::Host => self.hear_out_of_turn(inbound),
+                Turn::Terminal => match inbound.form() {
+                    Form::Modified => match inbound.aid() {
+                        Aid::NoAid => AfterRecord::Closes(Cause::BadInbound),
+                        aid => self.believe(inbound, TurnReason::Key(aid, false)),
+                    },
+                    Form::All | Form::Buffer => AfterRecord::Closes(Cause::BadInbound),
+                },
+            },
         }
     }
 
@@ -218,38 +220,8 @@ impl Session {
         }
     }
 
-    /// Takes data while Read Buffer waits for its answer: the answer, or data out of turn.
-    fn hear_meanwhile(&mut self, inbound: &Inbound<'_>) -> AfterRecord
-        requires size { inbound.now.size ≡ self.old.size }
-        requires known { IsOfSize (cells_in self.old.size) self.old.shadow }
-        ensures came { step_of self.new result ≡ buffer_came inbound.now inbound.now.form self.old }
-        ensures talk { self.new.talk ≡ self.old.talk }
-        ensures panel { self.new.panel ≡ self.old.panel }
-        ensures size { self.new.size ≡ self.old.size }
-    {
-        match inbound.form() {
-            Form::Buffer => self.take_buffer(inbound),
-            Form::Modified => self.hear_out_of_turn(inbound),
-            Form::All => self.hear_out_of_turn(inbound),
-        }
-    }
-
-    /// Takes data while no paint or read is pending: in the terminal's turn a key's, in the host's out of turn.
-    fn hear_in_turn(&mut self, inbound: &Inbound<'_>) -> AfterRecord
-        requires size { inbound.now.size ≡ self.old.size }
-        requires known { IsOfSize (cells_in self.old.size) self.old.shadow }
-        ensures came { step_of self.new result ≡ key_data_in_turn inbound.now self.old.turn self.old }
-        ensures talk { self.new.talk ≡ self.old.talk }
-        ensures panel { self.new.panel ≡ self.old.panel }
-        ensures size { self.new.size ≡ self.old.size }
-    {
-        match self.turn {
-            Turn::Host => self.hear_out_of_turn(inbound),
-            Turn::Terminal => AfterRecord::of(self.hear_key(inbound)),
-        }
-    }
-
-    /// Takes the answer to Read Buffer: it is believed, unless it shows that the terminal broke a rule.
+    /// Takes the answer to Read Buffer, after which no command waits. It is believed, unless it shows that the terminal
+    /// broke a rule.
     fn take_buffer(&mut self, inbound: &Inbound<'_>) -> AfterRecord
         requires form { inbound.now.form ≡ Buffer }
         requires size { inbound.now.size ≡ self.old.size }
@@ -261,7 +233,13 @@ impl Session {
     {
         match self.rule_broken_by(inbound) {
             Some(broken) => AfterRecord::Breaks(broken),
-            None => AfterRecord::of(self.hear_buffer(inbound)),
+            None => {
+                let after = self.believe(inbound, once_read(self.turn_reason));
+                if let AfterRecord::GoesOn = after {
+                    self.pending = Pending::Nothing;
+                }
+                after
+            }
         }
     }
 
@@ -286,51 +264,16 @@ impl Session {
         }
     }
 
-    /// Believes the answer to Read Buffer, after which no command waits.
-    fn hear_buffer(&mut self, inbound: &Inbound<'_>) -> Option<Cause>
-        requires form { inbound.now.form ≡ Buffer }
-        requires size { inbound.now.size ≡ self.old.size }
-        requires known { IsOfSize (cells_in self.old.size) self.old.shadow }
-        ensures came { silent self.new result ≡ buffer_heard inbound.now self.old }
-        ensures talk { self.new.talk ≡ self.old.talk }
-        ensures panel { self.new.panel ≡ self.old.panel }
-        ensures size { self.new.size ≡ self.old.size }
-    {
-        let cause = self.believe(inbound, once_read(self.turn_reason));
-        if cause.is_none() {
-            self.pending = Pending::Nothing;
-        }
-        cause
-    }
-
-    /// Takes a key's data in the terminal's turn, which makes the turn the host's.
-    fn hear_key(&mut self, inbound: &Inbound<'_>) -> Option<Cause>
-        requires size { inbound.now.size ≡ self.old.size }
-        requires known { IsOfSize (cells_in self.old.size) self.old.shadow }
-        ensures came { silent self.new result ≡ key_data_came inbound.now inbound.now.form self.old }
-        ensures talk { self.new.talk ≡ self.old.talk }
-        ensures panel { self.new.panel ≡ self.old.panel }
-        ensures size { self.new.size ≡ self.old.size }
-    {
-        let Form::Modified = inbound.form() else {
-            return Some(Cause::BadInbound);
-        };
-        match inbound.aid() {
-            Aid::NoAid => Some(Cause::BadInbound),
-            aid => self.believe(inbound, TurnReason::Key(aid, false)),
-        }
-    }
-
     /// Believes inbound data, and makes the turn the host's for this reason. What is pending stays so.
-    fn believe(&mut self, inbound: &Inbound<'_>, turn_reason: TurnReason) -> Option<Cause>
+    fn believe(&mut self, inbound: &Inbound<'_>, turn_reason: TurnReason) -> AfterRecord
         requires size { inbound.now.size ≡ self.old.size }
         requires known { IsOfSize (cells_in self.old.size) self.old.shadow }
-        ensures came { silent self.new result
+        ensures came { step_of self.new result
             ≡ believed turn_reason self.old.pending inbound.now.cursor self.old (hears inbound.now self.old) }
         ensures talk { self.new.talk ≡ self.old.talk }
         ensures panel { self.new.panel ≡ self.old.panel }
         ensures size { self.new.size ≡ self.old.size }
-        ensures known { IfNone result (IsOfSize (cells_in self.new.size) self.new.shadow) }
+        ensures known { result ≡ GoesOn → IsOfSize (cells_in self.new.size) self.new.shadow }
     {
         // What is sent can be stored, and so what is believed of it; and that has its size.
         what_is_believed_can_be_stored();
@@ -339,12 +282,12 @@ impl Session {
         // For the contract: the data has a form that terminals send.
         let _is_sent = inbound.form();
         if self.shadow.heard(inbound).is_err() {
-            return Some(Cause::BadInbound);
+            return AfterRecord::Closes(Cause::BadInbound);
         }
         self.turn = Turn::Host;
         self.turn_reason = turn_reason;
         self.cursor = cursor;
-        None
+        AfterRecord::GoesOn
     }
 
     // ---- responses

@@ -1,6 +1,6 @@
 //! Serving connections, a turn at a time.
 ghost use Rattle.std.specs.Prelude.{◌≡◌, ◌≢◌, ◌<◌, ◌↔◌};
-ghost use Rattle.host_core.specs.Serves.{Serves, Receives, ReceiveCounts, Responds, SendsOut, SendCounts, IsLost, OthersCount};
+ghost use Rattle.host_core.specs.Serves.{Serves, Receives, ReceiveCounts, SendsOut, SendCounts, IsLost, OthersCount};
 ghost use Rattle.host_core.specs.State.{most_connections, state_at, phase_of};
 ghost use Rattle.host_core.specs.declared.serving.Served.TheVariants as served;
 
@@ -58,21 +58,6 @@ fn receive<L: Links>(links: &mut L, conn: usize, buffer: &mut [u8]) -> Option<us
     }
 }
 
-/// Feeds the host the bytes, lets it act, and keeps the event that it asks. Answers false if memory was refused.
-fn respond(host: &mut Host, conn: usize, bytes: &[u8]) -> bool
-    requires number { conn < most_connections }
-    ensures { Responds conn host.old bytes.now result host.new }
-{
-    if let Stop::Memory = host.feed(conn, bytes).stop {
-        return false;
-    }
-    if let Acted::Memory = host.act(conn) {
-        return false;
-    }
-    host.keep_asked(conn);
-    true
-}
-
 /// Serves a connection, whose number must be below 64, for a turn: reads it once, into a buffer of [`READ_ROOM`] bytes,
 /// feeds the host, lets it act, and hands the output to one write. If the read ended or failed, nothing else is done.
 ///
@@ -90,9 +75,13 @@ pub fn serve_turn<L: Links>(host: &mut Host, links: &mut L, conn: usize) -> Serv
     let Some(count) = receive(links, conn, &mut buffer) else {
         return Served::Lost;
     };
-    if !respond(host, conn, &buffer[..count]) {
+    if let Stop::Memory = host.feed(conn, &buffer[..count]).stop {
         return Served::Memory;
     }
+    if let Acted::Memory = host.act(conn) {
+        return Served::Memory;
+    }
+    host.keep_asked(conn);
     if send_out(host, links, conn) && !host.phase(conn).is_closed() {
         Served::Going
     } else {

@@ -29,7 +29,7 @@ use crate::asking::remove_values;
 use crate::laws::panels_are_shown;
 use crate::noting::put_note;
 use crate::pending::Pending;
-use crate::room::{NOTE_ROOM, RECORD_ROOM};
+use crate::room::{NOTE_ROOM, READ_BUFFER_ROOM, RECORD_ROOM};
 use crate::sending::{begin_record, panel_in, put_read_buffer, send_record};
 use crate::terminals::Terminals;
 use crate::turn::Turn;
@@ -202,20 +202,24 @@ impl Session {
         Acted::Sent
     }
 
-    /// Sends Read Buffer; the whole screen is awaited.
-    pub(crate) fn read(&mut self, out: &mut Vec<u8>)
-        requires room { HasRoomFor read_buffer_room out.old }
+    /// Sends Read Buffer, if there is room for it; the whole screen is awaited.
+    pub(crate) fn read(&mut self, out: &mut Vec<u8>) -> Acted
         requires known { IsOfSize (cells_in self.old.size) self.old.shadow }
-        ensures sent { (app : Application) → IsSentOn (done app self.old ActValue.Read) out.old out.new self.new }
+        ensures acted { (app : Application)
+            → DoesOn (Some (done app self.old ActValue.Read)) self.old out.old result self.new out.new }
         ensures panel { self.new.panel ≡ self.old.panel }
         ensures size { self.new.size ≡ self.old.size }
         ensures capacity { vec_capacity out.old ≤ vec_capacity out.new }
     {
+        if out.reserve(READ_BUFFER_ROOM).is_err() {
+            return Acted::Memory;
+        }
         begin_record(&mut self.sent, ERROR_RESPONSE, self.next_seq);
         put_read_buffer(&mut self.sent);
         send_record(self.sent.as_slice(), out);
         self.pending = Pending::Reading(self.next_seq);
         self.next_seq = next_seq(self.next_seq);
+        Acted::Sent
     }
 
     /// What is asked for, with the panel in the form for the terminal's model: the panel itself, or its `otherwise`.
@@ -290,20 +294,6 @@ impl Session {
         }
     }
 
-    /// Shows a panel, in the form for the terminal's model, with a message and the values of fields. The session has
-    /// that panel's size from then on, before the command is answered.
-    pub(crate) fn show(&mut self, panels: &PanelSet, asked: Shown, out: &mut Vec<u8>)
-        requires asked { CanBeShown (length panels.now.panels) asked }
-        requires room { HasRoomFor command_room out.old }
-        ensures sent { IsSentOn (done (application_of panels.now) self.old (act_of self.old.values asked)) out.old
-            out.new self.new }
-        ensures panel { IsShownOn panels.now self.new }
-        ensures capacity { vec_capacity out.old ≤ vec_capacity out.new }
-    {
-        self.forget_unheard();
-        self.paint(panels, asked, out);
-    }
-
     /// Drops a panel's own values if it is shown fresh, so that it shows nothing of an earlier time.
     fn drop_values(&mut self, panels: &PanelSet, shown: &Shown)
         requires { shown.now.panel < length panels.now.panels }
@@ -322,15 +312,17 @@ impl Session {
         }
     }
 
-    /// Paints a panel over the belief, in the form for the terminal's model, with a message and the values of fields.
-    fn paint(&mut self, panels: &PanelSet, asked: Shown, out: &mut Vec<u8>)
+    /// Shows a panel, in the form for the terminal's model, with a message and the values of fields. The session has
+    /// that panel's size from then on, before the command is answered.
+    pub(crate) fn show(&mut self, panels: &PanelSet, asked: Shown, out: &mut Vec<u8>)
         requires asked { CanBeShown (length panels.now.panels) asked }
         requires room { HasRoomFor command_room out.old }
-        ensures sent { IsSentOn (painted (application_of panels.now) self.old asked.panel asked.message asked.keep
-            self.old.values) out.old out.new self.new }
+        ensures sent { IsSentOn (done (application_of panels.now) self.old (act_of self.old.values asked)) out.old
+            out.new self.new }
         ensures panel { IsShownOn panels.now self.new }
         ensures capacity { vec_capacity out.old ≤ vec_capacity out.new }
     {
+        self.forget_unheard();
         what_is_wanted_is_painted();
         let shown = self.for_model(panels, asked);
         self.drop_values(panels, &shown);
