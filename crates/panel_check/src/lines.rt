@@ -101,10 +101,9 @@ impl Lines {
 
     /// Walks over a header, from after its first bracket on.
     fn header<'t>(&mut self, text: &'t str) -> Result<&'t str, ParseError> {
-        let element = text.strip_prefix('[');
         self.path.clear();
-        let after = self.key(skip_ws(element.unwrap_or(text)))?;
-        if element.is_some() {
+        let after = self.key(skip_ws(text.trim_start_matches('[')))?;
+        if text.starts_with('[') {
             self.next_element("{")?;
         }
         self.open.clear();

@@ -1,9 +1,9 @@
 //! Where texts and fields are on the screens of their panels, names that must be those of a panel or a field, and panels
 //! that no keys lead to.
 use crate::report::Cause;
-use crate::words::{Cut, Done, Place, Words, say, text_at};
+use crate::words::{Cut, Done, Place, Words, say, shown_in};
 use panels::{Draft, Extent, ItemDraft, Location, PanelDraft};
-use std::alloc::AllocError;
+use std::fmt::Display;
 
 /// Adds the names of a panel's fields; if `stems`, as their tables have them, without the number of a copy.
 fn add_fields<'s>(names: &mut Vec<&'s str>, panel: &'s PanelDraft, stems: bool) -> Done {
@@ -13,6 +13,15 @@ fn add_fields<'s>(names: &mut Vec<&'s str>, panel: &'s PanelDraft, stems: bool) 
         }
     }
     Ok(())
+}
+
+/// An item of a panel: its texts count first, then its fields, and then its values.
+fn item_at(panel: usize, draft: &PanelDraft, place: usize) -> Location {
+    if place < draft.texts.len() {
+        Location::Text(panel, place)
+    } else {
+        Location::Field(panel, place - draft.texts.len())
+    }
 }
 
 impl<'s, 'a> Words<'s, 'a> {
@@ -27,12 +36,13 @@ impl<'s, 'a> Words<'s, 'a> {
         let (row, column, length) = (item.row, item.column, item.length);
         let (size, copy) = (self.draft.size(self.part), item.copy.unwrap_or(0));
         let (rows, columns) = (size.rows().saturating_sub(1), size.cols());
+        let (rows, columns, copy) = (i64::from(rows), i64::from(columns), i64::from(copy));
         if 1 <= copy {
-            let (copy, row) = (u16::from(copy) + 1, row.saturating_add(i64::from(copy)));
+            let (copy, row) = (copy.saturating_add(1), row.saturating_add(copy));
             say!(self, "repeat"; "copy {copy} is in row {row}, and must end in rows 1 to {rows}")
-        } else if !(1..=i64::from(rows)).contains(&row) {
+        } else if row < 1 || rows < row {
             say!(self, "row"; "is not in rows 1 to {rows}")
-        } else if !(1..=i64::from(columns)).contains(&column) {
+        } else if column < 1 || columns < column {
             say!(self, "col"; "is not in columns 1 to {columns}")
         } else if row == 1 && column == 1 {
             say!(self, "col"; "has no cell for its attribute: in row 1 the first column is 2")
@@ -46,42 +56,41 @@ impl<'s, 'a> Words<'s, 'a> {
         }
     }
 
-    /// The texts of a panel, then its fields, and then its values.
-    fn items(&self, index: usize) -> Result<Vec<Location>, AllocError> {
-        let mut items = Vec::new(self.lines.alloc);
-        if let Some(panel) = self.draft.panel(index) {
-            for text in 0..panel.texts.len() {
-                items.push(Location::Text(index, text))?;
-            }
-            for field in 0..panel.fields.len() {
-                items.push(Location::Field(index, field))?;
+    /// The first item of the panel that shares a cell with the part, which may be the part itself.
+    fn overlapped(&self) -> Option<Location> {
+        let (draft, index) = (self.draft, self.part.panel()?);
+        let (own, panel) = (self.extent(self.part)?, draft.panel(index)?);
+        for place in 0..panel.texts.len().saturating_add(panel.fields.len()) {
+            let other = item_at(index, panel, place);
+            match self.extent(other) {
+                Some(extent) if extent.meets(own) => return Some(other),
+                _ => (),
             }
         }
-        Ok(items)
+        None
     }
 
     /// Says with which earlier item of its panel a text or a field shares a cell, and that item's line.
     pub(crate) fn overlap(&mut self) -> Done {
-        let (Some(own), Some(panel)) = (self.extent(self.part), self.part.panel()) else {
+        let Some(other) = self.overlapped() else {
             return Ok(());
         };
-        let mut items = self.items(panel)?.into_iter();
-        let other = items.find(|other| self.extent(*other).is_some_and(|other| other.meets(own)));
-        let other = other.unwrap_or(self.part);
-        if self.draft.table(other) == self.draft.table(self.part) {
+        let table = self.draft.table(other);
+        if table == self.draft.table(self.part) {
             return say!(self, ""; "two of its copies share a cell");
         }
-        let (place, line) = (Place(self.draft, other), self.line(other, "")?);
+        let (place, line) = (Place(self.draft, other), self.lines.of_key(table, "")?);
         say!(self, ""; "shares a cell with {place}, in line {line}")
     }
 
     /// Warns of each text or field that lies above the last row and has what the cause says, once for all copies.
     pub(crate) fn warn_of_items(&mut self) -> Done {
         let draft = self.draft;
-        for panel in 0..draft.panels.len() {
-            for part in self.items(panel)? {
-                self.part = part;
-                match (self.extent(part), draft.item(part)) {
+        for index in 0..draft.panels.len() {
+            let panel = &draft.panels[index];
+            for place in 0..panel.texts.len().saturating_add(panel.fields.len()) {
+                self.part = item_at(index, panel, place);
+                match (self.extent(self.part), draft.item(self.part)) {
                     (Some(_), Some(item)) if item.copy.unwrap_or(0) == 0 => self.warn_of(item)?,
                     _ => (),
                 }
@@ -103,68 +112,61 @@ impl<'s, 'a> Words<'s, 'a> {
         }
     }
 
-    /// Says which names in the text's own table, or in one of a panel or its keys, are of no panel or field although they
-    /// must be.
-    pub(crate) fn no_target(&mut self, panel: Option<&PanelDraft>) -> Done {
-        match (self.part, panel) {
-            (Location::Panel(_), Some(panel)) => {
-                let mut fields = Vec::new(self.lines.alloc);
-                add_fields(&mut fields, panel, false)?;
-                self.lost("cursor", "field of this panel", &fields)?;
-                match panel.model {
-                    2 => Ok(()),
-                    _ => self.lost_panel("otherwise"),
-                }
-            }
-            (_, Some(panel)) => {
-                for key in &panel.keys {
-                    self.lost_panel(key.0)?;
-                }
-                Ok(())
-            }
-            (_, None) => self.lost_panel("start"),
+    /// Says that a panel's cursor names no field, or `otherwise` no panel of model 2, if it is so.
+    pub(crate) fn no_target(&mut self, panel: &'s PanelDraft<'a>) -> Done {
+        if let Some(field) = panel.cursor {
+            add_fields(&mut self.known, panel, false)?;
+            self.lost("cursor", field, "'cursor' names no field of this panel:")?;
         }
+        if panel.model == 2 || !panel.has_otherwise {
+            return Ok(());
+        }
+        self.know_panels(true)?;
+        let name = panel.otherwise;
+        if !self.known.contains(&name) && self.draft.panel_named(name).is_some() {
+            return say!(self, "otherwise";
+                "'otherwise' must name a panel of model 2, and '{}' is of another model", Cut(name));
+        }
+        self.lost("otherwise", name, "'otherwise' names no panel:")
+    }
+
+    /// Says which of a panel's keys lead to no panel.
+    pub(crate) fn lost_keys(&mut self, panel: &PanelDraft) -> Done {
+        self.know_panels(false)?;
+        for key in &panel.keys {
+            self.lost(key.0, key.1, format_args!("'{}' names no panel:", key.0))?;
+        }
+        Ok(())
     }
 
     /// Says that a text, or a copy of it, shows no field. Fields with a similar name in their tables may be meant.
     pub(crate) fn lost_shown(&mut self, item: &ItemDraft) -> Done {
         let draft = self.draft;
-        let mut known = Vec::new(self.lines.alloc);
         for panel in &draft.panels {
-            add_fields(&mut known, panel, item.copy.is_some())?;
+            add_fields(&mut self.known, panel, item.copy.is_some())?;
         }
         let message = format_args!("'show' names no field: '{}'", Cut(item.show.as_str()));
-        self.say_near("show", self.text("show"), &known, message)
+        self.say_near("show", shown_in(item).unwrap_or(""), message)
     }
 
-    /// Says that the name at a key is of no panel, if that is so.
-    fn lost_panel(&mut self, key: &str) -> Done {
-        // The panel of a session of another model must be of model 2.
-        let (draft, is_base) = (self.draft, matches!(self.part, Location::Panel(_)));
-        let mut known = Vec::new(self.lines.alloc);
+    /// Takes the names of all panels for known ones, or of those of model 2.
+    pub(crate) fn know_panels(&mut self, only_base: bool) -> Done {
+        let draft = self.draft;
+        self.known.clear();
         for panel in &draft.panels {
-            if panel.model == 2 || !is_base {
-                known.push(panel.name)?;
+            if panel.model == 2 || !only_base {
+                self.known.push(panel.name)?;
             }
         }
-        self.lost(key, "panel", &known)
+        Ok(())
     }
 
-    /// Says that the name at a key is none of these, which are of panels or fields, if that is so.
-    fn lost(&mut self, key: &str, kind: &str, known: &[&str]) -> Done {
-        let Some(text) = text_at(self.draft, self.part, key) else {
-            return Ok(());
-        };
-        let name = Cut(text);
-        if (&*known).contains(&text) {
+    /// Says this of a name at a key, unless the name is known.
+    pub(crate) fn lost(&mut self, key: &str, name: &str, what: impl Display + Drop) -> Done {
+        if self.known.contains(&name) {
             return Ok(());
         }
-        if key == "otherwise" && self.draft.panel_named(text).is_some() {
-            return say!(self, key;
-                "'otherwise' must name a panel of model 2, and '{name}' is of another model");
-        }
-        let message = format_args!("'{key}' names no {kind}: '{name}'");
-        self.say_near(key, text, known, message)
+        self.say_near(key, name, format_args!("{what} '{}'", Cut(name)))
     }
 
     /// Warns of each panel that no keys lead to, unless an application may show it.
@@ -188,9 +190,10 @@ fn add_reached(reached: &mut Vec<usize>, draft: &Draft) -> Done {
         add_panel(reached, draft.panel_named(draft.start))?;
     }
     for place in 0..draft.panels.len() {
-        // There is no panel at the index past the last one.
-        let index = reached.get(place).copied().unwrap_or(draft.panels.len());
-        let Some(panel) = draft.panel(index) else {
+        let Some(index) = reached.get(place) else {
+            break;
+        };
+        let Some(panel) = draft.panel(*index) else {
             break;
         };
         if !panel.asks.is_empty() {

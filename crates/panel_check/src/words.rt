@@ -9,7 +9,8 @@ use lu_pool::PoolFault;
 use panels::TreeFault::*;
 use panels::rules::{KeyKind, KeyRule, knows_key, table_rules};
 use panels::{
-    Draft, ItemDraft, Location, MOST_FIELDS, MOST_PANELS, MOST_TEXTS, PanelDraft, key_names,
+    Draft, ItemDraft, Location, MOST_FIELDS, MOST_PANELS, MOST_TEXTS, PanelDraft, TreeFault,
+    key_names,
 };
 use std::alloc::AllocError;
 use std::fmt::{self, Display};
@@ -36,53 +37,41 @@ impl fmt::Display for Cut<'_> {
     }
 }
 
-/// The table of a part, if there is one.
-pub(crate) fn table_at<'a>(draft: &Draft<'a>, part: Location) -> Option<&'a Table> {
-    match part {
-        Location::Top => Some(draft.table),
-        Location::Panel(panel) => Some(draft.panel(panel)?.table),
-        Location::Keys(panel) => draft.panel(panel)?.table.get("keys")?.as_table(),
-        _ => Some(draft.item(part)?.table),
+/// The name of the field that an item's table shows, without a copy's number.
+pub(crate) fn shown_in<'a>(item: &ItemDraft<'a>) -> Option<&'a str> {
+    match item.table.get("show") {
+        Some(Value::String(name)) => Some(name.as_str()),
+        _ => None,
     }
-}
-
-/// The string at a key of a part's table.
-pub(crate) fn text_at<'a>(draft: &Draft<'a>, part: Location, key: &str) -> Option<&'a str> {
-    table_at(draft, part)?.get(key)?.as_str()
 }
 
 /// How messages name a table, as `panel MENU, field option`; nothing for the text's own table.
 #[derive(Clone, Copy)]
 pub(crate) struct Place<'s, 'a>(pub &'s Draft<'a>, pub Location);
 
-/// Prints a table's name, or its number from 1 on if it has none.
-fn put_named<W: fmt::Write>(
-    f: &mut fmt::Formatter<W>,
-    kind: &str,
-    name: Option<&str>,
-    index: usize,
-) -> fmt::Result {
-    match name {
-        Some(name) => write!(f, "{kind} {}", Cut(name)),
-        None => write!(f, "{kind} #{}", index.saturating_add(1)),
-    }
-}
-
 impl fmt::Display for Place<'_, '_> {
     fn fmt<W: fmt::Write>(&self, f: &mut fmt::Formatter<W>) -> fmt::Result {
         let Place(draft, part) = *self;
-        let (name, show) = (text_at(draft, part, "name"), text_at(draft, part, "show"));
-        if let Some(panel) = part.panel() {
-            let name = text_at(draft, Location::Panel(panel), "name");
-            put_named(f, "panel", name, panel)?;
+        if let Some(index) = part.panel() {
+            match draft.panel(index) {
+                Some(panel) if panel.is_named => write!(f, "panel {}", Cut(panel.name))?,
+                _ => write!(f, "panel #{}", index.saturating_add(1))?,
+            }
         }
-        match (draft.table(part), text_at(draft, part, "text")) {
-            (Location::Text(_, _), Some(text)) => write!(f, ", text '{}'", Cut(text)),
-            (Location::Text(_, _), _) if show.is_some() => put_named(f, ", show", show, 0),
-            (Location::Text(_, index), _) => put_named(f, ", text", None, index),
-            (Location::Field(_, index), _) => put_named(f, ", field", name, index),
-            (Location::Value(_, index), _) => put_named(f, ", value", name, index),
-            _ => Ok(()),
+        let Some(item) = draft.item(part) else {
+            return Ok(());
+        };
+        let own_name = if item.is_named { Some(item.stem) } else { None };
+        let (kind, name) = match (part, item.text) {
+            (Location::Text(_, _), Some(text)) => return write!(f, ", text '{}'", Cut(text)),
+            (Location::Text(_, _), None) if item.has_show => ("show", shown_in(item)),
+            (Location::Text(_, _), None) => ("text", None),
+            _ if item.is_value => ("value", own_name),
+            _ => ("field", own_name),
+        };
+        match name {
+            Some(name) => write!(f, ", {kind} {}", Cut(name)),
+            None => write!(f, ", {kind} #{}", item.index.saturating_add(1)),
         }
     }
 }
@@ -99,6 +88,8 @@ pub(crate) struct Words<'s, 'a> {
     pub lines: &'s Lines,
     pub part: Location,
     pub cause: Cause,
+    /// The words that may be meant by one that isn't among them.
+    pub known: Vec<&'s str>,
     found: Vec<Said>,
 }
 
@@ -124,6 +115,7 @@ pub(crate) fn words_on(draft: &Draft, lines: &Lines, cause: Cause) -> Result<Vec
         lines,
         part,
         cause,
+        known: Vec::new(lines.alloc),
         found: Vec::new(lines.alloc),
     };
     words.tell()?;
@@ -138,25 +130,21 @@ impl<'s, 'a> Words<'s, 'a> {
     pub fn say(&mut self, key: impl Display + Drop, message: impl Display + Drop) -> Done
         ensures { OnOk result (1 ≤ length self.new.found.items) }
     {
-        let (line, place) = (self.line(self.part, key)?, Place(self.draft, self.part));
-        let behind = if self.part == Location::Top { "" } else { ": " };
+        let line = self.lines.of_key(self.draft.table(self.part), key)?;
+        let place = Place(self.draft, self.part);
+        let is_top = matches!(self.part, Location::Top);
+        let behind = if is_top { "" } else { ": " };
         let words = format!(in self.lines.alloc; "{place}{behind}{message}")?;
         self.found.push((line, words))?;
         Ok(())
     }
 
-    /// Says this of a word, and the most similar of the first 500 known words of at most 40 bytes, if one is similar.
-    pub fn say_near(
-        &mut self,
-        key: &str,
-        word: &str,
-        known: &[&str],
-        message: impl Display + Drop,
-    ) -> Done {
+    /// Says this of a word, and the most similar of the first 500 known ones of at most 40 bytes, if one is similar.
+    pub fn say_near(&mut self, key: &str, word: &str, message: impl Display + Drop) -> Done {
         // One edit in three letters. A word of more than 40 bytes is similar to none.
         let (mut guess, mut most) = (None, word.len() / 3 + 1);
-        let is_short = word.len() <= MOST_PRINTED && !(&*known).contains(&word);
-        let short = known.iter().filter(|it| it.len() <= MOST_PRINTED);
+        let is_short = word.len() <= MOST_PRINTED && !self.known.contains(&word);
+        let short = self.known.iter().filter(|it| it.len() <= MOST_PRINTED);
         for it in short.take(if is_short { 500 } else { 0 }) {
             let distance = osa_distance(self.lines.alloc, word, *it)?;
             if distance <= most && distance < it.len() {
@@ -170,62 +158,82 @@ impl<'s, 'a> Words<'s, 'a> {
         }
     }
 
-    /// The line of a key in a part's table; the table's own line if it has no such key.
-    pub fn line(&self, part: Location, key: impl Display + Drop) -> Result<usize, AllocError> {
-        self.lines.of_key(self.draft.table(part), key)
-    }
-
-    /// The string at one of the part's keys; empty if there is none.
-    pub fn text(&self, key: &str) -> &'a str {
-        text_at(self.draft, self.part, key).unwrap_or("")
-    }
-
     fn tell(&mut self) -> Done {
-        let (draft, part, name) = (self.draft, self.part, Cut(self.text("name")));
-        let panel = part.panel().and_then(|index| draft.panel(index));
-        match (self.cause, panel, draft.item(part)) {
+        let (draft, part) = (self.draft, self.part);
+        match (self.cause, draft.item(part), part.panel()) {
+            (Cause::Tree(fault, _), Some(item), _) => self.tell_item(fault, item),
+            (Cause::Tree(fault, _), None, Some(index)) => self.tell_panel(fault, index),
+            (Cause::Tree(UnknownKey | Missing | BadKind, _), None, None) => self.keys(draft.table),
+            (Cause::Tree(TooMany, _), None, None) => {
+                self.most(draft.table, "panel", draft.panels.len(), MOST_PANELS)
+            }
+            (Cause::Tree(_, _), None, None) if draft.has_start => {
+                self.know_panels(false)?;
+                self.lost("start", draft.start, "'start' names no panel:")
+            }
             (Cause::Lus(fault), _, _) => self.lu_fault(fault),
             (Cause::TextWraps | Cause::FillNotNumeric, _, _) => self.warn_of_items(),
             (Cause::NoKeyLeads, _, _) => self.unreached(),
-            (Cause::Tree(UnknownKey | Missing | BadKind, _), _, _) => self.keys(),
-            (Cause::Tree(TooMany, _), Some(panel), _) => {
-                self.most("text", panel.texts.len(), MOST_TEXTS)?;
-                self.most("field", panel.fields.len(), MOST_FIELDS)
+            (Cause::NotToml | Cause::Tree(_, _), _, _) => Ok(()),
+        }
+    }
+
+    fn tell_item(&mut self, fault: TreeFault, item: &'s ItemDraft<'a>) -> Done {
+        match fault {
+            UnknownKey | Missing | BadKind => self.keys(item.table),
+            BadName => say!(self, "name";
+                "bad name '{}': a name has 1 to 16 of a-z, 0-9 and _", Cut(item.stem)),
+            TwiceNamed => self.named_twice(item.stem, item.name.as_str()),
+            OutOfPlace => self.misplaced(item),
+            Overlap => self.overlap(),
+            NoCode => {
+                self.no_code("text", item.text.unwrap_or(""))?;
+                self.no_code("label", item.label)?;
+                self.no_code("fill", item.fill)
             }
-            (Cause::Tree(TooMany, _), _, _) => self.most("panel", draft.panels.len(), MOST_PANELS),
-            (Cause::Tree(BadName, Location::Panel(_)), _, _) => say!(self, "name";
-                "bad name '{name}': a name has 1 to 16 of A-Z and 0-9"),
-            (Cause::Tree(BadName, _), _, _) => say!(self, "name";
-                "bad name '{name}': a name has 1 to 16 of a-z, 0-9 and _"),
-            (Cause::Tree(BadKey, Location::Keys(at)), Some(it), _) => self.bad_keys(at, it),
-            (Cause::Tree(TwiceNamed, Location::Keys(at)), Some(it), _) => self.asked_twice(at, it),
-            (Cause::Tree(TwiceNamed, _), _, item) => self.named_twice(item),
-            (Cause::Tree(BadModel, _), Some(panel), _) =>
-                say!(self, "model"; "'model' must be 2, 3, 4 or 5, not {}", panel.model),
-            (Cause::Tree(OutOfPlace, _), _, Some(item)) => self.misplaced(item),
-            (Cause::Tree(Overlap, _), _, _) => self.overlap(),
-            (Cause::Tree(NoCode, _), _, _) => self.no_code(),
-            (Cause::Tree(NoTarget, _), _, Some(item)) => self.lost_shown(item),
-            (Cause::Tree(NoTarget, _), panel, _) => self.no_target(panel),
-            (Cause::NotToml | Cause::Tree(BadKey | BadModel | OutOfPlace, _), _, _) => Ok(()),
+            NoTarget => self.lost_shown(item),
+            TooMany | BadKey | BadModel => Ok(()),
+        }
+    }
+
+    fn tell_panel(&mut self, fault: TreeFault, index: usize) -> Done {
+        let Some(panel) = self.draft.panel(index) else {
+            return Ok(());
+        };
+        let is_keys = matches!(self.part, Location::Keys(_));
+        match fault {
+            UnknownKey | Missing | BadKind if is_keys => match panel.table.get("keys") {
+                Some(Value::Table(keys)) => self.keys(keys),
+                _ => Ok(()),
+            },
+            UnknownKey | Missing | BadKind => self.keys(panel.table),
+            TooMany => {
+                self.most(panel.table, "text", panel.texts.len(), MOST_TEXTS)?;
+                self.most(panel.table, "field", panel.fields.len(), MOST_FIELDS)
+            }
+            BadName => say!(self, "name";
+                "bad name '{}': a name has 1 to 16 of A-Z and 0-9", Cut(panel.name)),
+            BadKey => self.bad_keys(index, panel),
+            TwiceNamed if is_keys => self.asked_twice(index, panel),
+            TwiceNamed => self.named_twice(panel.name, panel.name),
+            BadModel => say!(self, "model"; "'model' must be 2, 3, 4 or 5, not {}", panel.model),
+            NoTarget if is_keys => self.lost_keys(panel),
+            NoTarget => self.no_target(panel),
+            OutOfPlace | Overlap | NoCode => Ok(()),
         }
     }
 
     /// Says which keys of a table are wrong or absent, and which of its values have wrong types.
-    fn keys(&mut self) -> Done {
-        let Some(table) = table_at(self.draft, self.part) else {
-            return Ok(());
-        };
+    fn keys(&mut self, table: &'a Table) -> Done {
         let rules = table_rules(self.draft.table(self.part), table);
+        for rule in rules {
+            self.known.push(rule.key())?;
+        }
         for (key, value) in table.iter() {
             let key = key.as_str();
-            match self.part {
-                Location::Keys(_) if value.is_str() => Ok(()),
-                Location::Keys(_) => say!(self, key;
-                    "a key must have the name of a panel, not {}", value.type_str()),
-                _ if knows_key(rules, key) => Ok(()),
-                _ => self.unknown(key, rules),
-            }?;
+            if !knows_key(rules, key) {
+                self.unknown(key, value)?;
+            }
         }
         for rule in rules {
             self.breach(rule, table)?;
@@ -233,14 +241,14 @@ impl<'s, 'a> Words<'s, 'a> {
         Ok(())
     }
 
-    fn unknown(&mut self, key: &str, rules: &[KeyRule]) -> Done {
+    fn unknown(&mut self, key: &str, value: &Value) -> Done {
         let rule = match (self.part, key) {
+            (Location::Keys(_), _) if value.is_str() => return Ok(()),
+            (Location::Keys(_), _) => return say!(self, key;
+                "a key must have the name of a panel, not {}", value.type_str()),
             (Location::Text(_, _), "show" | "length") => "can't be used with 'text'",
             (Location::Panel(_), "otherwise") => "can be used only with 'model' 3, 4 or 5",
-            _ => {
-                let known: Vec<&str> = rules.iter().map(|it| it.key()).collect(self.lines.alloc)?;
-                return self.say_near(key, key, &known, format_args!("unknown key '{}'", Cut(key)));
-            }
+            _ => return self.lost(key, key, "unknown key"),
         };
         say!(self, key; "key '{key}' {rule}")
     }
@@ -248,16 +256,17 @@ impl<'s, 'a> Words<'s, 'a> {
     /// Says that a key that must be there is absent, or that its value has another type than the rule says, if so.
     fn breach(&mut self, rule: &KeyRule, table: &Table) -> Done {
         let (key, kind, is_missing) = (rule.key(), rule.kind(), rule.is_missing_in(table));
-        match table.get(key) {
-            Some(Value::Array(_)) if is_missing => say!(self, key; "array '{key}' is empty"),
-            Some(value) if kind.fits(value) => Ok(()),
-            Some(Value::Array(_)) => say!(self, key; "'{key}' must be {kind}"),
-            Some(Value::Integer(number)) if kind == KeyKind::Count =>
-                say!(self, key; "'{key}' must be {kind}, not {number}"),
-            Some(value) => say!(self, key; "'{key}' must be {kind}, not {}", value.type_str()),
-            None if is_missing => self.missing(key, table),
-            None => Ok(()),
-        }
+        let (not, found) = match table.get(key) {
+            None if is_missing => return self.missing(key, table),
+            Some(_) if is_missing => return say!(self, key; "array '{key}' is empty"),
+            None => return Ok(()),
+            Some(value) if kind.fits(value) => return Ok(()),
+            Some(Value::Integer(number)) if matches!(kind, KeyKind::Count) =>
+                return say!(self, key; "'{key}' must be {kind}, not {number}"),
+            Some(Value::Array(_)) => ("", ""),
+            Some(value) => (", not ", value.type_str()),
+        };
+        say!(self, key; "'{key}' must be {kind}{not}{found}")
     }
 
     fn missing(&mut self, key: &str, table: &Table) -> Done {
@@ -272,13 +281,12 @@ impl<'s, 'a> Words<'s, 'a> {
         say!(self, key; "missing key {keys}")
     }
 
-    /// Says that a panel has more items than it may, or the text more panels, if it is so.
-    fn most(&mut self, key: &str, count: usize, most: usize) -> Done {
+    /// Says that a table has more items at a key than it may, if it is so.
+    fn most(&mut self, table: &Table, key: &str, count: usize, most: usize) -> Done {
         if count <= most {
             return Ok(());
         }
-        let array = table_at(self.draft, self.part).and_then(|table| table.get(key));
-        let (items, all) = match (array, key) {
+        let (items, all) = match (table.get(key), key) {
             (Some(Value::Array(tables)), _) if tables.len() == count => ("tables", ""),
             (_, "field") => ("items", " with all copies and values"),
             _ => ("items", " with all copies"),
@@ -286,9 +294,8 @@ impl<'s, 'a> Words<'s, 'a> {
         say!(self, key; "{count} {items} in '{key}'{all}: at most {most} are allowed")
     }
 
-    fn named_twice(&mut self, item: Option<&ItemDraft>) -> Done {
-        let (draft, name, part) = (self.draft, self.text("name"), self.part);
-        let copy = item.map_or(name, |item| item.name.as_str());
+    fn named_twice(&mut self, name: &str, copy: &str) -> Done {
+        let (draft, part) = (self.draft, self.part);
         let item = match draft.item_named(copy) {
             Some(at) if Location::Field(at.0, at.1) != part => Some(at),
             _ => draft.item_named(name),
@@ -298,34 +305,24 @@ impl<'s, 'a> Words<'s, 'a> {
             (_, _, Some((panel, field))) => Location::Field(panel, field),
             _ => part,
         };
-        let line = self.line(first, "name")?;
+        let line = self.lines.of_key(draft.table(first), "name")?;
         say!(self, "name"; "name '{}' is already used in line {line}", Cut(name))
     }
 
     /// Says which names in a panel's `keys` and `asks` aren't those of keys; `asks` may have `connect`, too.
     fn bad_keys(&mut self, index: usize, panel: &PanelDraft) -> Done {
-        if let Some(keys) = table_at(self.draft, self.part) {
+        self.known.extend_from_slice(key_names())?;
+        if let Some(Value::Table(keys)) = panel.table.get("keys") {
             for key in keys.keys() {
-                self.no_key(key.as_str(), key.as_str(), key_names())?;
+                self.lost(key.as_str(), key.as_str(), "no key is named")?;
             }
         }
         self.part = Location::Panel(index);
-        let mut known = Vec::new(self.lines.alloc);
-        known.extend_from_slice(key_names())?;
-        known.push("connect")?;
+        self.known.push("connect")?;
         for name in &panel.asks {
-            self.no_key("asks", *name, &known)?;
+            self.lost("asks", *name, "no key is named")?;
         }
         Ok(())
-    }
-
-    /// Says, at the line of a key of the table, that a name isn't that of a terminal's key, if it isn't.
-    fn no_key(&mut self, key: &str, name: &str, known: &[&str]) -> Done {
-        if (&*known).contains(&name) {
-            return Ok(());
-        }
-        let message = format_args!("no key is named '{}'", Cut(name));
-        self.say_near(key, name, known, message)
     }
 
     /// Says which keys a panel's `asks` have twice, or have although its `keys` have them.
@@ -336,26 +333,24 @@ impl<'s, 'a> Words<'s, 'a> {
             if (&panel.asks[..index]).contains(&name) {
                 say!(self, "asks"; "key '{}' is named twice", Cut(name))?;
             }
-            if panel.keys.iter().any(|key| key.0 == name) {
-                say!(self, "asks"; "key '{}' leads to a panel in 'keys', too", Cut(name))?;
+            for key in &panel.keys {
+                if key.0 == name {
+                    say!(self, "asks"; "key '{}' leads to a panel in 'keys', too", Cut(name))?;
+                }
             }
         }
         Ok(())
     }
 
-    /// Says which character of a text, a label or a fill is the first without a code in code page 037.
-    fn no_code(&mut self) -> Done {
-        for key in ["text", "label", "fill"] {
-            let mut letters = self.text(key).chars();
-            match letters.find(|letter| from_latin1(*letter).is_none()) {
-                None => Ok(()),
-                Some(letter) if letter < '\u{a0}' => say!(self, key;
-                    "code page 037 has no character U+{:04X}", u32::from(letter)),
-                Some(letter) => say!(self, key;
-                    "code page 037 has no character '{letter}', U+{:04X}", u32::from(letter)),
-            }?;
+    /// Says which character of the text at a key is the first without a code in code page 037.
+    fn no_code(&mut self, key: &str, text: &str) -> Done {
+        match text.chars().find(|letter| from_latin1(*letter).is_none()) {
+            None => Ok(()),
+            Some(letter) if letter < '\u{a0}' => say!(self, key;
+                "code page 037 has no character U+{:04X}", u32::from(letter)),
+            Some(letter) => say!(self, key;
+                "code page 037 has no character '{letter}', U+{:04X}", u32::from(letter)),
         }
-        Ok(())
     }
 
     fn lu_fault(&mut self, fault: PoolFault) -> Done {
@@ -365,16 +360,19 @@ impl<'s, 'a> Words<'s, 'a> {
             return say!(self, "lus"; "{} LUs: there must be 1 to 64", lus.len());
         };
         let text = lus.get(index).copied().unwrap_or("");
-        let (key, name) = (format_args!("lus'{index}"), Cut(text));
-        let lu = Lu::read(text.as_bytes());
-        if lu.is_none() {
-            return say!(self, key;
-                "bad LU name '{name}': 1 to 8 of A-Z, 0-9, @, # and $, the first no digit");
+        if matches!(fault, PoolFault::Twice(_)) {
+            return self.lu_twice(index, text, lus);
         }
-        let mut others = lus.iter();
+        say!(self, format_args!("lus'{index}");
+            "bad LU name '{}': 1 to 8 of A-Z, 0-9, @, # and $, the first no digit", Cut(text))
+    }
+
+    /// Says in which line the name of an LU is listed first.
+    fn lu_twice(&mut self, index: usize, text: &str, lus: &[&str]) -> Done {
+        let (lu, mut others) = (Lu::read(text.as_bytes()), lus.iter());
         let first = others.position(|other| Lu::read(other.as_bytes()) == lu);
         let first = format_args!("lus'{}", first.unwrap_or(index));
-        let line = self.line(Location::Top, first)?;
-        say!(self, key; "LU '{name}' is already listed in line {line}")
+        let line = self.lines.of_key(Location::Top, first)?;
+        say!(self, format_args!("lus'{index}"); "LU '{}' is already listed in line {line}", Cut(text))
     }
 }
