@@ -10,7 +10,7 @@ ghost use Rattle.codes3270.specs.Storable.{is_storable};
 ghost use Rattle.shadow.specs.Belief.{IsOfSize};
 ghost use Rattle.host_core.specs.Representation.{DoesOn, IsSentOn};
 ghost use Rattle.host_core.specs.Notes.{IsNoteText, may_note, note_command, noted, noted_as};
-ghost use Rattle.host_core.specs.Rooms.{HasRoomFor, note_room, command_room, read_buffer_room, record_room};
+ghost use Rattle.host_core.specs.Rooms.{HasRoomFor, note_room, command_room, record_room};
 ghost use Rattle.host_core.specs.Says.{written, command_header, read_buffer_bytes};
 ghost use Rattle.codes3270.specs.declared.attention.Aid.{Aid as AidValue};
 ghost use Rattle.datastream.specs.Wanted.{IsScreen};
