@@ -1,6 +1,6 @@
 //! Serving connections, a turn at a time.
 ghost use Rattle.std.specs.Prelude.{◌≡◌, ◌≢◌, ◌<◌, ◌↔◌};
-ghost use Rattle.host_core.specs.Serves.{Serves, Receives, ReceiveCounts, SendsOut, SendCounts, IsLost, OthersCount};
+ghost use Rattle.host_core.specs.Serves.{Serves, IsLost, OthersCount};
 ghost use Rattle.host_core.specs.State.{most_connections, state_at, phase_of};
 ghost use Rattle.host_core.specs.declared.serving.Served.TheVariants as served;
 
@@ -23,41 +23,6 @@ pub enum Served {
     Memory,
 }
 
-/// Hands the connection's output to one write, if there is any. Answers false if the write failed.
-fn send_out<L: Links>(host: &mut Host, links: &mut L, conn: usize) -> bool
-    requires number { conn < most_connections }
-    ensures sends { SendsOut L.gave L.took conn host.old links.old host.new links.new }
-    ensures counts { SendCounts conn result (L.ends links.old) (L.ends links.new) (L.failures links.old)
-        (L.failures links.new) }
-    ensures phase { phase_of (state_at conn host.new) ≡ phase_of (state_at conn host.old) }
-{
-    if host.out(conn).is_empty() {
-        return true;
-    }
-    match links.write(conn, host.out(conn)) {
-        LinkWrite::Took(count) => {
-            host.sent(conn, count);
-            true
-        }
-        LinkWrite::NotNow => true,
-        LinkWrite::Failed => false,
-    }
-}
-
-/// Reads a connection once, and answers how many bytes were read; None if the connection ended or failed.
-fn receive<L: Links>(links: &mut L, conn: usize, buffer: &mut [u8]) -> Option<usize>
-    ensures receives { Receives L.gave L.took conn links.old buffer.new result links.new }
-    ensures counts { ReceiveCounts conn result (L.ends links.old) (L.ends links.new) (L.failures links.old)
-        (L.failures links.new) }
-{
-    match links.read(conn, buffer) {
-        LinkRead::Got(count) => Some(count),
-        LinkRead::NotNow => Some(0),
-        LinkRead::Ended => None,
-        LinkRead::Failed => None,
-    }
-}
-
 /// Serves a connection, whose number must be below 64, for a turn: reads it once, into a buffer of [`READ_ROOM`] bytes,
 /// feeds the host, lets it act, and hands the output to one write. If the read ended or failed, nothing else is done.
 ///
@@ -72,8 +37,10 @@ pub fn serve_turn<L: Links>(host: &mut Host, links: &mut L, conn: usize) -> Serv
     ensures failures { OthersCount conn (L.failures links.old) (L.failures links.new) }
 {
     let mut buffer = [0; READ_ROOM];
-    let Some(count) = receive(links, conn, &mut buffer) else {
-        return Served::Lost;
+    let count = match links.read(conn, &mut buffer) {
+        LinkRead::Got(count) => count,
+        LinkRead::NotNow => 0,
+        LinkRead::Ended | LinkRead::Failed => return Served::Lost,
     };
     if let Stop::Memory = host.feed(conn, &buffer[..count]).stop {
         return Served::Memory;
@@ -82,9 +49,16 @@ pub fn serve_turn<L: Links>(host: &mut Host, links: &mut L, conn: usize) -> Serv
         return Served::Memory;
     }
     host.keep_asked(conn);
-    if send_out(host, links, conn) && !host.phase(conn).is_closed() {
-        Served::Going
-    } else {
+    if !host.out(conn).is_empty() {
+        match links.write(conn, host.out(conn)) {
+            LinkWrite::Took(count) => host.sent(conn, count),
+            LinkWrite::NotNow => {}
+            LinkWrite::Failed => return Served::Lost,
+        }
+    }
+    if host.phase(conn).is_closed() {
         Served::Lost
+    } else {
+        Served::Going
     }
 }
