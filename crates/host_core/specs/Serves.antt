@@ -1,5 +1,5 @@
 -- A turn of serving a connection: one read, whose bytes the host takes, one act, and one write (our profile).
-use Rattle.std.specs.Prelude.{◌≡◌, ◌≢◌, ◌<◌, ◌≤◌, ◌+◌, ⊤, ℕ, Bool, true, false, List, [], take, drop}
+use Rattle.std.specs.Prelude.{◌≡◌, ◌≢◌, ◌<◌, ◌≤◌, ◌+◌, ◌⊎◌, ⊤, ℕ, Bool, true, false, Option, Some, None, List, [], take, drop, length}
 use Rattle.tn3270e_msg.specs.declared.cause.Fed.{Fed}
 use Rattle.tn3270e_msg.specs.declared.cause.Stop.TheVariants.{Memory as FeedMemory}
 use Rattle.host_core.specs.Application.{application_of}
@@ -73,6 +73,21 @@ WriteCounts conn (write.Took count) ends ends_after failures failures_after = St
 WriteCounts conn write.NotNow ends ends_after failures failures_after = Stays ends ends_after
     × Stays failures failures_after
 WriteCounts conn write.Failed ends ends_after failures failures_after = Stays ends ends_after
+    × Rises conn failures failures_after
+
+-- holds if a read that is over raises the count of ends or of failures, and any other changes no count
+abbrev pub ReceiveCounts : ℕ → Option ℕ → (ℕ → ℕ) → (ℕ → ℕ) → (ℕ → ℕ) → (ℕ → ℕ) → Type 0
+ReceiveCounts conn (Some count) ends ends_after failures failures_after = Stays ends ends_after
+    × Stays failures failures_after
+ReceiveCounts conn None ends ends_after failures failures_after =
+    (Rises conn ends ends_after × Stays failures failures_after)
+    ⊎ (Stays ends ends_after × Rises conn failures failures_after)
+
+-- holds if a write that failed raises the count of failures, and any other changes no count
+abbrev pub SendCounts : ℕ → Option ℕ → (ℕ → ℕ) → (ℕ → ℕ) → (ℕ → ℕ) → (ℕ → ℕ) → Type 0
+SendCounts conn (Some count) ends ends_after failures failures_after = Stays ends ends_after
+    × Stays failures failures_after
+SendCounts conn None ends ends_after failures failures_after = Stays ends ends_after
     × Rises conn failures failures_after
 
 -- ---- a turn

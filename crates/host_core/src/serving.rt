@@ -1,12 +1,13 @@
 //! Serving connections, a turn at a time.
 ghost use Rattle.std.specs.Prelude.{◌≡◌, ◌≢◌, ◌<◌, ◌↔◌};
-ghost use Rattle.host_core.specs.Serves.{Serves, IsLost, OthersCount};
+ghost use Rattle.host_core.specs.Serves.{Serves, IsClosed, IsLost, OthersCount};
 ghost use Rattle.host_core.specs.State.{most_connections, state_at, phase_of};
 ghost use Rattle.host_core.specs.declared.serving.Served.TheVariants as served;
 
 use crate::acted::Acted;
 use crate::host::Host;
-use crate::links::{LinkRead, LinkWrite, Links};
+use crate::links::Links;
+use crate::phase::Phase;
 use tn3270e_msg::Stop;
 
 /// The length of the buffer that [`serve_turn`] reads into, in bytes (our profile).
@@ -23,6 +24,19 @@ pub enum Served {
     Memory,
 }
 
+impl Served {
+    /// What became of a connection in this phase: it goes on, or it was closed.
+    fn after(phase: Phase) -> Served
+        ensures lost { (result ≡ served.Lost) ↔ IsClosed phase }
+        ensures sound { result ≢ served.Memory }
+    {
+        match phase {
+            Phase::Closed(_) => Served::Lost,
+            Phase::Free | Phase::Talking | Phase::Bound(_) => Served::Going,
+        }
+    }
+}
+
 /// Serves a connection, whose number must be below 64, for a turn: reads it once, into a buffer of [`READ_ROOM`] bytes,
 /// feeds the host, lets it act, and hands the output to one write. If the read ended or failed, nothing else is done.
 ///
@@ -37,10 +51,8 @@ pub fn serve_turn<L: Links>(host: &mut Host, links: &mut L, conn: usize) -> Serv
     ensures failures { OthersCount conn (L.failures links.old) (L.failures links.new) }
 {
     let mut buffer = [0; READ_ROOM];
-    let count = match links.read(conn, &mut buffer) {
-        LinkRead::Got(count) => count,
-        LinkRead::NotNow => 0,
-        LinkRead::Ended | LinkRead::Failed => return Served::Lost,
+    let Some(count) = links.read(conn, &mut buffer).count() else {
+        return Served::Lost;
     };
     if let Stop::Memory = host.feed(conn, &buffer[..count]).stop {
         return Served::Memory;
@@ -49,16 +61,12 @@ pub fn serve_turn<L: Links>(host: &mut Host, links: &mut L, conn: usize) -> Serv
         return Served::Memory;
     }
     host.keep_asked(conn);
-    if !host.out(conn).is_empty() {
-        match links.write(conn, host.out(conn)) {
-            LinkWrite::Took(count) => host.sent(conn, count),
-            LinkWrite::NotNow => {}
-            LinkWrite::Failed => return Served::Lost,
-        }
+    if host.out(conn).is_empty() {
+        return Served::after(host.phase(conn));
     }
-    if host.phase(conn).is_closed() {
-        Served::Lost
-    } else {
-        Served::Going
-    }
+    let Some(count) = links.write(conn, host.out(conn)).count() else {
+        return Served::Lost;
+    };
+    host.sent(conn, count);
+    Served::after(host.phase(conn))
 }
