@@ -1,30 +1,47 @@
 -- What a record makes of a connection, as the code takes it.
-use Rattle.std.proofs.Common.{◌≡◌, ◌≢◌, ◌-◌, ℕ, Bool, true, false, List, length, take, drop, refl, ap, sym, ◌∙◌, Option, None, arith}
+use Rattle.std.proofs.Common.{◌≡◌, ◌≢◌, ◌-◌, ℕ, Bool, true, false, List, length, take, drop, refl, ap, sym, ◌∙◌, Option, Some, None, Result, Ok, Err, arith}
 use Rattle.std.proofs.lemmas.List.{take_all, length-drop}
 use Rattle.codes3270.specs.Size.{ScreenSize}
-use Rattle.codes3270.specs.declared.attention.Aid.{Aid}
-use Rattle.codes3270.specs.declared.attention.Aid.TheVariants.{NoAid, Enter, Clear, Pf, Pa}
 use Rattle.datastream.specs.InboundText.{InboundParts, IsInbound, IsNoInbound}
 use Rattle.datastream.specs.declared.inbound_part.Form.{Form}
 use Rattle.datastream.specs.declared.inbound_part.Form.TheVariants.{Buffer, Modified}
 use Rattle.datastream.specs.declared.inbound_part.InboundFault.{InboundFault}
+use Rattle.shadow.specs.Belief.{Shadow}
+use Rattle.shadow.specs.declared.fault.HeardFault.{HeardFault}
 use Rattle.shadow.specs.declared.rule_break.RuleBreak.{RuleBreak}
-use Rattle.tn3270e_msg.specs.declared.cause.Cause.TheVariants.{BadInbound}
+use Rattle.tn3270e_msg.specs.declared.cause.Cause.TheVariants.{BadInbound, RuleBroken}
 use Rattle.tn3270e_msg.specs.declared.header.DataType.{DataType}
 use Rattle.tn3270e_msg.specs.declared.header.DataType.TheVariants.{Data3270, ScsData, Response, BindImage, Unbind, NvtData, Request, SscpLuData, Unnamed}
 use Rattle.host_core.specs.declared.after_record.AfterRecord.{AfterRecord}
-use Rattle.host_core.specs.declared.after_record.AfterRecord.TheVariants.{Closes}
+use Rattle.host_core.specs.declared.after_record.AfterRecord.TheVariants.{Breaks, Closes, Drops, GoesOn}
 use Rattle.host_core.specs.Items.{IsNoSecondKey, IsOther, TakesData, may_be_second_key, second_key_size}
 use Rattle.host_core.specs.Representation.{IsKept, IsPlainWrite, pending_in, step_of}
-use Rattle.host_core.specs.Parts.{IsWrite, still_pending}
+use Rattle.host_core.specs.Parts.{IsWrite}
 use Rattle.host_core.specs.Session.{Session, Pending}
-use Rattle.host_core.specs.Takes.{believed, buffer_came, buffer_heard, data_came, form_awaited, hears, once_read, key_came, key_data_came, rule_broken_by, second_key, unless_broken}
+use Rattle.host_core.specs.Takes.{HostStep, believed, buffer_came, buffer_heard, data_came, dropping, form_awaited, hears, once_read, quiet, rule_broken_by, second_key, unless_broken}
 use Rattle.host_core.specs.declared.turn_reason.TurnReason.{TurnReason}
-use Rattle.host_core.specs.declared.turn_reason.TurnReason.TheVariants as turn_reasons
 use Rattle.host_core.specs.declared.pending.Pending.{Pending as PendingKind}
 use Rattle.host_core.specs.declared.pending.Pending.TheVariants as unanswered
 
 -- ---- the whole screen
+
+-- where what came was believed, nothing waits for an answer then
+ends : (heard : Result Shadow HeardFault) (turn_reason : TurnReason) (cursor : Option ℕ) (old mid : Session) → quiet mid ≡ believed turn_reason old.pending cursor old heard
+    → quiet (record mid { pending = Pending.Nothing }) ≡ believed turn_reason Pending.Nothing cursor old heard
+ends (Ok shadow) turn_reason cursor old mid came = ap (λ (step : HostStep). record step { conn = record step.conn { pending = Pending.Nothing } }) came
+ends (Err fault) turn_reason cursor old mid came = absurd (let closes : None ≡ Some BadInbound = ap (λ (step : HostStep). step.closes) came in cc)
+
+goes_on : (mid conn : Session) (after : AfterRecord) → step_of mid after ≡ quiet conn → after ≡ GoesOn
+goes_on mid conn GoesOn came = refl
+goes_on mid conn (Closes cause) came = absurd (let closes : Some cause ≡ None = ap (λ (step : HostStep). step.closes) came in cc)
+goes_on mid conn (Drops aid) came = absurd (let drops : (dropping aid mid).drops ≡ None = ap (λ (step : HostStep). step.drops) came in cc)
+goes_on mid conn (Breaks broken) came = absurd (let closes : Some RuleBroken ≡ None = ap (λ (step : HostStep). step.closes) came in cc)
+
+-- where it wasn't, all is as it was
+refuses : (heard : Result Shadow HeardFault) (turn_reason : TurnReason) (cursor : Option ℕ) (old mid : Session) (after : AfterRecord) → step_of mid after ≡ believed turn_reason old.pending cursor old heard
+    → after ≢ GoesOn → step_of mid after ≡ believed turn_reason Pending.Nothing cursor old heard
+refuses (Ok shadow) turn_reason cursor old mid after came stops = absurd (stops (goes_on mid _ after came))
+refuses (Err fault) turn_reason cursor old mid after came stops = came
 
 -- the answer to Read Buffer shows no rule to be broken
 heard_whole : (parts : InboundParts) (turn_reason : TurnReason) (old : Session) → None ≡ rule_broken_by parts old → turn_reason ≡ once_read old.turn_reason
@@ -33,34 +50,19 @@ heard_whole parts turn_reason old kept read =
     ap (λ (reason : TurnReason). believed reason Pending.Nothing parts.cursor old (hears parts old)) read
     ∙ ap (λ (broken : Option RuleBreak). unless_broken old broken (buffer_heard parts old)) kept
 
-pub of_buffer : (parts : InboundParts) (turn_reason : TurnReason) (old new : Session) (after : AfterRecord) (number : ℕ) → old.pending ≡ Pending.Reading number → parts.form ≡ Buffer → None ≡ rule_broken_by parts old
-    → turn_reason ≡ once_read old.turn_reason → step_of new after ≡ believed turn_reason (still_pending old.pending) parts.cursor old (hears parts old) → step_of new after ≡ data_came parts old.turn old.pending old
-of_buffer parts turn_reason old new after number reads form kept read came =
-    came
-    ∙ ap (λ (pending : Pending). believed turn_reason (still_pending pending) parts.cursor old (hears parts old)) reads
+pub buffer_believed : (parts : InboundParts) (turn_reason : TurnReason) (old mid : Session) (after : AfterRecord) → None ≡ rule_broken_by parts old → turn_reason ≡ once_read old.turn_reason
+    → step_of mid after ≡ believed turn_reason old.pending parts.cursor old (hears parts old) → after ≡ GoesOn
+    → step_of (record mid { pending = Pending.Nothing }) after ≡ buffer_came parts Buffer old
+buffer_believed parts turn_reason old mid after kept read came goes =
+    ap (step_of (record mid { pending = Pending.Nothing })) goes
+    ∙ ends (hears parts old) turn_reason parts.cursor old mid (ap (step_of mid) (sym goes) ∙ came)
     ∙ heard_whole parts turn_reason old kept read
-    ∙ ap (λ (form : Form). buffer_came parts form old) (sym form)
-    ∙ ap (λ (pending : Pending). data_came parts old.turn pending old) (sym reads)
 
--- ---- a key
-
-by_key : (parts : InboundParts) (aid : Aid) (old : Session) → aid ≢ NoAid → believed (turn_reasons.Key aid false) old.pending parts.cursor old (hears parts old) ≡ key_came parts aid old
-by_key parts NoAid old key = absurd (key refl)
-by_key parts Enter old key = refl
-by_key parts Clear old key = refl
-by_key parts (Pf number) old key = refl
-by_key parts (Pa number) old key = refl
-
-pub of_key : (parts : InboundParts) (aid : Aid) (old new : Session) (after : AfterRecord) → aid ≢ NoAid → parts.form ≡ Modified → parts.aid ≡ aid → still_pending old.pending ≡ old.pending
-    → data_came parts old.turn old.pending old ≡ key_data_came parts parts.form old
-    → step_of new after ≡ believed (turn_reasons.Key aid false) (still_pending old.pending) parts.cursor old (hears parts old) → step_of new after ≡ data_came parts old.turn old.pending old
-of_key parts aid old new after key form is still comes came =
-    came
-    ∙ ap (λ (pending : Pending). believed (turn_reasons.Key aid false) pending parts.cursor old (hears parts old)) still
-    ∙ by_key parts aid old key
-    ∙ ap (λ (aid : Aid). key_came parts aid old) (sym is)
-    ∙ ap (λ (form : Form). key_data_came parts form old) (sym form)
-    ∙ sym comes
+pub buffer_refused : (parts : InboundParts) (turn_reason : TurnReason) (old mid : Session) (after : AfterRecord) → None ≡ rule_broken_by parts old → turn_reason ≡ once_read old.turn_reason
+    → step_of mid after ≡ believed turn_reason old.pending parts.cursor old (hears parts old) → after ≢ GoesOn
+    → step_of mid after ≡ buffer_came parts Buffer old
+buffer_refused parts turn_reason old mid after kept read came stops =
+    refuses (hears parts old) turn_reason parts.cursor old mid after came stops ∙ heard_whole parts turn_reason old kept read
 
 -- ---- the write that waits for its answer
 

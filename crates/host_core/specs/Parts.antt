@@ -37,13 +37,6 @@ IsWrite (Pending.Writing number command) = ⊤
 IsWrite (Pending.Reading number) = ⊥
 IsWrite (Pending.Noting number command) = ⊤
 
--- the command that still waits for its answer once data is believed: only a read is answered by data
-abbrev pub still_pending : Pending → Pending
-still_pending Pending.Nothing = Pending.Nothing
-still_pending (Pending.Writing number command) = Pending.Writing number command
-still_pending (Pending.Reading number) = Pending.Nothing
-still_pending (Pending.Noting number command) = Pending.Noting number command
-
 -- An item of the negotiation is taken: the reply is appended to the output. If it closes, the LU is still held.
 pub record TalkTaken (number : ℕ) (pool : List Entry) (old : Talk HostState) (item : WireItem)
     (before after : Vec ℕ Global) (closes : Option Cause) (left : List Entry) (new : Talk HostState)

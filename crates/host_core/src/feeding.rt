@@ -20,6 +20,7 @@ use tn3270e_msg::{Cause, Fed, REPLY_ROOM, Stop};
 impl HostEnd {
     /// Takes received bytes as long as the connection is open and there is room for a reply, and answers how many it
     /// took and what stopped it. If the connection closes, its LU is free at once.
+    #[tactic(auto, using(crate::proofs::ByteSteps::feeds, crate::proofs::ByteSteps::some_more))]
     pub(crate) fn feed(
         &mut self,
         pool: &mut Pool,

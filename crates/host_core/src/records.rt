@@ -10,10 +10,11 @@ ghost use Rattle.shadow.specs.Belief.{IsOfSize};
 ghost use Rattle.shadow.specs.Exactness.{is_erase};
 ghost use Rattle.shadow.specs.Stores.{is_plain};
 ghost use Rattle.tn3270e_msg.specs.Header.{header_length};
-ghost use Rattle.host_core.specs.Parts.{IsWrite, still_pending, write_of};
 ghost use Rattle.host_core.specs.Items.{IsNoSecondKey, TakesData, TakesRecord, is_paint_or_read, may_be_second_key, second_key_size, verdict_of};
 ghost use Rattle.host_core.specs.Representation.{IsPlainWrite, command_in, silent, step_of};
-ghost use Rattle.host_core.specs.Takes.{believed, data_came, form_awaited, hears, is_verified, once_read, out_of_turn, rule_broken_by, second_key, refused, response_came, verdict_came};
+ghost use Rattle.host_core.specs.Parts.{IsWrite, write_of};
+ghost use Rattle.host_core.specs.declared.after_record.AfterRecord.TheVariants.{GoesOn};
+ghost use Rattle.host_core.specs.Takes.{believed, buffer_came, data_came, form_awaited, hears, is_verified, once_read, out_of_turn, rule_broken_by, second_key, refused, response_came, verdict_came};
 
 use crate::after_record::AfterRecord;
 use crate::pending::Pending;
@@ -143,10 +144,7 @@ impl Session {
     {
         match self.pending {
             Pending::Reading(_) => match inbound.form() {
-                Form::Buffer => match self.rule_broken_by(inbound) {
-                    Some(broken) => AfterRecord::Breaks(broken),
-                    None => self.believe(inbound, once_read(self.turn_reason)),
-                },
+                Form::Buffer => self.take_buffer(inbound),
                 Form::Modified | Form::All => self.hear_out_of_turn(inbound),
             },
             Pending::Writing(_) => self.hear_out_of_turn(inbound),
@@ -215,6 +213,29 @@ impl Session {
         }
     }
 
+    /// Takes the answer to Read Buffer, after which no command waits. It is believed, unless it shows that the terminal
+    /// broke a rule.
+    fn take_buffer(&mut self, inbound: &Inbound<'_>) -> AfterRecord
+        requires form { inbound.now.form ≡ Buffer }
+        requires size { inbound.now.size ≡ self.old.size }
+        requires known { IsOfSize (cells_in self.old.size) self.old.shadow }
+        ensures came { step_of self.new result ≡ buffer_came inbound.now Buffer self.old }
+        ensures talk { self.new.talk ≡ self.old.talk }
+        ensures panel { self.new.panel ≡ self.old.panel }
+        ensures size { self.new.size ≡ self.old.size }
+    {
+        match self.rule_broken_by(inbound) {
+            Some(broken) => AfterRecord::Breaks(broken),
+            None => {
+                let after = self.believe(inbound, once_read(self.turn_reason));
+                if let AfterRecord::GoesOn = after {
+                    self.pending = Pending::Nothing;
+                }
+                after
+            }
+        }
+    }
+
     /// Whether the host verifies that the terminal keeps the rules: not after the screen was cleared out of turn.
     pub(crate) fn is_verified(&self) -> bool
         ensures { result ≡ is_verified self.now }
@@ -236,16 +257,16 @@ impl Session {
         }
     }
 
-    /// Believes inbound data, and makes the turn the host's for this reason. It answers a read, but no note.
+    /// Believes inbound data, and makes the turn the host's for this reason. What is pending stays so.
     fn believe(&mut self, inbound: &Inbound<'_>, turn_reason: TurnReason) -> AfterRecord
         requires size { inbound.now.size ≡ self.old.size }
         requires known { IsOfSize (cells_in self.old.size) self.old.shadow }
         ensures came { step_of self.new result
-            ≡ believed turn_reason (still_pending self.old.pending) inbound.now.cursor self.old
-            (hears inbound.now self.old) }
+            ≡ believed turn_reason self.old.pending inbound.now.cursor self.old (hears inbound.now self.old) }
         ensures talk { self.new.talk ≡ self.old.talk }
         ensures panel { self.new.panel ≡ self.old.panel }
         ensures size { self.new.size ≡ self.old.size }
+        ensures known { result ≡ GoesOn → IsOfSize (cells_in self.new.size) self.new.shadow }
     {
         // What is sent can be stored, and so what is believed of it; and that has its size.
         what_is_believed_can_be_stored();
@@ -259,9 +280,6 @@ impl Session {
         self.turn = Turn::Host;
         self.turn_reason = turn_reason;
         self.cursor = cursor;
-        if let Pending::Reading(_) = self.pending {
-            self.pending = Pending::Nothing;
-        }
         AfterRecord::GoesOn
     }
 

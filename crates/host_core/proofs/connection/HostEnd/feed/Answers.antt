@@ -5,20 +5,6 @@ use Rattle.host_core.specs.Sound.{HoldsJust}
 use Rattle.host_core.proofs.ByteSteps.{some_more, others_compose}
 use Rattle.host_core.proofs.connection.HostEnd.feed.Goals as goal
 
-pub returns-then-is_err-clause-fed : goal.returns-then-is_err-clause-fed
-returns-then-is_err-clause-fed c = record { few = search rules; takes = search rules; stops = search rules }
-
-pub returns-in-Some-clause-fed : goal.returns-in-Some-clause-fed
-returns-in-Some-clause-fed c = record {
-  few = search rules;
-  takes = some_more c.args.conn _ c.args.bytes.now c.loop-taken.taken c.take_some-count.result.0 c.loop-taken.pool c.take_some-count.new.pool c.loop-taken.self.decoder c.take_some-count.new.self.decoder c.loop-taken.self.session c.take_some-count.new.self.session
-      c.loop-taken.out c.reserve.new.self c.take_some-count.new.out _ _ c.take_some-count.result.1 _ c.in-Some.is c.reserve.ensures.items c.loop-taken.invariant.taken c.take_some-count.ensures.taken;
-  stops = search rules;
-}
-
-pub returns-clause-fed : goal.returns-clause-fed
-returns-clause-fed c = record { few = search rules; takes = search rules; stops = search rules }
-
 pub returns-in-Some-clause-holds : goal.returns-in-Some-clause-holds
 returns-in-Some-clause-holds c =
     subst (λ (closes : Option Cause). HoldsJust c.args.conn c.take_some-count.new.pool (claim closes c.take_some-count.new.self.session)) c.in-Some.is c.take_some-count.ensures.holds
