@@ -19,7 +19,7 @@ ghost use Rattle.shadow.specs.AfterReadBuffer.{heard_buffer};
 ghost use Rattle.shadow.specs.Stores.{is_plain};
 ghost use Rattle.shadow.specs.Taken.{taken, taken_write, taken_erase};
 
-use crate::apply_inbound::{after_attention, take_fields, check_fields};
+use crate::apply_inbound::{after_attention, check_fields, take_fields};
 use crate::apply_write::{erase_over, write_over};
 use crate::buffer::{any_other, put_read};
 use crate::cell_beliefs::CellBeliefs;
