@@ -1,5 +1,5 @@
 -- A turn of serving a connection: one read, whose bytes the host takes, one act, and one write (our profile).
-use Rattle.std.specs.Prelude.{◌≡◌, ◌≢◌, ◌<◌, ◌≤◌, ◌+◌, ◌⊎◌, ⊤, ℕ, Bool, true, false, Option, Some, None, List, [], take, drop, length}
+use Rattle.std.specs.Prelude.{◌≡◌, ◌≢◌, ◌<◌, ◌≤◌, ◌+◌, ◌⊎◌, ⊤, ℕ, Bool, true, false, Option, Some, None, List, [], take, drop}
 use Rattle.tn3270e_msg.specs.declared.cause.Fed.{Fed}
 use Rattle.tn3270e_msg.specs.declared.cause.Stop.TheVariants.{Memory as FeedMemory}
 use Rattle.host_core.specs.Application.{application_of}

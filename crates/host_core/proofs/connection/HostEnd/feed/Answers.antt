@@ -1,4 +1,4 @@
-use Rattle.std.proofs.Common.{rules, arith, ◌∙◌, subst, Option}
+use Rattle.std.proofs.Common.{arith, ◌∙◌, subst, Option}
 use Rattle.tn3270e_msg.specs.declared.cause.Cause.{Cause}
 use Rattle.host_core.specs.Representation.{IsLeft, claim}
 use Rattle.host_core.specs.Sound.{HoldsJust}
