@@ -2,7 +2,7 @@
 ghost use Rattle.std.specs.Prelude.{◌≡◌, ◌<◌, ◌≤◌, None, IfSome, length, take};
 ghost use Rattle.std.specs.Vec.{vec_capacity};
 ghost use Rattle.tn3270e_msg.specs.HostTable.{granted};
-ghost use Rattle.host_core.specs.Bytes.{TakesByte, TakesBytes};
+ghost use Rattle.host_core.specs.Bytes.{TakesBytes};
 ghost use Rattle.host_core.specs.Feeds.{Feeds};
 ghost use Rattle.host_core.specs.Representation.{IsLeft, IsRunning, cause_of, claim, connection_and_pool_of};
 ghost use Rattle.tn3270e_msg.specs.Writing.{HasRoomForReply};
@@ -93,45 +93,20 @@ impl HostEnd {
         ensures capacity { vec_capacity out.old ≤ vec_capacity out.new }
     {
         let count = self.decoder.push_data(bytes);
-        match bytes.get(count) {
-            Some(byte) => (count + 1, self.take_byte(pool, conn, out, reports, *byte)),
-            None => (count, None),
-        }
-    }
-
-    /// Takes a byte, and answers the cause if it closes the connection.
-    fn take_byte(
-        &mut self,
-        pool: &mut Pool,
-        conn: usize,
-        out: &mut Vec<u8>,
-        reports: &mut Reports,
-        byte: u8,
-    ) -> Option<Cause>
-        requires running { IsRunning self.old.decoder }
-        requires room { HasRoomForReply out.old }
-        requires holder { HoldsJust conn pool.old (granted self.old.session.talk.state) }
-        ensures taken { TakesByte conn
-            (connection_and_pool_of pool.old self.old.decoder self.old.session None out.old reports.old) byte
-            (connection_and_pool_of pool.new self.new.decoder self.new.session result out.new reports.new) }
-        ensures holds { HoldsJust conn pool.new (claim result self.new.session) }
-        ensures others { OthersHold conn pool.old pool.new }
-        ensures panel { self.new.session.panel ≡ self.old.session.panel }
-        ensures size { self.new.session.size ≡ self.old.session.size }
-        ensures left { IsLeft result self.new.decoder }
-        ensures capacity { vec_capacity out.old ≤ vec_capacity out.new }
-    {
-        match self.decoder.push(byte) {
+        let Some(byte) = bytes.get(count) else {
+            return (count, None);
+        };
+        match self.decoder.push(*byte) {
             Err(_) => {
                 pool.give_back(conn);
-                Some(Cause::Wire)
+                (count + 1, Some(Cause::Wire))
             }
-            Ok(Step::More) => None,
+            Ok(Step::More) => (count + 1, None),
             Ok(Step::Ready) => {
                 let item = self.decoder.item();
                 let closes = take_item(pool, conn, &mut self.session, out, reports, &item);
                 free_if_closed(pool, conn, closes);
-                closes
+                (count + 1, closes)
             }
         }
     }
