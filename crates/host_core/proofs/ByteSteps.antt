@@ -1,5 +1,5 @@
 -- A byte and bytes, as the code takes them.
-use Rattle.std.proofs.Common.{◌≡◌, ◌≢◌, ℕ, ◌+◌, ◌-◌, ◌<◌, List, [], ◌∷◌, ◌++◌, length, map, take, drop, get_or, sym, ◌∙◌, ap, subst, arith, refl, Option, None, Some, Vec}
+use Rattle.std.proofs.Common.{◌≡◌, ◌≢◌, ℕ, ◌+◌, ◌-◌, ◌<◌, ◌≤◌, List, [], ◌∷◌, ◌++◌, length, map, take, drop, get_or, sym, ◌∙◌, ap, subst, arith, refl, Option, None, Some, Vec}
 use Rattle.std.specs.Prelude.{◌↔◌, IfNone, IfSome}
 use Rattle.std.specs.declared.alloc.Global.{Global}
 use Rattle.std.proofs.Math.Seq.{take-add}
@@ -16,7 +16,9 @@ use Rattle.tn3270e_msg.specs.Header.{record_limit}
 use Rattle.tn3270e_msg.specs.HostTable.{granted}
 use Rattle.tn3270e_msg.specs.declared.cause.Cause.{Cause}
 use Rattle.tn3270e_msg.specs.declared.cause.Cause.TheVariants.{Wire}
+use Rattle.tn3270e_msg.specs.declared.cause.Fed.{Fed}
 use Rattle.host_core.specs.Bytes.{ConnectionAndPool, TakesByte, TakesBytes, service_after}
+use Rattle.host_core.specs.Feeds.{Feeds, StopsFor}
 use Rattle.host_core.specs.Representation.{IsLeft, IsRunning, ItemTaken, claim, connection_and_pool_of}
 use Rattle.host_core.specs.Says.{item_sent}
 use Rattle.host_core.specs.Sound.{HoldsJust, OthersHold}
@@ -126,3 +128,7 @@ data_taken number (byte ∷ run) pool held after conn out reports running taken 
       data_taken number run pool taken.0 after conn out reports (still_running record_limit held taken.0 byte running taken.2)
           (subst (λ (items : List WireItem). TakesAll taken.0 run items after) none.1 taken.4),
     )
+
+-- what is fed
+pub feeds : (number : ℕ) (old new : ConnectionAndPool) (bytes : List ℕ) (fed : Fed) → fed.taken ≤ length bytes → TakesBytes number old (take fed.taken bytes) new → StopsFor fed.stop old bytes fed.taken new → Feeds number old bytes fed new
+feeds number old new bytes fed few takes stops = record { few = few; takes = takes; stops = stops }

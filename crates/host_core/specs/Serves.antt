@@ -1,5 +1,5 @@
 -- A turn of serving a connection: one read, whose bytes the host takes, one act, and one write (our profile).
-use Rattle.std.specs.Prelude.{◌≡◌, ◌≢◌, ◌<◌, ◌≤◌, ◌+◌, ◌⊎◌, ⊤, ℕ, Bool, true, false, Option, Some, None, List, [], take, drop, length}
+use Rattle.std.specs.Prelude.{◌≡◌, ◌≢◌, ◌<◌, ◌≤◌, ◌+◌, ◌⊎◌, ⊤, ℕ, Bool, true, false, Option, Some, None, List, [], take, drop}
 use Rattle.tn3270e_msg.specs.declared.cause.Fed.{Fed}
 use Rattle.tn3270e_msg.specs.declared.cause.Stop.TheVariants.{Memory as FeedMemory}
 use Rattle.host_core.specs.Application.{application_of}
@@ -75,10 +75,19 @@ WriteCounts conn write.NotNow ends ends_after failures failures_after = Stays en
 WriteCounts conn write.Failed ends ends_after failures failures_after = Stays ends ends_after
     × Rises conn failures failures_after
 
--- holds if no count changes when the write is sound, and the count of failures rises when it isn't
-abbrev pub SendCounts : ℕ → Bool → (ℕ → ℕ) → (ℕ → ℕ) → (ℕ → ℕ) → (ℕ → ℕ) → Type 0
-SendCounts conn true ends ends_after failures failures_after = Stays ends ends_after × Stays failures failures_after
-SendCounts conn false ends ends_after failures failures_after = Stays ends ends_after
+-- holds if a read that is over raises the count of ends or of failures, and any other changes no count
+abbrev pub ReceiveCounts : ℕ → Option ℕ → (ℕ → ℕ) → (ℕ → ℕ) → (ℕ → ℕ) → (ℕ → ℕ) → Type 0
+ReceiveCounts conn (Some count) ends ends_after failures failures_after = Stays ends ends_after
+    × Stays failures failures_after
+ReceiveCounts conn None ends ends_after failures failures_after =
+    (Rises conn ends ends_after × Stays failures failures_after)
+    ⊎ (Stays ends ends_after × Rises conn failures failures_after)
+
+-- holds if a write that failed raises the count of failures, and any other changes no count
+abbrev pub SendCounts : ℕ → Option ℕ → (ℕ → ℕ) → (ℕ → ℕ) → (ℕ → ℕ) → (ℕ → ℕ) → Type 0
+SendCounts conn (Some count) ends ends_after failures failures_after = Stays ends ends_after
+    × Stays failures failures_after
+SendCounts conn None ends ends_after failures failures_after = Stays ends ends_after
     × Rises conn failures failures_after
 
 -- ---- a turn
@@ -123,22 +132,8 @@ abbrev pub IsClosed : Phase → Type 0
 IsClosed (phase.Closed cause) = ⊤
 IsClosed _ = ⊥
 
--- holds if a read that ends the connection raises its count of ends or of failures, and any other changes no count
-abbrev pub ReceiveCounts : ℕ → Option ℕ → (ℕ → ℕ) → (ℕ → ℕ) → (ℕ → ℕ) → (ℕ → ℕ) → Type 0
-ReceiveCounts conn (Some count) ends ends_after failures failures_after = Stays ends ends_after
-    × Stays failures failures_after
-ReceiveCounts conn None ends ends_after failures failures_after =
-    (Rises conn ends ends_after × Stays failures failures_after)
-    ⊎ (Stays ends ends_after × Rises conn failures failures_after)
-
 module _ {L : Type 0} (gave : L → ℕ → ℕ → List ℕ → LinkRead → L → Type 0)
     (took : L → ℕ → List ℕ → LinkWrite → L → Type 0) where
-  -- a read of the connection into a buffer; None if the connection is over
-  abbrev pub Receives : ℕ → L → List ℕ → Option ℕ → L → Type 0
-  Receives conn old buffer (Some count) new = (got : LinkRead)
-      × gave old conn (length buffer) (take count buffer) got new × GoesOn got × (count ≤ length buffer)
-  Receives conn old buffer None new = (got : LinkRead) × gave old conn (length buffer) [] got new × (GoesOn got → ⊥)
-
   -- The output, if there is any, is handed to one write, and the bytes that it took are dropped.
   pub data SendsOut (conn : ℕ) (host : Host) (old : L) (new_host : Host) (new : L) : Type 0 where
     nothing : (connection_at conn host).out ≡ [] → new_host ≡ host → new ≡ old → SendsOut conn host old new_host new

@@ -8,7 +8,7 @@ ghost use Rattle.panels.specs.Keys.{IsKey};
 ghost use Rattle.panels.specs.Panel.{Panels, HaveNumbersApart};
 ghost use Rattle.panels.specs.declared.message.Message.TheVariants.{Fresh};
 ghost use Rattle.panels.specs.declared.next.Next.TheVariants.{Go};
-ghost use Rattle.host_core.specs.Acts.{Act as ActValue, Decision as DecisionValue, acted, after_key, decision_in, decision_on, done, first_panel, is_in_doubt as in_doubt, is_to_be_read, on_empty, on_key, may_act, once_filled_in, repeated, check_required, learned};
+ghost use Rattle.host_core.specs.Acts.{Act as ActValue, Decision as DecisionValue, acted, after_key, decision_in, done, first_panel, is_in_doubt as in_doubt, is_to_be_read, on_empty, on_key, may_act, once_filled_in, repeated, check_required, learned};
 ghost use Rattle.shadow.specs.Belief.{IsOfSize};
 ghost use Rattle.host_core.specs.Application.{Application, application_of, panel_at};
 ghost use Rattle.host_core.specs.Choices.{CanBeDone, CanBeShown, act_of, decision_of, values_with};
@@ -261,15 +261,17 @@ impl Session {
         }
     }
 
-    /// The decision in the host's turn: after agreement the first panel, or a question, if the panel asks at connect;
-    /// after a refusal the same panel, whole.
-    fn decide_in_turn(&self, panels: &PanelSet) -> Decision
-        requires panel { IsShownOn panels.now self.now }
-        requires known { IsOfSize (cells_in self.now.size) self.now.shadow }
+    /// The host's decision now: Nothing unless it may act. After agreement it shows the first panel, or asks, if that
+    /// panel asks at connect; after a refusal it shows the same panel, whole.
+    pub(crate) fn decide(&self, panels: &PanelSet) -> Decision
+        requires { IsShownOn panels.now self.now }
         ensures decision { decision_of (application_of panels.now) self.now result
-            ≡ Some (decision_on (application_of panels.now) self.now self.now.turn_reason) }
+            ≡ decision_in (application_of panels.now) self.now }
         ensures can_be_done { CanBeDone panels.now self.now result }
     {
+        if !self.may_act() {
+            return Decision::Nothing;
+        }
         match self.turn_reason {
             TurnReason::Agreement => {
                 let next = next_of(panels, self.first_panel(panels), &Aid::NoAid);
@@ -285,19 +287,6 @@ impl Session {
                 learn: false,
             },
         }
-    }
-
-    /// The host's decision now: Nothing unless it may act.
-    pub(crate) fn decide(&self, panels: &PanelSet) -> Decision
-        requires { IsShownOn panels.now self.now }
-        ensures decision { decision_of (application_of panels.now) self.now result
-            ≡ decision_in (application_of panels.now) self.now }
-        ensures can_be_done { CanBeDone panels.now self.now result }
-    {
-        if !self.may_act() {
-            return Decision::Nothing;
-        }
-        self.decide_in_turn(panels)
     }
 
     /// If `learn` is set, sets the known texts of fields as their values. Only values that grow need memory.

@@ -3,11 +3,10 @@ ghost use Rattle.std.specs.Prelude.{◌≡◌, ◌≤◌, ◌<◌, ◌∷◌, �
 ghost use Rattle.std.specs.Vec.{vec_capacity};
 ghost use Rattle.telnet_wire.specs.Items.{sent_bytes};
 ghost use Rattle.host_core.specs.Application.{application_of};
-ghost use Rattle.tn3270e_msg.specs.HostTable.{granted};
 ghost use Rattle.host_core.specs.Does.{Does, DoesAnswer, acted_by, noted_by, question_kept};
 ghost use Rattle.host_core.specs.Feeds.{Feeds};
 ghost use Rattle.host_core.specs.KeepAlive.{kept_alive, kept_alive_answer, may_keep_alive, no_operation};
-ghost use Rattle.host_core.specs.Representation.{IsRunning, IsLeft, connection_and_pool_of, cause_of, claim, shown_by};
+ghost use Rattle.host_core.specs.Representation.{shown_by};
 ghost use Rattle.host_core.specs.Connections.{StaysShown, ShadowIf};
 ghost use Rattle.host_core.specs.Notes.{IsNoteText};
 ghost use Rattle.host_core.specs.Questions.{HasTexts, answered_by, question_of};
@@ -19,7 +18,6 @@ ghost use Rattle.host_core.specs.State.{opened, unused, lu_of, model_of, phase_o
 
 use crate::acted::Acted;
 use crate::event::HostEvent;
-use crate::feeding::feed_open;
 use crate::phase::Phase;
 use crate::question::{Answer, Question, Ticket};
 use crate::reports::Reports;
@@ -41,41 +39,6 @@ use tn3270e_msg::{Cause, Fed, HostTalk, RECORD_LIMIT, Stop};
 pub(crate) struct HostEnd {
     pub(crate) decoder: Decoder,
     pub(crate) session: Session,
-}
-
-impl HostEnd {
-    /// Takes received bytes, and answers how many it took and what stopped it.
-    fn feed(
-        &mut self,
-        pool: &mut Pool,
-        conn: usize,
-        out: &mut Vec<u8>,
-        reports: &mut Reports,
-        bytes: &[u8],
-    ) -> Fed
-        requires running { IsRunning self.old.decoder }
-        requires room { out_room ≤ vec_capacity out.old }
-        requires holder { HoldsJust conn pool.old (granted self.old.session.talk.state) }
-        ensures fed { Feeds conn (connection_and_pool_of pool.old self.old.decoder self.old.session None
-            out.old reports.old) bytes.now result (connection_and_pool_of pool.new self.new.decoder self.new.session
-            (cause_of result.stop) out.new reports.new) }
-        ensures holds { HoldsJust conn pool.new (claim (cause_of result.stop) self.new.session) }
-        ensures others { OthersHold conn pool.old pool.new }
-        ensures panel { self.new.session.panel ≡ self.old.session.panel }
-        ensures size { self.new.session.size ≡ self.old.session.size }
-        ensures left { IsLeft (cause_of result.stop) self.new.decoder }
-        ensures capacity { vec_capacity out.old ≤ vec_capacity out.new }
-    {
-        feed_open(
-            pool,
-            conn,
-            &mut self.decoder,
-            &mut self.session,
-            out,
-            reports,
-            bytes,
-        )
-    }
 }
 
 /// Whether a number is free, open, or closed for a cause.

@@ -1,6 +1,6 @@
 //! The connections of a host, as it reads and writes them.
-ghost use Rattle.std.specs.Prelude.{◌≡◌, ℕ, List, length};
-ghost use Rattle.host_core.specs.Serves.{GotWithin, TookWithin, ReadCounts, WriteCounts, bytes_got};
+ghost use Rattle.std.specs.Prelude.{◌≡◌, ◌≤◌, ℕ, List, [], length, take, IfNone, IfSome};
+ghost use Rattle.host_core.specs.Serves.{GoesOn, GotWithin, TookWithin, ReadCounts, WriteCounts, ReceiveCounts, SendCounts, bytes_got, taken_by};
 
 /// What a read of a connection gave.
 #[derive(Clone, Copy, Debug, PartialEq, Eq)]
@@ -15,6 +15,27 @@ pub enum LinkRead {
     Failed,
 }
 
+impl LinkRead {
+    /// The number of bytes got; None if the connection is over.
+    pub(crate) fn count(self) -> Option<usize>
+        ensures goes_on { IfSome result (λ count. GoesOn self) }
+        ensures over { IfNone result (GoesOn self → ⊥) }
+        ensures got { (buffer : List ℕ) → IfSome result (λ count. bytes_got self buffer ≡ take count buffer) }
+        ensures none { (buffer : List ℕ) → IfNone result (bytes_got self buffer ≡ []) }
+        ensures within { (room : ℕ) → GotWithin self room → IfSome result (λ count. count ≤ room) }
+        ensures counts { (conn : ℕ) (ends ends_after failures failures_after : ℕ → ℕ)
+            → ReadCounts conn self ends ends_after failures failures_after
+            → ReceiveCounts conn result ends ends_after failures failures_after }
+    {
+        match self {
+            LinkRead::Got(count) => Some(count),
+            LinkRead::NotNow => Some(0),
+            LinkRead::Ended => None,
+            LinkRead::Failed => None,
+        }
+    }
+}
+
 /// What a write to a connection took.
 #[derive(Clone, Copy, Debug, PartialEq, Eq)]
 pub enum LinkWrite {
@@ -24,6 +45,24 @@ pub enum LinkWrite {
     NotNow,
     /// The connection failed.
     Failed,
+}
+
+impl LinkWrite {
+    /// The number of bytes taken; None if the connection failed.
+    pub(crate) fn count(self) -> Option<usize>
+        ensures taken { IfSome result (λ count. count ≡ taken_by self) }
+        ensures none { IfNone result (taken_by self ≡ 0) }
+        ensures within { (given : ℕ) → TookWithin self given → IfSome result (λ count. count ≤ given) }
+        ensures counts { (conn : ℕ) (ends ends_after failures failures_after : ℕ → ℕ)
+            → WriteCounts conn self ends ends_after failures failures_after
+            → SendCounts conn result ends ends_after failures failures_after }
+    {
+        match self {
+            LinkWrite::Took(count) => Some(count),
+            LinkWrite::NotNow => Some(0),
+            LinkWrite::Failed => None,
+        }
+    }
 }
 
 /// The connections that a host serves, by their numbers.

@@ -79,7 +79,7 @@ impl Session {
             return AfterRecord::Closes(Cause::BadRecord);
         };
         match header.kind {
-            DataType::Data3270 => match read_inbound(body, self.form_awaited(), self.size()) {
+            DataType::Data3270 => match read_inbound(body, self.form_awaited(), self.size) {
                 Ok(inbound) => self.hear(&inbound),
                 Err(_) => self.take_second_key(body),
             },
@@ -110,13 +110,6 @@ impl Session {
             Ok(inbound) => self.drop_key(inbound.aid()),
             Err(_) => AfterRecord::Closes(Cause::BadInbound),
         }
-    }
-
-    /// The size by which data is read: that of the screen now, whatever the terminal's model is.
-    fn size(&self) -> Size
-        ensures { result ≡ self.now.size }
-    {
-        self.size
     }
 
     /// The size by which a second key's data is read: while a paint is pending, the screen before may have been larger.

@@ -1,12 +1,13 @@
 //! Serving connections, a turn at a time.
 ghost use Rattle.std.specs.Prelude.{◌≡◌, ◌≢◌, ◌<◌, ◌↔◌};
-ghost use Rattle.host_core.specs.Serves.{Serves, Receives, ReceiveCounts, SendsOut, SendCounts, IsLost, OthersCount};
+ghost use Rattle.host_core.specs.Serves.{Serves, IsClosed, IsLost, OthersCount};
 ghost use Rattle.host_core.specs.State.{most_connections, state_at, phase_of};
 ghost use Rattle.host_core.specs.declared.serving.Served.TheVariants as served;
 
 use crate::acted::Acted;
 use crate::host::Host;
-use crate::links::{LinkRead, LinkWrite, Links};
+use crate::links::Links;
+use crate::phase::Phase;
 use tn3270e_msg::Stop;
 
 /// The length of the buffer that [`serve_turn`] reads into, in bytes (our profile).
@@ -23,38 +24,16 @@ pub enum Served {
     Memory,
 }
 
-/// Hands the connection's output to one write, if there is any. Answers false if the write failed.
-fn send_out<L: Links>(host: &mut Host, links: &mut L, conn: usize) -> bool
-    requires number { conn < most_connections }
-    ensures sends { SendsOut L.gave L.took conn host.old links.old host.new links.new }
-    ensures counts { SendCounts conn result (L.ends links.old) (L.ends links.new) (L.failures links.old)
-        (L.failures links.new) }
-    ensures phase { phase_of (state_at conn host.new) ≡ phase_of (state_at conn host.old) }
-{
-    if host.out(conn).is_empty() {
-        return true;
-    }
-    match links.write(conn, host.out(conn)) {
-        LinkWrite::Took(count) => {
-            host.sent(conn, count);
-            true
+impl Served {
+    /// What became of a connection in this phase: it goes on, or it was closed.
+    fn after(phase: Phase) -> Served
+        ensures lost { (result ≡ served.Lost) ↔ IsClosed phase }
+        ensures sound { result ≢ served.Memory }
+    {
+        match phase {
+            Phase::Closed(_) => Served::Lost,
+            Phase::Free | Phase::Talking | Phase::Bound(_) => Served::Going,
         }
-        LinkWrite::NotNow => true,
-        LinkWrite::Failed => false,
-    }
-}
-
-/// Reads a connection once, and answers how many bytes were read; None if the connection ended or failed.
-fn receive<L: Links>(links: &mut L, conn: usize, buffer: &mut [u8]) -> Option<usize>
-    ensures receives { Receives L.gave L.took conn links.old buffer.new result links.new }
-    ensures counts { ReceiveCounts conn result (L.ends links.old) (L.ends links.new) (L.failures links.old)
-        (L.failures links.new) }
-{
-    match links.read(conn, buffer) {
-        LinkRead::Got(count) => Some(count),
-        LinkRead::NotNow => Some(0),
-        LinkRead::Ended => None,
-        LinkRead::Failed => None,
     }
 }
 
@@ -72,7 +51,7 @@ pub fn serve_turn<L: Links>(host: &mut Host, links: &mut L, conn: usize) -> Serv
     ensures failures { OthersCount conn (L.failures links.old) (L.failures links.new) }
 {
     let mut buffer = [0; READ_ROOM];
-    let Some(count) = receive(links, conn, &mut buffer) else {
+    let Some(count) = links.read(conn, &mut buffer).count() else {
         return Served::Lost;
     };
     if let Stop::Memory = host.feed(conn, &buffer[..count]).stop {
@@ -82,9 +61,12 @@ pub fn serve_turn<L: Links>(host: &mut Host, links: &mut L, conn: usize) -> Serv
         return Served::Memory;
     }
     host.keep_asked(conn);
-    if send_out(host, links, conn) && !host.phase(conn).is_closed() {
-        Served::Going
-    } else {
-        Served::Lost
+    if host.out(conn).is_empty() {
+        return Served::after(host.phase(conn));
     }
+    let Some(count) = links.write(conn, host.out(conn)).count() else {
+        return Served::Lost;
+    };
+    host.sent(conn, count);
+    Served::after(host.phase(conn))
 }

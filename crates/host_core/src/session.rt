@@ -272,13 +272,6 @@ impl Session {
         let _cursor = wanted.cursor();
     }
 
-    /// The values of fields that the host has.
-    fn values(&self) -> &Values
-        ensures { result.now ≡ self.now.values }
-    {
-        &self.values
-    }
-
     /// Drops from the belief what may have changed unheard, before a panel is shown.
     fn forget_unheard(&mut self)
         ensures { self.new ≡ when_shown self.old }
@@ -328,7 +321,7 @@ impl Session {
         self.drop_values(panels, &shown);
         let size = panel_in(panels, shown.panel).size();
         let mut wanted = Wanted::filled(Want::Char(0), size);
-        self.put_fitting(&mut wanted, panels, &shown, self.values());
+        self.put_fitting(&mut wanted, panels, &shown, &self.values);
         begin_record(&mut self.sent, ALWAYS_RESPONSE, self.next_seq);
         self.shadow.paint(&mut self.sent, &wanted).unwrap();
         send_record(self.sent.as_slice(), out);

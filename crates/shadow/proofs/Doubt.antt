@@ -1,5 +1,5 @@
 -- A belief whose input is in doubt allows what it allowed, and what differs in input.
-use Rattle.std.proofs.Common.{◌≡◌, ℕ, Bool, true, false, List, [], ◌∷◌, map, refl, ap, ◌∙◌, if◌then◌else◌}
+use Rattle.std.proofs.Common.{◌≡◌, Bool, true, false, List, [], ◌∷◌, map, refl, ap, ◌∙◌, if◌then◌else◌}
 use Rattle.datastream.proofs.HeldRounds.{held_at_first}
 use Rattle.shadow.specs.declared.mdt_state.MdtState.TheVariants.{Unknown}
 use Rattle.shadow.specs.Belief.{Belief, Shadow}

@@ -1,19 +1,18 @@
 -- A terminal that keeps the rules is never found to have broken one.
-use Rattle.std.proofs.Common.{◌≡◌, ℕ, Bool, true, false, not, ◌||◌, List, [], ◌∷◌, length, map, Option, Some, None, refl, ap, sym, subst, inl, inr, ◌∙◌, if◌then◌else◌, eq-eqb}
+use Rattle.std.proofs.Common.{◌≡◌, ℕ, Bool, true, false, not, ◌||◌, List, [], ◌∷◌, map, Option, Some, None, refl, ap, sym, subst, inl, inr, ◌∙◌, if◌then◌else◌, eq-eqb}
 use Rattle.std.specs.Prelude.{bytes_eq}
 use Rattle.codes3270.specs.declared.attribute.Attr.{Attr as Attribute}
 use Rattle.datastream.specs.Fields.{Field, fields}
 use Rattle.datastream.specs.Inbound.{without_nulls}
-use Rattle.datastream.specs.Screen.{Screen}
 use Rattle.shadow.specs.declared.mdt_state.MdtState.{MdtState}
 use Rattle.shadow.specs.declared.mdt_state.MdtState.TheVariants.{On, Off, Unknown}
 use Rattle.shadow.specs.declared.rule_break.Rule.{Rule}
 use Rattle.shadow.specs.declared.rule_break.Rule.TheVariants.{Applies, Edits, Sends}
 use Rattle.shadow.specs.Pairs.{Pairwise}
-use Rattle.shadow.specs.Belief.{Fact, Belief, Shadow, nulls}
+use Rattle.shadow.specs.Belief.{Fact, Belief, Shadow}
 use Rattle.shadow.specs.Heard.{is_on}
 use Rattle.shadow.specs.Meets.{Holds, IsNull, MarkIs}
-use Rattle.shadow.specs.RuleBreaks.{RulesAreNotBroken, break_at, first_break, input_rule, is_believed, is_erased, lesser, mdt_differs, operator_rule, protected_rule, rule_broken}
+use Rattle.shadow.specs.RuleBreaks.{RulesAreNotBroken, first_break, input_rule, is_believed, is_erased, mdt_differs, operator_rule, protected_rule, rule_broken}
 use Rattle.shadow.specs.AfterReadBuffer.{differs, is_other}
 use Rattle.shadow.proofs.FieldPlaces.{or_neither}
 use Rattle.shadow.proofs.FieldStep.{Followed, and_if, not_on}

@@ -1,5 +1,5 @@
 -- A screen that was read, beside the places that are held, from attribute to attribute: by which field a rule is broken first.
-use Rattle.std.proofs.Common.{◌≡◌, ℕ, zero, suc, ◌+◌, ◌<◌, ◌≤◌, ◌==◌, Bool, true, false, not, ◌&&◌, ◌||◌, List, [], ◌∷◌, ◌++◌, length, map, take, drop, get_or, Option, Some, None, refl, ap, sym, subst, arith, ◌∙◌, if◌then◌else◌, ne_eqb, eq-eqb, lt-ltb, le-ltb, nat_lt}
+use Rattle.std.proofs.Common.{◌≡◌, ℕ, suc, ◌+◌, ◌<◌, ◌≤◌, ◌==◌, Bool, true, false, not, ◌&&◌, ◌||◌, List, [], ◌∷◌, ◌++◌, length, drop, get_or, Option, Some, None, refl, ap, sym, subst, arith, ◌∙◌, if◌then◌else◌, ne_eqb, eq-eqb, lt-ltb, le-ltb}
 use Rattle.std.specs.Option.{option_or}
 use Rattle.std.proofs.lemmas.List.{drop_more, at_drop_all}
 use Rattle.codes3270.specs.declared.attribute.Attr.{Attr as Attribute}
@@ -13,14 +13,14 @@ use Rattle.shadow.specs.declared.cell_belief.CellBelief.TheVariants.{Attr, Known
 use Rattle.shadow.specs.declared.rule_break.Rule.{Rule}
 use Rattle.shadow.specs.declared.rule_break.Rule.TheVariants.{Applies}
 use Rattle.shadow.specs.declared.rule_break.RuleBreak.{RuleBreak}
-use Rattle.shadow.specs.Belief.{Belief, Fact}
+use Rattle.shadow.specs.Belief.{Belief}
 use Rattle.shadow.specs.InPlace.{chars_known, belief_held, beliefs_held, fact_held, known_text, other_here, shadow_held, AreHeld, IsHeld}
-use Rattle.shadow.specs.RuleBreaks.{break_at, first_break, is_believed, lesser, operator_rule, rule_break, rule_broken}
+use Rattle.shadow.specs.RuleBreaks.{break_at, first_break, is_believed, lesser, rule_break, rule_broken}
 use Rattle.shadow.specs.Runs.{operator_rule_at, rule_at, rule_next}
 use Rattle.shadow.specs.AfterReadBuffer.{differs, known_chars, same_attr}
-use Rattle.shadow.specs.Since.{belief_of_cell, beliefs_of_cells}
+use Rattle.shadow.specs.Since.{belief_of_cell}
 use Rattle.shadow.specs.Taken.{exact_or_any, fact_known, formatted_as, whole_text}
-use Rattle.shadow.proofs.Reading.{held_drop, read_text}
+use Rattle.shadow.proofs.Reading.{held_drop}
 use Rattle.shadow.proofs.Settling.{says_known}
 
 -- what is left to be compared from an address on

@@ -1,7 +1,7 @@
 -- Which rule a terminal has broken, if its answer to Read Buffer shows that it has (our profile). The host reads the
 -- screen after a key, and believes what that key's data said. The operator may have changed input since then, because a
 -- terminal needn't wait for the host. What a terminal may do is GA23-0059-07 on the MDT bit and on Erase Input.
-use Rattle.std.specs.Prelude.{◌≡◌, ◌||◌, not, nat_lt, ℕ, Bool, true, false, List, [], ◌∷◌, length, map, Option, Some, None, if◌then◌else◌, bytes_eq}
+use Rattle.std.specs.Prelude.{◌≡◌, ◌||◌, not, nat_lt, ℕ, Bool, false, List, [], ◌∷◌, length, map, Option, Some, None, if◌then◌else◌, bytes_eq}
 use Rattle.std.specs.Option.{option_or}
 use Rattle.codes3270.specs.declared.attribute.Cell.{Cell}
 use Rattle.datastream.specs.Fields.{Field, fields}

@@ -310,7 +310,7 @@ fn change_after<'a>(
 /// Updates the beliefs from the returned fields; `erased` if the operator has erased the input. The last field's
 /// characters wrap to address 0.
 #[inline(never)]
-fn take_fields<'a>(beliefs: &mut CellBeliefs, erased: bool, returned: ReturnedFields<'a>)
+pub(crate) fn take_fields<'a>(beliefs: &mut CellBeliefs, erased: bool, returned: ReturnedFields<'a>)
     ensures { let changes = long_changes (length beliefs.old) erased 0 returned.entry beliefs.old
         (unreturned_from beliefs.old beliefs.old) in
         beliefs.new ≡ front_filled (last_fill Same changes beliefs.old) (all_changed Same changes beliefs.old) }
@@ -331,17 +331,6 @@ fn take_fields<'a>(beliefs: &mut CellBeliefs, erased: bool, returned: ReturnedFi
         }
         place = end;
     }
-}
-
-/// Updates the beliefs of a formatted screen from returned fields that `check_fields` has accepted, with its result.
-pub(crate) fn after_long(beliefs: &mut CellBeliefs, erased: bool, returned: ReturnedFields<'_>)
-    requires held { IsHeld beliefs.old }
-    requires possible { can_be (length beliefs.old) (beliefs_held beliefs.old 0 beliefs.old) returned ≡ true }
-    ensures fields { beliefs_held beliefs.new 0 beliefs.new
-        ≡ long_after (length beliefs.old) erased (beliefs_held beliefs.old 0 beliefs.old) returned.entry }
-    ensures held { IsHeld beliefs.new }
-{
-    take_fields(beliefs, erased, returned);
 }
 
 /// The change of a field after a key that sends its AID alone.

@@ -19,7 +19,7 @@ ghost use Rattle.shadow.specs.AfterReadBuffer.{heard_buffer};
 ghost use Rattle.shadow.specs.Stores.{is_plain};
 ghost use Rattle.shadow.specs.Taken.{taken, taken_write, taken_erase};
 
-use crate::apply_inbound::{after_attention, after_long, check_fields};
+use crate::apply_inbound::{after_attention, check_fields, take_fields};
 use crate::apply_write::{erase_over, write_over};
 use crate::buffer::{any_other, put_read};
 use crate::cell_beliefs::CellBeliefs;
@@ -322,7 +322,7 @@ impl Shadow {
         }
         match check_fields(&self.beliefs, inbound) {
             Ok(erased) => {
-                after_long(&mut self.beliefs, erased, inbound.returned());
+                take_fields(&mut self.beliefs, erased, inbound.returned());
                 Ok(())
             }
             Err(fault) => Err(fault),

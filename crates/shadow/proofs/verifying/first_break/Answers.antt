@@ -10,7 +10,6 @@ use Rattle.shadow.specs.declared.rule_break.Rule.{Rule}
 use Rattle.shadow.specs.declared.rule_break.Rule.TheVariants.{Applies}
 use Rattle.shadow.specs.InPlace.{beliefs_held, chars_known}
 use Rattle.shadow.specs.RuleBreaks.{break_at, first_break, lesser}
-use Rattle.shadow.specs.Runs.{rule_next}
 use Rattle.shadow.proofs.RuleWalk.{BreakLeft, next_broken, none_broken, run_kept, runs_broken}
 use Rattle.shadow.proofs.Stretches.{drop_drop}
 use Rattle.shadow.proofs.verifying.first_break.Goals as goal

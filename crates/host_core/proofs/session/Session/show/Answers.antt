@@ -80,7 +80,7 @@ returns-clause-sent c =
     once_heard app c.args.self.now mid _ c.args.asked c.args.out.now c.send_record.new.out c.forget_unheard.ensures
     (shows app mid _ c.args.asked.panel c.args.asked.message c.args.asked.keep mid.values c.put_fitting.new.wanted c.paint.new.out.items c.args.out.now c.send_record.new.out
     (c.put_fitting.ensures.wanted
-    ∙ ap (wanted_by app c.drop_values.new.self c.for_model-shown.result.panel c.for_model-shown.result.message c.for_model-shown.result.keep) c.values.ensures
+    ∙ ap (wanted_by app c.drop_values.new.self c.for_model-shown.result.panel c.for_model-shown.result.message c.for_model-shown.result.keep) (ap (λ (s : Session). s.values) c.self.view_is)
     ∙ ap (λ (s : Session). wanted_by app s c.for_model-shown.result.panel c.for_model-shown.result.message c.for_model-shown.result.keep s.values) c.drop_values.ensures
     ∙ same_wanted app mid left c.for_model-shown.result.panel c.for_model-shown.result.message c.for_model-shown.result.keep left
     ∙ ap (λ (s : Shown). wanted_by app mid s.panel s.message s.keep (values_shown app s.panel s.message mid.values)) c.for_model-shown.ensures.shown)

@@ -1,8 +1,8 @@
-use Rattle.std.proofs.Common.{refl, subst, ◌∙◌}
-use Rattle.codes3270.specs.Size.{ScreenSize}
+use Rattle.std.proofs.Common.{ap, refl, subst, ◌∙◌}
 use Rattle.datastream.specs.InboundText.{IsNoInbound}
 use Rattle.datastream.specs.declared.inbound_part.Form.{Form}
 use Rattle.host_core.specs.Items.{TakesRecord}
+use Rattle.host_core.specs.Session.{Session}
 use Rattle.host_core.proofs.RecordsTaken.{of_data, other_type}
 use Rattle.host_core.proofs.session.Session.take_record.Goals as goal
 
@@ -14,13 +14,13 @@ returns-in-Ok-read_inbound-clause-taken c =
     let read = c.in-Ok-read_inbound.ensures.found in
     TakesRecord.data_is c.in-Ok.header c.in-Ok.body.now c.in-Ok.ensures.found c.in-Data3270.is
     (of_data c.args.self.now c.hear.new.self c.hear.result c.in-Ok.body.now c.form_awaited.result c.in-Ok-read_inbound.inbound
-    c.form_awaited.ensures read.0 (read.1 ∙ c.size.ensures) read.2 c.hear.ensures.came)
+    c.form_awaited.ensures read.0 (read.1 ∙ ap (λ (session : Session). session.size) c.self.view_is) read.2 c.hear.ensures.came)
 
 pub take_second_key-requires : goal.take_second_key-requires
 take_second_key-requires c = (
   c.in-Err.field-0,
   subst (λ (form : Form). IsNoInbound c.args.self.now.size form c.in-Err.field-0 c.in-Ok.body.now) c.form_awaited.ensures
-      (subst (λ (size : ScreenSize). IsNoInbound size c.form_awaited.result c.in-Err.field-0 c.in-Ok.body.now) c.size.ensures c.in-Err.ensures.found),
+      (subst (λ (session : Session). IsNoInbound session.size c.form_awaited.result c.in-Err.field-0 c.in-Ok.body.now) c.self.view_is c.in-Err.ensures.found),
 )
 
 pub returns-in-Err-clause-taken : goal.returns-in-Err-clause-taken

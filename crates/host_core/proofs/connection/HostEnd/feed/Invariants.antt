@@ -4,18 +4,18 @@ use Rattle.tn3270e_msg.specs.HostTable.{granted}
 use Rattle.host_core.specs.Bytes.{TakesBytes}
 use Rattle.host_core.specs.Representation.{IsRunning, connection_and_pool_of}
 use Rattle.host_core.specs.Sound.{HoldsJust, OthersHold}
-use Rattle.host_core.proofs.feeding.feed_open.Given as goal
+use Rattle.host_core.proofs.connection.HostEnd.feed.Given as goal
 
 abbrev pub invariant-loop-taken : goal.invariant-loop-taken
 invariant-loop-taken l = record {
-  running : IsRunning l.decoder;
+  running : IsRunning l.self.decoder;
   few : l.taken ≤ length l.bytes;
-  holder : HoldsJust l.conn l.pool (granted l.session.talk.state);
+  holder : HoldsJust l.conn l.pool (granted l.self.session.talk.state);
   others : OthersHold l.conn l.initial.pool l.pool;
   capacity : vec_capacity l.initial.out ≤ vec_capacity l.out;
-  panel : l.session.panel ≡ l.initial.session.panel;
-  size : l.session.size ≡ l.initial.session.size;
-  taken : TakesBytes l.conn (connection_and_pool_of l.initial.pool l.initial.decoder l.initial.session None l.initial.out l.initial.reports) (take l.taken l.bytes) (connection_and_pool_of l.pool l.decoder l.session None l.out l.reports);
+  panel : l.self.session.panel ≡ l.initial.self.session.panel;
+  size : l.self.session.size ≡ l.initial.self.session.size;
+  taken : TakesBytes l.conn (connection_and_pool_of l.initial.pool l.initial.self.decoder l.initial.self.session None l.initial.out l.initial.reports) (take l.taken l.bytes) (connection_and_pool_of l.pool l.self.decoder l.self.session None l.out l.reports);
 }
 
 abbrev pub decreases-loop-taken : goal.decreases-loop-taken
