@@ -3,7 +3,7 @@ ghost use Rattle.std.specs.Prelude.{◌≡◌, ◌++◌, ◌<◌, None, codes, i
 ghost use Rattle.serde_json.specs.Data.{member, no_members};
 ghost use Rattle.serde_json.specs.Find.{get};
 ghost use Rattle.serde_json.specs.View.{items_view, members_view, view};
-ghost use Rattle.application_http.specs.Replies.{IsBadContent, IsBadValue, IsStored, IsText, Says, SaysIn, answer_in, answer_of, are_texts, arrays_in, copies_in, end_flaw, field_text, fields_flaw, first_flaw, flag_at, first_non_text, is_field_value, key_flaw, name_of_copy, names_text, object_at, text_at, texts_in};
+ghost use Rattle.application_http.specs.Replies.{IsBadContent, IsBadValue, IsStored, IsText, Says, SaysIn, answer_in, answer_of, are_texts, arrays_in, copies_in, field_text, fields_flaw, first_flaw, flag_at, first_non_text, is_field_value, key_flaw, name_of_copy, object_at, text_at, texts_in};
 
 use crate::fault::{KeyFault, ReplyFault};
 use crate::request::FieldText;
@@ -75,41 +75,19 @@ fn fields_flaw<'a>(key: &'a str, value: &'a Value) -> Option<(KeyFault, &'a str)
     }
 }
 
-/// What is wrong with the value of the key `end`.
-fn end_flaw<'a>(key: &'a str, value: &Value) -> Option<(KeyFault, &'a str)>
-    ensures { option_map (λ flaw. (flaw.0, flaw.1.now)) result ≡ end_flaw key.now (view value.now) }
-{
-    if value.is_boolean() {
-        None
-    } else {
-        Some((KeyFault::NotBoolean, key))
-    }
-}
-
-/// Whether a key's value must be a text.
-fn names_text(key: &str) -> bool
-    ensures { result ≡ names_text key.now }
-{
-    matches!(key, "panel" | "message" | "cursor")
-}
-
 /// What is wrong with one key and its value.
 fn key_flaw<'a>(key: &'a str, value: &'a Value) -> Option<(KeyFault, &'a str)>
     ensures { option_map (λ flaw. (flaw.0, flaw.1.now)) result ≡ key_flaw key.now (view value.now) }
 {
-    if names_text(key) {
-        if value.is_string() {
-            None
-        } else {
-            Some((KeyFault::NotText, key))
-        }
-    } else if key == "fields" {
-        fields_flaw(key, value)
-    } else if key == "end" {
-        end_flaw(key, value)
-    } else {
-        Some((KeyFault::UnknownKey, key))
-    }
+    let what = match key {
+        "panel" | "message" | "cursor" if value.is_string() => return None,
+        "panel" | "message" | "cursor" => KeyFault::NotText,
+        "end" if value.is_boolean() => return None,
+        "end" => KeyFault::NotBoolean,
+        "fields" => return fields_flaw(key, value),
+        _ => KeyFault::UnknownKey,
+    };
+    Some((what, key))
 }
 
 /// The first flaw of an object, in the order of the keys' bytes.
@@ -162,19 +140,12 @@ fn field_of(alloc: Global, name: &str, text: &str) -> Result<FieldText, AllocErr
     })
 }
 
-/// The name of a copy of a repeated field; the copies count from 1.
-fn name_of_copy(alloc: Global, stem: &str, number: usize) -> Result<String, AllocError>
-    ensures { IfOk result (λ name. string_bytes name ≡ name_of_copy stem.now number) }
-{
-    format!(in alloc; "{stem}.{number}")
-}
-
-/// The text of a copy of a repeated field.
+/// The name and the text of a copy of a repeated field; the copies count from 1.
 fn copy_text(alloc: Global, stem: &str, number: usize, text: &str) -> Result<FieldText, AllocError>
     ensures { IfOk result (λ field. field_text field ≡ (name_of_copy stem.now number, text.now)) }
 {
     Ok(FieldText {
-        name: name_of_copy(alloc, stem, number)?,
+        name: format!(in alloc; "{stem}.{number}")?,
         text: copy_of(alloc, text)?,
     })
 }
@@ -265,10 +236,9 @@ fn texts_at(alloc: Global, value: &Value, key: &str) -> Result<Vec<FieldText>, A
     }
 }
 
-/// The reply that a valid object represents; the connection is kept for `kept` seconds.
-fn reply_of(alloc: Global, value: &Value, kept: u32) -> Result<Reply, AllocError>
+/// The reply that a valid object represents.
+fn reply_of(alloc: Global, value: &Value) -> Result<Reply, AllocError>
     ensures said { IfOk result (λ reply. answer_in reply ≡ answer_of (view value.now)) }
-    ensures kept { IfOk result (λ reply. reply.kept ≡ kept) }
     ensures refused { OnErr result (IsStored None (answer_of (view value.now))) }
 {
     Ok(Reply {
@@ -278,14 +248,13 @@ fn reply_of(alloc: Global, value: &Value, kept: u32) -> Result<Reply, AllocError
         message: text_at(alloc, value, "message")?,
         cursor: text_at(alloc, value, "cursor")?,
         end: flag_at(value, "end"),
-        kept,
+        kept: 0,
     })
 }
 
-/// The reply that a JSON value represents; the connection is kept for `kept` seconds.
-fn reply_in(alloc: Global, value: &Value, kept: u32) -> Result<Reply, ReplyFault>
+/// The reply that a JSON value represents.
+fn reply_in(alloc: Global, value: &Value) -> Result<Reply, ReplyFault>
     ensures said { IfOk result (λ reply. SaysIn (view value.now) (answer_in reply)) }
-    ensures kept { IfOk result (λ reply. reply.kept ≡ kept) }
     ensures bad { IfErr result (IsBadValue (view value.now)) }
 {
     let Some(members) = value.as_object() else {
@@ -296,18 +265,17 @@ fn reply_in(alloc: Global, value: &Value, kept: u32) -> Result<Reply, ReplyFault
             what,
             key: copy_of(alloc, key)?,
         }),
-        None => Ok(reply_of(alloc, value, kept)?),
+        None => Ok(reply_of(alloc, value)?),
     }
 }
 
-/// The reply that the bytes of a content represent; the connection is kept for `kept` seconds.
-pub(crate) fn read_reply(alloc: Global, content: &[u8], kept: u32) -> Result<Reply, ReplyFault>
+/// The reply that the bytes of a content represent. Whether its connection is kept, the head says.
+pub(crate) fn read_reply(alloc: Global, content: &[u8]) -> Result<Reply, ReplyFault>
     ensures said { IfOk result (λ reply. Says content.now (answer_in reply)) }
-    ensures kept { IfOk result (λ reply. reply.kept ≡ kept) }
     ensures bad { IfErr result (IsBadContent content.now) }
 {
     match Value::from_slice(alloc, content) {
-        Ok(value) => reply_in(alloc, &value, kept),
+        Ok(value) => reply_in(alloc, &value),
         Err(fault) if fault.is_memory() => Err(ReplyFault::Memory),
         Err(_) => Err(ReplyFault::NotJson),
     }
