@@ -124,6 +124,10 @@ abbrev pub IsText : Option (List ℕ) → Type 0
 IsText None = ⊥
 IsText (Some text) = 0 < length text
 
+-- holds if an object has an array, or a text
+abbrev pub HasTexts : Members → Type 0
+HasTexts members = (0 < length (arrays_in members)) ⊎ (0 < length (texts_in members))
+
 -- holds if a name or a text must be stored: that of the first flaw, or one of the answer
 abbrev pub IsStored : Option KeyFlaw → Answer → Type 0
 IsStored (Some flaw) answer = 0 < length flaw.1

@@ -3,7 +3,7 @@ ghost use Rattle.std.specs.Prelude.{◌≡◌, ◌++◌, ◌<◌, None, codes, i
 ghost use Rattle.serde_json.specs.Data.{member, no_members};
 ghost use Rattle.serde_json.specs.Find.{get};
 ghost use Rattle.serde_json.specs.View.{items_view, members_view, view};
-ghost use Rattle.application_http.specs.Replies.{IsBadContent, IsBadValue, IsStored, IsText, Says, SaysIn, answer_in, answer_of, are_texts, arrays_in, copies_in, field_text, fields_flaw, first_flaw, flag_at, first_non_text, is_field_value, key_flaw, name_of_copy, object_at, text_at, texts_in};
+ghost use Rattle.application_http.specs.Replies.{HasTexts, IsBadContent, IsBadValue, IsStored, IsText, Says, SaysIn, answer_in, answer_of, are_texts, arrays_in, copies_in, field_text, fields_flaw, first_flaw, flag_at, is_field_value, key_flaw, name_of_copy, object_at, text_at, texts_in};
 
 use crate::fault::{KeyFault, ReplyFault};
 use crate::request::FieldText;
@@ -53,26 +53,20 @@ fn is_field_value(value: &Value) -> bool
     }
 }
 
-/// The first member of an object whose value isn't a text, nor an array of texts.
-fn first_non_text(members: &Map<String, Value>) -> Option<(KeyFault, &str)>
-    ensures { option_map (λ flaw. (flaw.0, flaw.1.now)) result ≡ first_non_text (members_view members.now.entries) }
+/// What is wrong with the value of the key `fields`: it is no object, or has a member that isn't a text, nor an array of
+/// texts. The first such member counts.
+fn fields_flaw<'a>(key: &'a str, value: &'a Value) -> Option<(KeyFault, &'a str)>
+    ensures { option_map (λ flaw. (flaw.0, flaw.1.now)) result ≡ fields_flaw key.now (view value.now) }
 {
+    let Some(members) = value.as_object() else {
+        return Some((KeyFault::NotObject, key));
+    };
     for (name, value) in members {
         if !is_field_value(value) {
             return Some((KeyFault::FieldNotText, name.as_str()));
         }
     }
     None
-}
-
-/// What is wrong with the value of the key `fields`.
-fn fields_flaw<'a>(key: &'a str, value: &'a Value) -> Option<(KeyFault, &'a str)>
-    ensures { option_map (λ flaw. (flaw.0, flaw.1.now)) result ≡ fields_flaw key.now (view value.now) }
-{
-    match value.as_object() {
-        Some(members) => first_non_text(members),
-        None => Some((KeyFault::NotObject, key)),
-    }
 }
 
 /// What is wrong with one key and its value.
@@ -157,9 +151,8 @@ fn add_copies(
     values: &[Value],
     texts: &mut Vec<FieldText>,
 ) -> Result<(), AllocError>
-    ensures copies { OnOk result (map field_text texts.new.items
+    ensures { OnOk result (map field_text texts.new.items
         ≡ map field_text texts.old.items ++ copies_in stem.now 1 (items_view values.now)) }
-    ensures refused { OnErr result (0 < length (copies_in stem.now 1 (items_view values.now))) }
 {
     for (index, value) in values.iter().enumerate() {
         if let Some(text) = value.as_str() {
@@ -169,71 +162,47 @@ fn add_copies(
     Ok(())
 }
 
-/// Adds the text of a field, or those of the copies of a repeated one.
-fn add_texts(
+/// Adds the text of a field, or the name of a repeated one and the texts of its copies.
+fn add_member(
     alloc: Global,
     name: &str,
     value: &Value,
+    arrays: &mut Vec<String>,
     texts: &mut Vec<FieldText>,
 ) -> Result<(), AllocError>
-    ensures copies { OnOk result (map field_text texts.new.items
+    ensures arrays { OnOk result (map string_bytes arrays.new.items
+        ≡ map string_bytes arrays.old.items ++ arrays_in (member name.now (view value.now) no_members)) }
+    ensures texts { OnOk result (map field_text texts.new.items
         ≡ map field_text texts.old.items ++ texts_in (member name.now (view value.now) no_members)) }
-    ensures refused { OnErr result (0 < length (texts_in (member name.now (view value.now) no_members))) }
+    ensures refused { OnErr result (HasTexts (member name.now (view value.now) no_members)) }
 {
     match value {
         Value::String(text) => Ok(texts.push(field_of(alloc, name, text.as_str())?)?),
-        Value::Array(values) => add_copies(alloc, name, values.as_slice(), texts),
+        Value::Array(values) => {
+            arrays.push(copy_of(alloc, name)?)?;
+            add_copies(alloc, name, values.as_slice(), texts)
+        }
         _ => Ok(()),
     }
 }
 
-/// The names of an object's arrays.
-fn arrays_in(alloc: Global, members: &Map<String, Value>) -> Result<Vec<String>, AllocError>
-    ensures copy { IfOk result (λ names. map string_bytes names.items ≡ arrays_in (members_view members.now.entries)) }
-    ensures refused { OnErr result (0 < length (arrays_in (members_view members.now.entries))) }
+/// Adds the names of the repeated fields that have arrays, and the texts of all fields.
+fn add_fields(
+    alloc: Global,
+    members: &Map<String, Value>,
+    arrays: &mut Vec<String>,
+    texts: &mut Vec<FieldText>,
+) -> Result<(), AllocError>
+    ensures arrays { OnOk result (map string_bytes arrays.new.items
+        ≡ map string_bytes arrays.old.items ++ arrays_in (members_view members.now.entries)) }
+    ensures texts { OnOk result (map field_text texts.new.items
+        ≡ map field_text texts.old.items ++ texts_in (members_view members.now.entries)) }
+    ensures refused { OnErr result (HasTexts (members_view members.now.entries)) }
 {
-    let mut names = Vec::new(alloc);
     for (name, value) in members {
-        if value.is_array() {
-            names.push(copy_of(alloc, name.as_str())?)?;
-        }
+        add_member(alloc, name.as_str(), value, arrays, texts)?;
     }
-    Ok(names)
-}
-
-/// The names of the arrays in the object at a key; none if there is no such object.
-fn arrays_at(alloc: Global, value: &Value, key: &str) -> Result<Vec<String>, AllocError>
-    ensures copy { IfOk result
-        (λ names. map string_bytes names.items ≡ arrays_in (object_at key.now (view value.now))) }
-    ensures refused { OnErr result (0 < length (arrays_in (object_at key.now (view value.now)))) }
-{
-    match value.get(key).and_then(Value::as_object) {
-        Some(members) => arrays_in(alloc, members),
-        None => Ok(Vec::new(alloc)),
-    }
-}
-
-/// Copies of the names and texts of an object's members.
-fn texts_in(alloc: Global, members: &Map<String, Value>) -> Result<Vec<FieldText>, AllocError>
-    ensures copy { IfOk result (λ texts. map field_text texts.items ≡ texts_in (members_view members.now.entries)) }
-    ensures refused { OnErr result (0 < length (texts_in (members_view members.now.entries))) }
-{
-    let mut texts = Vec::new(alloc);
-    for (name, value) in members {
-        add_texts(alloc, name.as_str(), value, &mut texts)?;
-    }
-    Ok(texts)
-}
-
-/// Copies of the names and texts of the object at a key; none if there is no such object.
-fn texts_at(alloc: Global, value: &Value, key: &str) -> Result<Vec<FieldText>, AllocError>
-    ensures copy { IfOk result (λ texts. map field_text texts.items ≡ texts_in (object_at key.now (view value.now))) }
-    ensures refused { OnErr result (0 < length (texts_in (object_at key.now (view value.now)))) }
-{
-    match value.get(key).and_then(Value::as_object) {
-        Some(members) => texts_in(alloc, members),
-        None => Ok(Vec::new(alloc)),
-    }
+    Ok(())
 }
 
 /// The reply that a valid object represents.
@@ -241,10 +210,15 @@ fn reply_of(alloc: Global, value: &Value) -> Result<Reply, AllocError>
     ensures said { IfOk result (λ reply. answer_in reply ≡ answer_of (view value.now)) }
     ensures refused { OnErr result (IsStored None (answer_of (view value.now))) }
 {
+    let mut arrays = Vec::new(alloc);
+    let mut fields = Vec::new(alloc);
+    if let Some(members) = value.get("fields").and_then(Value::as_object) {
+        add_fields(alloc, members, &mut arrays, &mut fields)?;
+    }
     Ok(Reply {
         panel: text_at(alloc, value, "panel")?,
-        arrays: arrays_at(alloc, value, "fields")?,
-        fields: texts_at(alloc, value, "fields")?,
+        arrays,
+        fields,
         message: text_at(alloc, value, "message")?,
         cursor: text_at(alloc, value, "cursor")?,
         end: flag_at(value, "end"),
