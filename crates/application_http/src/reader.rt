@@ -4,7 +4,7 @@ ghost use Rattle.application_http.specs.Contents.{IsKept, IsUnfinished, most_byt
 ghost use Rattle.application_http.specs.Readings.{ReturnsNone, HasReply, IsBadReply, IsFound, IsRefused, IsRefusedAfter, left_by};
 ghost use Rattle.application_http.specs.Replies.{answer_in};
 
-use crate::content::{MOST_BYTES, content_of, head_of, kept_in};
+use crate::content::{MOST_BYTES, head_of, kept_in, put_content};
 use crate::fault::ReplyFault;
 use crate::reply::{Reply, read_reply};
 use std::alloc::Global;
@@ -28,9 +28,10 @@ fn reply_at(
         return Ok(None);
     };
     let kept = kept_in(bytes, head, is_over);
-    let Some(content) = content_of(alloc, bytes, head, is_closed)? else {
+    let mut content = Vec::new(alloc);
+    if !put_content(&mut content, bytes, head, is_closed)? {
         return Ok(None);
-    };
+    }
     let mut reply = read_reply(alloc, content.as_slice())?;
     reply.kept = kept;
     Ok(Some(reply))
