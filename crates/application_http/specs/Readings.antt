@@ -42,12 +42,6 @@ IsRefusedAfter so_far bytes why = ((why ≡ fault.Memory) × (length so_far < mo
 abbrev pub Outcome : Type 0
 Outcome = Result (Option Reply) ReplyFault
 
--- whether an outcome ends the reading: a reply or a fault
-abbrev pub is_last : Outcome → Bool
-is_last (Ok None) = false
-is_last (Ok (Some reply)) = true
-is_last (Err why) = true
-
 -- the reader's state after an outcome: all bytes received, or None if the reading is over
 abbrev pub left_by : Outcome → (bytes : List ℕ) → Option (List ℕ)
 left_by (Ok None) bytes = Some bytes

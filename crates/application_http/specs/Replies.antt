@@ -95,15 +95,13 @@ fields_flaw key _ = Some (NotObject, key)
 abbrev pub names_text : List ℕ → Bool
 names_text key = bytes_eq key (codes "panel") || bytes_eq key (codes "message") || bytes_eq key (codes "cursor")
 
-abbrev pub end_flaw : (key : List ℕ) → Data → Option KeyFlaw
-end_flaw key value = if is_some (as_bool value) then None else Some (NotBoolean, key)
-
 -- what is wrong with one key and its value
 abbrev pub key_flaw : (key : List ℕ) → Data → Option KeyFlaw
 key_flaw key value =
     if names_text key then (if is_some (as_str value) then None else Some (NotText, key))
     else (if bytes_eq key (codes "fields") then fields_flaw key value
-    else (if bytes_eq key (codes "end") then end_flaw key value else Some (UnknownKey, key)))
+    else (if bytes_eq key (codes "end") then (if is_some (as_bool value) then None else Some (NotBoolean, key))
+    else Some (UnknownKey, key)))
 
 -- the first of two flaws, if there are any
 abbrev pub earlier : Option KeyFlaw → Option KeyFlaw → Option KeyFlaw
@@ -125,6 +123,10 @@ SaysIn d answer = (members : Members) × (d ≡ object members) × (first_flaw m
 abbrev pub IsText : Option (List ℕ) → Type 0
 IsText None = ⊥
 IsText (Some text) = 0 < length text
+
+-- holds if an object has an array, or a text
+abbrev pub HasTexts : Members → Type 0
+HasTexts members = (0 < length (arrays_in members)) ⊎ (0 < length (texts_in members))
 
 -- holds if a name or a text must be stored: that of the first flaw, or one of the answer
 abbrev pub IsStored : Option KeyFlaw → Answer → Type 0

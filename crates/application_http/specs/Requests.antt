@@ -1,6 +1,7 @@
 -- The requests to an application, for a question and for the end of a session: HTTP/1.1 (RFC 9112) with a JSON object
 -- (RFC 8259; keys: our profile).
 use Rattle.std.specs.Prelude.{ℕ, ◌==◌, nat_lt, Bool, false, List, [], ◌∷◌, ◌++◌, map, bytes_eq, Option, Some, None, codes, decimal, length, option_map, string_bytes, if◌then◌else◌}
+use Rattle.std.specs.Borrow.{Bor}
 use Rattle.std.specs.List.{after_first, before_first, position_or_len}
 use Rattle.std.specs.Option.{option_map_or}
 use Rattle.serde_json.specs.Data.{Data, number, unsigned, string, array, object, Members, no_members, member, put}
@@ -57,6 +58,15 @@ with_texts all members (field ∷ fields) = with_texts all (with_field all field
 abbrev pub fields_data : List FieldText → Data
 fields_data fields = object (with_texts fields no_members fields)
 
+-- the members after texts were put in, and after numbers, each at its key
+abbrev pub with_strings : List (Bor (List ℕ) × Bor (List ℕ)) → Members → Members
+with_strings [] members = members
+with_strings (text ∷ texts) members = with_strings texts (put text.0.now (string text.1.now) members)
+
+abbrev pub with_numbers : List (Bor (List ℕ) × ℕ) → Members → Members
+with_numbers [] members = members
+with_numbers (it ∷ others) members = with_numbers others (put it.0.now (number (unsigned it.1)) members)
+
 -- the object of the cursor; its row and column are 1-based
 abbrev pub cursor_data : (row col : ℕ) → Data
 cursor_data row col =
@@ -87,20 +97,13 @@ question_data request =
     (member (codes "terminal") (terminal_data request.terminal)
     (member (codes "turn") (number (unsigned request.turn)) no_members)))))))))
 
--- the JSON text of the object, without blanks
-abbrev pub body_text : Request → List ℕ
-body_text request = compact_text (question_data request)
-
--- the object of a notification, with its keys in the order of their bytes, and its JSON text
+-- the object of a notification, with its keys in the order of their bytes
 abbrev pub ended_data : Ended → Data
 ended_data ended =
     object (member (codes "event") (string (codes "ended"))
     (member (codes "lu") (string ended.lu.now)
     (member (codes "reason") (string ended.reason.now)
     (member (codes "session") (string ended.session.now) no_members))))
-
-abbrev pub ended_text : Ended → List ℕ
-ended_text ended = compact_text (ended_data ended)
 
 -- ---- the head
 
@@ -118,10 +121,10 @@ field_lines url length =
 abbrev pub post_bytes : Parts → (body : List ℕ) → List ℕ
 post_bytes url body = first_line url ++ field_lines url (length body) ++ body
 
--- the request for a question
+-- the request for a question; its body is the JSON text of the object, without blanks
 abbrev pub request_bytes : Parts → Request → List ℕ
-request_bytes url request = post_bytes url (body_text request)
+request_bytes url request = post_bytes url (compact_text (question_data request))
 
 -- the request that reports a session's end
 abbrev pub notification_bytes : Parts → Ended → List ℕ
-notification_bytes url ended = post_bytes url (ended_text ended)
+notification_bytes url ended = post_bytes url (compact_text (ended_data ended))

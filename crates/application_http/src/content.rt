@@ -14,7 +14,6 @@ use http1::framing::{Framing, FramingError, MethodKind, response_framing};
 use http1::{Limits, ReadError};
 use httparse::spans::{EMPTY_HEADER_SPAN, parse_response};
 use httparse::{Error, Status};
-use std::alloc::{AllocError, Global};
 
 /// The most bytes of a reply, head and content together.
 pub(crate) const MOST_BYTES: usize = 65_536;
@@ -71,26 +70,21 @@ pub(crate) fn head_of(bytes: &[u8]) -> Result<Option<Head>, ReplyFault>
     }
 }
 
-fn copy_of(alloc: Global, bytes: &[u8]) -> Result<Vec<u8>, AllocError>
-    ensures copy { IfOk result (λ copy. copy.items ≡ bytes.now) }
-    ensures refused { OnErr result (0 < length bytes.now) }
-{
-    let mut copy = Vec::new(alloc);
-    copy.extend_from_slice(bytes)?;
-    Ok(copy)
-}
-
-/// The content of a body with this length, in bytes; None if there are fewer bytes.
+/// Adds the content of a body with this length, in bytes, and answers whether all of it is there.
 #[tactic(auto, using(crate::proofs::Chunks::sized_whole))]
-fn sized_content(alloc: Global, len: u64, after: &[u8]) -> Result<Option<Vec<u8>>, AllocError>
-    ensures found { IfOk result (λ found. MatchOption found (IsIncompleteBody true (framed.Length len) after.now)
-        (λ content. IsCompleteBody true (framed.Length len) after.now content.items)) }
-    ensures refused { OnErr result (StoresContent true (framed.Length len) after.now) }
+fn put_sized(content: &mut Vec<u8>, len: u64, after: &[u8]) -> Result<bool, ReplyFault>
+    requires { content.old.items ≡ [] }
+    ensures whole { IfOk result
+        (λ is_whole. IsTrue is_whole → IsCompleteBody true (framed.Length len) after.now content.new.items) }
+    ensures lacks_end { IfOk result
+        (λ is_whole. IsFalse is_whole → IsIncompleteBody true (framed.Length len) after.now) }
+    ensures wrong { IfErr result (IsBadBody true (framed.Length len) after.now) }
 {
     if (after.len() as u64) < len {
-        return Ok(None);
+        return Ok(false);
     }
-    Ok(Some(copy_of(alloc, &after[..len as usize])?))
+    content.extend_from_slice(&after[..len as usize])?;
+    Ok(true)
 }
 
 /// The bytes from the index `at` on.
@@ -136,53 +130,40 @@ fn put_chunks(content: &mut Vec<u8>, after: &[u8]) -> Result<bool, ReplyFault>
     }
 }
 
-/// The content of a chunked body; None if it isn't complete yet.
-fn chunked_content(alloc: Global, after: &[u8]) -> Result<Option<Vec<u8>>, ReplyFault>
-    ensures whole { IfOk result
-        (λ found. MatchOption found ⊤ (λ content. IsCompleteBody true framed.Chunked after.now content.items)) }
-    ensures lacks_end { IfOk result
-        (λ found. MatchOption found (IsIncompleteBody true framed.Chunked after.now) (λ _. ⊤)) }
-    ensures wrong { IfErr result (IsBadBody true framed.Chunked after.now) }
-{
-    let mut content = Vec::new(alloc);
-    let is_whole = put_chunks(&mut content, after)?;
-    if is_whole {
-        Ok(Some(content))
-    } else {
-        Ok(None)
-    }
-}
-
-/// The content of a body that ends with the connection; None if that isn't closed yet.
+/// Adds the content of a body that ends with the connection, and answers whether that is closed.
 #[tactic(auto, using(crate::proofs::Chunks::closed_whole))]
-fn last_content(alloc: Global, after: &[u8], is_closed: bool) -> Result<Option<Vec<u8>>, AllocError>
-    ensures found { IfOk result (λ found. MatchOption found (IsIncompleteBody is_closed framed.UntilClose after.now)
-        (λ content. IsCompleteBody is_closed framed.UntilClose after.now content.items)) }
-    ensures refused { OnErr result (StoresContent is_closed framed.UntilClose after.now) }
+fn put_last(content: &mut Vec<u8>, after: &[u8], is_closed: bool) -> Result<bool, ReplyFault>
+    requires { content.old.items ≡ [] }
+    ensures whole { IfOk result
+        (λ is_whole. IsTrue is_whole → IsCompleteBody is_closed framed.UntilClose after.now content.new.items) }
+    ensures lacks_end { IfOk result
+        (λ is_whole. IsFalse is_whole → IsIncompleteBody is_closed framed.UntilClose after.now) }
+    ensures wrong { IfErr result (IsBadBody is_closed framed.UntilClose after.now) }
 {
     if is_closed {
-        Ok(Some(copy_of(alloc, after)?))
-    } else {
-        Ok(None)
+        content.extend_from_slice(after)?;
     }
+    Ok(is_closed)
 }
 
-/// The content of a body; None if it isn't complete yet.
-fn body_content(
-    alloc: Global,
+/// Adds the content of a body, and answers whether the body is complete.
+fn put_body(
+    content: &mut Vec<u8>,
     framing: Framing,
     after: &[u8],
     is_closed: bool,
-) -> Result<Option<Vec<u8>>, ReplyFault>
-    ensures found { IfOk result (λ found. MatchOption found (IsIncompleteBody is_closed framing after.now)
-        (λ content. IsCompleteBody is_closed framing after.now content.items)) }
+) -> Result<bool, ReplyFault>
+    requires { content.old.items ≡ [] }
+    ensures whole { IfOk result
+        (λ is_whole. IsTrue is_whole → IsCompleteBody is_closed framing after.now content.new.items) }
+    ensures lacks_end { IfOk result (λ is_whole. IsFalse is_whole → IsIncompleteBody is_closed framing after.now) }
     ensures wrong { IfErr result (IsBadBody is_closed framing after.now) }
 {
     match framing {
-        Framing::NoBody => Ok(sized_content(alloc, 0, after)?),
-        Framing::Length(len) => Ok(sized_content(alloc, len, after)?),
-        Framing::Chunked => chunked_content(alloc, after),
-        Framing::UntilClose => Ok(last_content(alloc, after, is_closed)?),
+        Framing::NoBody => put_sized(content, 0, after),
+        Framing::Length(len) => put_sized(content, len, after),
+        Framing::Chunked => put_chunks(content, after),
+        Framing::UntilClose => put_last(content, after, is_closed),
     }
 }
 
@@ -200,24 +181,26 @@ pub(crate) fn kept_in(bytes: &[u8], head: Head, is_over: bool) -> u32
     )
 }
 
-/// The content of the reply that the bytes begin with, by its head; None if it isn't complete yet. `is_closed` says
-/// whether the connection is closed after them, which ends a body without a stated length.
-pub(crate) fn content_of(
-    alloc: Global,
+/// Adds the content of the reply that the bytes begin with, by its head, and answers whether it is complete. `is_closed`
+/// says whether the connection is closed after them, which ends a body without a stated length.
+pub(crate) fn put_content(
+    content: &mut Vec<u8>,
     bytes: &[u8],
     head: Head,
     is_closed: bool,
-) -> Result<Option<Vec<u8>>, ReplyFault>
-    requires { IsHead bytes.now head }
-    ensures found { IfOk result (λ found. MatchOption found (IsUnfinished is_closed bytes.now)
-        (λ content. HasContent is_closed bytes.now content.items)) }
+) -> Result<bool, ReplyFault>
+    requires nothing { content.old.items ≡ [] }
+    requires is_head { IsHead bytes.now head }
+    ensures whole { IfOk result
+        (λ is_whole. IsTrue is_whole → HasContent is_closed bytes.now content.new.items) }
+    ensures lacks_end { IfOk result (λ is_whole. IsFalse is_whole → IsUnfinished is_closed bytes.now) }
     ensures wrong { IfErr result (IsBadMessage is_closed bytes.now) }
 {
     if head.status != ACCEPTED {
         return Err(ReplyFault::Status(head.status));
     }
     match head.framing {
-        Ok(framing) => body_content(alloc, framing, behind(bytes, head.len), is_closed),
+        Ok(framing) => put_body(content, framing, behind(bytes, head.len), is_closed),
         Err(_) => Err(ReplyFault::BadLength),
     }
 }

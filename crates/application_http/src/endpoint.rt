@@ -101,8 +101,9 @@ impl Endpoint {
     {
         let url = match Url::parse(alloc, text) {
             Ok(url) => url,
-            Err(ParseError::OutOfMemory) => return Err(EndpointFault::Memory),
-            Err(ParseError::Overflow) => return Err(EndpointFault::Memory),
+            Err(ParseError::OutOfMemory | ParseError::Overflow) => {
+                return Err(EndpointFault::Memory);
+            }
             Err(fault) => return Err(EndpointFault::NotUrl(fault)),
         };
         match refusal(&url) {
@@ -125,7 +126,7 @@ impl Endpoint {
 
     /// Adds the request line.
     #[tactic(auto, unfolding(crate::specs::Requests::first_line))]
-    fn put_first_line(&self, text: &mut String) -> Result<(), AllocError>
+    pub(crate) fn put_first_line(&self, text: &mut String) -> Result<(), AllocError>
         ensures { OnOk result (string_bytes text.new ≡ string_bytes text.old ++ first_line self.now) }
     {
         let path = self.url.path();
@@ -137,7 +138,7 @@ impl Endpoint {
 
     /// Adds the header fields of a request whose body has this length, in bytes, and the empty line.
     #[tactic(auto, unfolding(crate::specs::Requests::field_lines))]
-    fn put_fields(&self, text: &mut String, length: usize) -> Result<(), AllocError>
+    pub(crate) fn put_fields(&self, text: &mut String, length: usize) -> Result<(), AllocError>
         ensures { OnOk result (string_bytes text.new ≡ string_bytes text.old ++ field_lines self.now length) }
     {
         let host = quirks::host(&self.url);
@@ -145,14 +146,5 @@ impl Endpoint {
             text,
             "Host: {host}\r\nContent-Type: application/json\r\nContent-Length: {length}\r\n\r\n"
         )
-    }
-
-    /// Adds the head of a request whose body has this length, in bytes.
-    pub(crate) fn put_head(&self, text: &mut String, length: usize) -> Result<(), AllocError>
-        ensures { OnOk result
-            (string_bytes text.new ≡ string_bytes text.old ++ (first_line self.now ++ field_lines self.now length)) }
-    {
-        self.put_first_line(text)?;
-        self.put_fields(text, length)
     }
 }

@@ -1,10 +1,10 @@
 //! The HTTP request that tells an application of a session's end.
 ghost use Rattle.std.specs.Prelude.{◌≡◌, IfOk, string_bytes};
 ghost use Rattle.serde_json.specs.View.{view};
-ghost use Rattle.application_http.specs.Requests.{ended_data, ended_text, notification_bytes};
+ghost use Rattle.application_http.specs.Requests.{ended_data, notification_bytes};
 
 use crate::endpoint::Endpoint;
-use crate::request::{post_text, put_text};
+use crate::request::{post_text, put_texts};
 use serde_json::{Map, Value};
 use std::alloc::{AllocError, Global};
 
@@ -23,20 +23,15 @@ pub struct Ended<'a> {
 fn ended_value(alloc: Global, ended: &Ended<'_>) -> Result<Value, AllocError>
     ensures { IfOk result (λ value. view value ≡ ended_data ended.now) }
 {
+    let texts = [
+        ("event", "ended"),
+        ("session", ended.session),
+        ("lu", ended.lu),
+        ("reason", ended.reason),
+    ];
     let mut members = Map::new(alloc);
-    put_text(&mut members, alloc, "event", "ended")?;
-    put_text(&mut members, alloc, "session", ended.session)?;
-    put_text(&mut members, alloc, "lu", ended.lu)?;
-    put_text(&mut members, alloc, "reason", ended.reason)?;
+    put_texts(&mut members, alloc, &texts)?;
     Ok(Value::Object(members))
-}
-
-/// The body of a notification: its JSON text.
-fn ended_text(alloc: Global, ended: &Ended<'_>) -> Result<String, AllocError>
-    ensures { IfOk result (λ text. string_bytes text ≡ ended_text ended.now) }
-{
-    let value = ended_value(alloc, ended)?;
-    value.to_string(alloc)
 }
 
 /// The bytes of a notification, head and body, for the application at an endpoint.
@@ -47,6 +42,6 @@ pub fn notification_text(
 ) -> Result<String, AllocError>
     ensures { IfOk result (λ text. string_bytes text ≡ notification_bytes endpoint.now ended.now) }
 {
-    let body = ended_text(alloc, ended)?;
-    post_text(alloc, endpoint, body.as_str())
+    let value = ended_value(alloc, ended)?;
+    post_text(alloc, endpoint, &value)
 }

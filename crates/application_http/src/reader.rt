@@ -1,10 +1,10 @@
 //! Reads an application's reply from bytes that are received in any pieces.
 ghost use Rattle.std.specs.Prelude.{◌≡◌, ◌≤◌, ◌++◌, ◌↔◌, ℕ, ⊤, false, true, [], List, length, take, Some, None, IfErr, IfOk, IsSome, IsTrue, MatchOption};
 ghost use Rattle.application_http.specs.Contents.{IsKept, IsUnfinished, most_bytes};
-ghost use Rattle.application_http.specs.Readings.{ReturnsNone, HasReply, IsBadReply, IsFound, IsRefused, IsRefusedAfter, is_last, left_by};
+ghost use Rattle.application_http.specs.Readings.{ReturnsNone, HasReply, IsBadReply, IsFound, IsRefused, IsRefusedAfter, left_by};
 ghost use Rattle.application_http.specs.Replies.{answer_in};
 
-use crate::content::{MOST_BYTES, content_of, head_of, kept_in};
+use crate::content::{MOST_BYTES, head_of, kept_in, put_content};
 use crate::fault::ReplyFault;
 use crate::reply::{Reply, read_reply};
 use std::alloc::Global;
@@ -28,10 +28,13 @@ fn reply_at(
         return Ok(None);
     };
     let kept = kept_in(bytes, head, is_over);
-    let Some(content) = content_of(alloc, bytes, head, is_closed)? else {
+    let mut content = Vec::new(alloc);
+    if !put_content(&mut content, bytes, head, is_closed)? {
         return Ok(None);
-    };
-    Ok(Some(read_reply(alloc, content.as_slice(), kept)?))
+    }
+    let mut reply = read_reply(alloc, content.as_slice())?;
+    reply.kept = kept;
+    Ok(Some(reply))
 }
 
 /// The first `room` bytes, or all if there are fewer.
@@ -73,13 +76,6 @@ fn conclude(alloc: Global, bytes: &[u8]) -> Result<Option<Reply>, ReplyFault>
         Ok(None) => Err(ReplyFault::CutShort),
         Err(why) => Err(why),
     }
-}
-
-/// Whether this answer ends the reading.
-fn is_last(answer: &Result<Option<Reply>, ReplyFault>) -> bool
-    ensures { result ≡ is_last answer.now }
-{
-    !matches!(answer, Ok(None))
 }
 
 /// Reads a reply that is received in pieces, of at most 65,536 bytes in all. Contracts see the bytes received so far,
@@ -131,7 +127,7 @@ impl ReplyReader {
             return Ok(None);
         }
         let answer = advance(alloc, &mut self.bytes, bytes);
-        self.is_over = is_last(&answer);
+        self.is_over = !matches!(answer, Ok(None));
         answer
     }
 

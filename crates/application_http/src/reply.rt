@@ -3,7 +3,7 @@ ghost use Rattle.std.specs.Prelude.{◌≡◌, ◌++◌, ◌<◌, None, codes, i
 ghost use Rattle.serde_json.specs.Data.{member, no_members};
 ghost use Rattle.serde_json.specs.Find.{get};
 ghost use Rattle.serde_json.specs.View.{items_view, members_view, view};
-ghost use Rattle.application_http.specs.Replies.{IsBadContent, IsBadValue, IsStored, IsText, Says, SaysIn, answer_in, answer_of, are_texts, arrays_in, copies_in, end_flaw, field_text, fields_flaw, first_flaw, flag_at, first_non_text, is_field_value, key_flaw, name_of_copy, names_text, object_at, text_at, texts_in};
+ghost use Rattle.application_http.specs.Replies.{HasTexts, IsBadContent, IsBadValue, IsStored, IsText, Says, SaysIn, answer_in, answer_of, are_texts, arrays_in, copies_in, field_text, fields_flaw, first_flaw, flag_at, is_field_value, key_flaw, name_of_copy, object_at, text_at, texts_in};
 
 use crate::fault::{KeyFault, ReplyFault};
 use crate::request::FieldText;
@@ -53,10 +53,14 @@ fn is_field_value(value: &Value) -> bool
     }
 }
 
-/// The first member of an object whose value isn't a text, nor an array of texts.
-fn first_non_text(members: &Map<String, Value>) -> Option<(KeyFault, &str)>
-    ensures { option_map (λ flaw. (flaw.0, flaw.1.now)) result ≡ first_non_text (members_view members.now.entries) }
+/// What is wrong with the value of the key `fields`: it is no object, or has a member that isn't a text, nor an array of
+/// texts. The first such member counts.
+fn fields_flaw<'a>(key: &'a str, value: &'a Value) -> Option<(KeyFault, &'a str)>
+    ensures { option_map (λ flaw. (flaw.0, flaw.1.now)) result ≡ fields_flaw key.now (view value.now) }
 {
+    let Some(members) = value.as_object() else {
+        return Some((KeyFault::NotObject, key));
+    };
     for (name, value) in members {
         if !is_field_value(value) {
             return Some((KeyFault::FieldNotText, name.as_str()));
@@ -65,51 +69,19 @@ fn first_non_text(members: &Map<String, Value>) -> Option<(KeyFault, &str)>
     None
 }
 
-/// What is wrong with the value of the key `fields`.
-fn fields_flaw<'a>(key: &'a str, value: &'a Value) -> Option<(KeyFault, &'a str)>
-    ensures { option_map (λ flaw. (flaw.0, flaw.1.now)) result ≡ fields_flaw key.now (view value.now) }
-{
-    match value.as_object() {
-        Some(members) => first_non_text(members),
-        None => Some((KeyFault::NotObject, key)),
-    }
-}
-
-/// What is wrong with the value of the key `end`.
-fn end_flaw<'a>(key: &'a str, value: &Value) -> Option<(KeyFault, &'a str)>
-    ensures { option_map (λ flaw. (flaw.0, flaw.1.now)) result ≡ end_flaw key.now (view value.now) }
-{
-    if value.is_boolean() {
-        None
-    } else {
-        Some((KeyFault::NotBoolean, key))
-    }
-}
-
-/// Whether a key's value must be a text.
-fn names_text(key: &str) -> bool
-    ensures { result ≡ names_text key.now }
-{
-    matches!(key, "panel" | "message" | "cursor")
-}
-
 /// What is wrong with one key and its value.
 fn key_flaw<'a>(key: &'a str, value: &'a Value) -> Option<(KeyFault, &'a str)>
     ensures { option_map (λ flaw. (flaw.0, flaw.1.now)) result ≡ key_flaw key.now (view value.now) }
 {
-    if names_text(key) {
-        if value.is_string() {
-            None
-        } else {
-            Some((KeyFault::NotText, key))
-        }
-    } else if key == "fields" {
-        fields_flaw(key, value)
-    } else if key == "end" {
-        end_flaw(key, value)
-    } else {
-        Some((KeyFault::UnknownKey, key))
-    }
+    let what = match key {
+        "panel" | "message" | "cursor" if value.is_string() => return None,
+        "panel" | "message" | "cursor" => KeyFault::NotText,
+        "end" if value.is_boolean() => return None,
+        "end" => KeyFault::NotBoolean,
+        "fields" => return fields_flaw(key, value),
+        _ => KeyFault::UnknownKey,
+    };
+    Some((what, key))
 }
 
 /// The first flaw of an object, in the order of the keys' bytes.
@@ -162,19 +134,12 @@ fn field_of(alloc: Global, name: &str, text: &str) -> Result<FieldText, AllocErr
     })
 }
 
-/// The name of a copy of a repeated field; the copies count from 1.
-fn name_of_copy(alloc: Global, stem: &str, number: usize) -> Result<String, AllocError>
-    ensures { IfOk result (λ name. string_bytes name ≡ name_of_copy stem.now number) }
-{
-    format!(in alloc; "{stem}.{number}")
-}
-
-/// The text of a copy of a repeated field.
+/// The name and the text of a copy of a repeated field; the copies count from 1.
 fn copy_text(alloc: Global, stem: &str, number: usize, text: &str) -> Result<FieldText, AllocError>
     ensures { IfOk result (λ field. field_text field ≡ (name_of_copy stem.now number, text.now)) }
 {
     Ok(FieldText {
-        name: name_of_copy(alloc, stem, number)?,
+        name: format!(in alloc; "{stem}.{number}")?,
         text: copy_of(alloc, text)?,
     })
 }
@@ -186,9 +151,8 @@ fn add_copies(
     values: &[Value],
     texts: &mut Vec<FieldText>,
 ) -> Result<(), AllocError>
-    ensures copies { OnOk result (map field_text texts.new.items
+    ensures { OnOk result (map field_text texts.new.items
         ≡ map field_text texts.old.items ++ copies_in stem.now 1 (items_view values.now)) }
-    ensures refused { OnErr result (0 < length (copies_in stem.now 1 (items_view values.now))) }
 {
     for (index, value) in values.iter().enumerate() {
         if let Some(text) = value.as_str() {
@@ -198,94 +162,73 @@ fn add_copies(
     Ok(())
 }
 
-/// Adds the text of a field, or those of the copies of a repeated one.
-fn add_texts(
+/// Adds the text of a field, or the name of a repeated one and the texts of its copies.
+fn add_member(
     alloc: Global,
     name: &str,
     value: &Value,
+    arrays: &mut Vec<String>,
     texts: &mut Vec<FieldText>,
 ) -> Result<(), AllocError>
-    ensures copies { OnOk result (map field_text texts.new.items
+    ensures arrays { OnOk result (map string_bytes arrays.new.items
+        ≡ map string_bytes arrays.old.items ++ arrays_in (member name.now (view value.now) no_members)) }
+    ensures texts { OnOk result (map field_text texts.new.items
         ≡ map field_text texts.old.items ++ texts_in (member name.now (view value.now) no_members)) }
-    ensures refused { OnErr result (0 < length (texts_in (member name.now (view value.now) no_members))) }
+    ensures refused { OnErr result (HasTexts (member name.now (view value.now) no_members)) }
 {
     match value {
         Value::String(text) => Ok(texts.push(field_of(alloc, name, text.as_str())?)?),
-        Value::Array(values) => add_copies(alloc, name, values.as_slice(), texts),
+        Value::Array(values) => {
+            arrays.push(copy_of(alloc, name)?)?;
+            add_copies(alloc, name, values.as_slice(), texts)
+        }
         _ => Ok(()),
     }
 }
 
-/// The names of an object's arrays.
-fn arrays_in(alloc: Global, members: &Map<String, Value>) -> Result<Vec<String>, AllocError>
-    ensures copy { IfOk result (λ names. map string_bytes names.items ≡ arrays_in (members_view members.now.entries)) }
-    ensures refused { OnErr result (0 < length (arrays_in (members_view members.now.entries))) }
+/// Adds the names of the repeated fields that have arrays, and the texts of all fields.
+fn add_fields(
+    alloc: Global,
+    members: &Map<String, Value>,
+    arrays: &mut Vec<String>,
+    texts: &mut Vec<FieldText>,
+) -> Result<(), AllocError>
+    ensures arrays { OnOk result (map string_bytes arrays.new.items
+        ≡ map string_bytes arrays.old.items ++ arrays_in (members_view members.now.entries)) }
+    ensures texts { OnOk result (map field_text texts.new.items
+        ≡ map field_text texts.old.items ++ texts_in (members_view members.now.entries)) }
+    ensures refused { OnErr result (HasTexts (members_view members.now.entries)) }
 {
-    let mut names = Vec::new(alloc);
     for (name, value) in members {
-        if value.is_array() {
-            names.push(copy_of(alloc, name.as_str())?)?;
-        }
+        add_member(alloc, name.as_str(), value, arrays, texts)?;
     }
-    Ok(names)
+    Ok(())
 }
 
-/// The names of the arrays in the object at a key; none if there is no such object.
-fn arrays_at(alloc: Global, value: &Value, key: &str) -> Result<Vec<String>, AllocError>
-    ensures copy { IfOk result
-        (λ names. map string_bytes names.items ≡ arrays_in (object_at key.now (view value.now))) }
-    ensures refused { OnErr result (0 < length (arrays_in (object_at key.now (view value.now)))) }
-{
-    match value.get(key).and_then(Value::as_object) {
-        Some(members) => arrays_in(alloc, members),
-        None => Ok(Vec::new(alloc)),
-    }
-}
-
-/// Copies of the names and texts of an object's members.
-fn texts_in(alloc: Global, members: &Map<String, Value>) -> Result<Vec<FieldText>, AllocError>
-    ensures copy { IfOk result (λ texts. map field_text texts.items ≡ texts_in (members_view members.now.entries)) }
-    ensures refused { OnErr result (0 < length (texts_in (members_view members.now.entries))) }
-{
-    let mut texts = Vec::new(alloc);
-    for (name, value) in members {
-        add_texts(alloc, name.as_str(), value, &mut texts)?;
-    }
-    Ok(texts)
-}
-
-/// Copies of the names and texts of the object at a key; none if there is no such object.
-fn texts_at(alloc: Global, value: &Value, key: &str) -> Result<Vec<FieldText>, AllocError>
-    ensures copy { IfOk result (λ texts. map field_text texts.items ≡ texts_in (object_at key.now (view value.now))) }
-    ensures refused { OnErr result (0 < length (texts_in (object_at key.now (view value.now)))) }
-{
-    match value.get(key).and_then(Value::as_object) {
-        Some(members) => texts_in(alloc, members),
-        None => Ok(Vec::new(alloc)),
-    }
-}
-
-/// The reply that a valid object represents; the connection is kept for `kept` seconds.
-fn reply_of(alloc: Global, value: &Value, kept: u32) -> Result<Reply, AllocError>
+/// The reply that a valid object represents.
+fn reply_of(alloc: Global, value: &Value) -> Result<Reply, AllocError>
     ensures said { IfOk result (λ reply. answer_in reply ≡ answer_of (view value.now)) }
-    ensures kept { IfOk result (λ reply. reply.kept ≡ kept) }
     ensures refused { OnErr result (IsStored None (answer_of (view value.now))) }
 {
+    let mut arrays = Vec::new(alloc);
+    let mut fields = Vec::new(alloc);
+    if let Some(members) = value.get("fields").and_then(Value::as_object) {
+        add_fields(alloc, members, &mut arrays, &mut fields)?;
+    }
     Ok(Reply {
         panel: text_at(alloc, value, "panel")?,
-        arrays: arrays_at(alloc, value, "fields")?,
-        fields: texts_at(alloc, value, "fields")?,
+        arrays,
+        fields,
         message: text_at(alloc, value, "message")?,
         cursor: text_at(alloc, value, "cursor")?,
         end: flag_at(value, "end"),
-        kept,
+        kept: 0,
     })
 }
 
-/// The reply that a JSON value represents; the connection is kept for `kept` seconds.
-fn reply_in(alloc: Global, value: &Value, kept: u32) -> Result<Reply, ReplyFault>
+/// The reply that a JSON value represents.
+fn reply_in(alloc: Global, value: &Value) -> Result<Reply, ReplyFault>
     ensures said { IfOk result (λ reply. SaysIn (view value.now) (answer_in reply)) }
-    ensures kept { IfOk result (λ reply. reply.kept ≡ kept) }
     ensures bad { IfErr result (IsBadValue (view value.now)) }
 {
     let Some(members) = value.as_object() else {
@@ -296,18 +239,17 @@ fn reply_in(alloc: Global, value: &Value, kept: u32) -> Result<Reply, ReplyFault
             what,
             key: copy_of(alloc, key)?,
         }),
-        None => Ok(reply_of(alloc, value, kept)?),
+        None => Ok(reply_of(alloc, value)?),
     }
 }
 
-/// The reply that the bytes of a content represent; the connection is kept for `kept` seconds.
-pub(crate) fn read_reply(alloc: Global, content: &[u8], kept: u32) -> Result<Reply, ReplyFault>
+/// The reply that the bytes of a content represent. Whether its connection is kept, the head says.
+pub(crate) fn read_reply(alloc: Global, content: &[u8]) -> Result<Reply, ReplyFault>
     ensures said { IfOk result (λ reply. Says content.now (answer_in reply)) }
-    ensures kept { IfOk result (λ reply. reply.kept ≡ kept) }
     ensures bad { IfErr result (IsBadContent content.now) }
 {
     match Value::from_slice(alloc, content) {
-        Ok(value) => reply_in(alloc, &value, kept),
+        Ok(value) => reply_in(alloc, &value),
         Err(fault) if fault.is_memory() => Err(ReplyFault::Memory),
         Err(_) => Err(ReplyFault::NotJson),
     }

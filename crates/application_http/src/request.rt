@@ -1,8 +1,9 @@
 //! The HTTP request to an application for a question.
-ghost use Rattle.std.specs.Prelude.{◌≡◌, IfOk, OnOk, codes, option_map, string_bytes};
-ghost use Rattle.serde_json.specs.Data.{number, put, string, unsigned};
+ghost use Rattle.std.specs.Prelude.{◌≡◌, IfOk, OnOk, codes, false, option_map, string_bytes};
+ghost use Rattle.serde_json.specs.Data.{no_members, number, object, put, string, unsigned};
 ghost use Rattle.serde_json.specs.View.{members_view, view};
-ghost use Rattle.application_http.specs.Requests.{body_text, copies_of, copy_name, cursor_data, fields_data, is_copy_of, post_bytes, question_data, request_bytes, strings, terminal_data, with_client, with_field};
+ghost use Rattle.serde_json.specs.Written.{compact_text, has_float};
+ghost use Rattle.application_http.specs.Requests.{copies_of, copy_name, cursor_data, fields_data, is_copy_of, post_bytes, question_data, request_bytes, strings, terminal_data, with_client, with_field, with_numbers, with_strings};
 
 use crate::endpoint::Endpoint;
 use serde_json::{Map, Value};
@@ -98,7 +99,7 @@ fn put_field(
 {
     let name = field.name.as_str();
     let Some((stem, number)) = copy_name(name) else {
-        return put_text(texts, alloc, name, field.text.as_str());
+        return put_texts(texts, alloc, &[(name, field.text.as_str())]);
     };
     if number == "1" {
         let copies = copies_value(alloc, stem, fields)?;
@@ -118,115 +119,68 @@ fn fields_value(alloc: Global, fields: &[FieldText]) -> Result<Value, AllocError
     Ok(Value::Object(texts))
 }
 
-/// Puts a text into an object.
-pub(crate) fn put_text(
+/// Puts texts into an object, each at its key.
+pub(crate) fn put_texts(
     members: &mut Map<String, Value>,
     alloc: Global,
-    key: &str,
-    text: &str,
+    texts: &[(&str, &str)],
 ) -> Result<(), AllocError>
     ensures { OnOk result
-        (members_view members.new.entries ≡ put key.now (string text.now) (members_view members.old.entries)) }
+        (members_view members.new.entries ≡ with_strings texts.now (members_view members.old.entries)) }
 {
-    let value = Value::try_from_str(alloc, text)?;
-    serde_json::put(members, alloc, key, value)
+    for (key, text) in texts {
+        let value = Value::try_from_str(alloc, text)?;
+        serde_json::put(members, alloc, key, value)?;
+    }
+    Ok(())
 }
 
-/// Puts a number into an object.
-fn put_number(
-    members: &mut Map<String, Value>,
-    alloc: Global,
-    key: &str,
-    value: u64,
-) -> Result<(), AllocError>
-    ensures { OnOk result
-        (members_view members.new.entries ≡ put key.now (number (unsigned value)) (members_view members.old.entries)) }
+/// The JSON object of numbers, each at its key.
+fn numbers_value(alloc: Global, numbers: &[(&str, u16)]) -> Result<Value, AllocError>
+    ensures { IfOk result (λ value. view value ≡ object (with_numbers numbers.now no_members)) }
 {
-    serde_json::put(members, alloc, key, Value::from(value))
+    let mut members = Map::new(alloc);
+    for (key, number) in numbers {
+        serde_json::put(&mut members, alloc, key, Value::from(*number))?;
+    }
+    Ok(Value::Object(members))
 }
 
-/// Puts the LU, the panel and the key into an object.
+/// Puts what was asked into an object: the texts, the turn, and the cursor.
 fn put_question(
     members: &mut Map<String, Value>,
     alloc: Global,
     request: &Request<'_>,
 ) -> Result<(), AllocError>
-    ensures { OnOk result (members_view members.new.entries ≡ put (codes "key") (string request.now.key.now)
-        (put (codes "panel") (string request.now.panel.now)
-        (put (codes "lu") (string request.now.lu.now) (members_view members.old.entries)))) }
+    ensures { OnOk result (members_view members.new.entries
+        ≡ put (codes "cursor") (cursor_data request.now.row request.now.col)
+        (put (codes "turn") (number (unsigned request.now.turn))
+        (put (codes "key") (string request.now.key.now) (put (codes "panel") (string request.now.panel.now)
+        (put (codes "lu") (string request.now.lu.now) (put (codes "session") (string request.now.session.now)
+        (members_view members.old.entries))))))) }
 {
-    put_text(members, alloc, "lu", request.lu)?;
-    put_text(members, alloc, "panel", request.panel)?;
-    put_text(members, alloc, "key", request.key)
-}
-
-/// Puts the name of the session and the number of the turn into an object.
-fn put_ticket(
-    members: &mut Map<String, Value>,
-    alloc: Global,
-    session: &str,
-    turn: u16,
-) -> Result<(), AllocError>
-    ensures { OnOk result (members_view members.new.entries ≡ put (codes "turn") (number (unsigned turn))
-        (put (codes "session") (string session.now) (members_view members.old.entries))) }
-{
-    put_text(members, alloc, "session", session)?;
-    put_number(members, alloc, "turn", u64::from(turn))
-}
-
-/// The JSON object of the cursor.
-fn cursor_value(alloc: Global, row: u16, col: u16) -> Result<Value, AllocError>
-    ensures { IfOk result (λ value. view value ≡ cursor_data row col) }
-{
-    let mut members = Map::new(alloc);
-    put_number(&mut members, alloc, "row", u64::from(row))?;
-    put_number(&mut members, alloc, "col", u64::from(col))?;
-    Ok(Value::Object(members))
-}
-
-/// Puts the cursor and the fields into an object.
-fn put_screen(
-    members: &mut Map<String, Value>,
-    alloc: Global,
-    request: &Request<'_>,
-) -> Result<(), AllocError>
-    ensures { OnOk result
-        (members_view members.new.entries ≡ put (codes "fields") (fields_data request.now.fields.now)
-        (put (codes "cursor") (cursor_data request.now.row request.now.col) (members_view members.old.entries))) }
-{
-    let cursor = cursor_value(alloc, request.row, request.col)?;
-    serde_json::put(members, alloc, "cursor", cursor)?;
-    let fields = fields_value(alloc, request.fields)?;
-    serde_json::put(members, alloc, "fields", fields)
+    let texts = [
+        ("session", request.session),
+        ("lu", request.lu),
+        ("panel", request.panel),
+        ("key", request.key),
+    ];
+    put_texts(members, alloc, &texts)?;
+    serde_json::put(members, alloc, "turn", Value::from(request.turn))?;
+    let cursor = numbers_value(alloc, &[("row", request.row), ("col", request.col)])?;
+    serde_json::put(members, alloc, "cursor", cursor)
 }
 
 /// The JSON object of the terminal.
 fn terminal_value(alloc: Global, terminal: Terminal) -> Result<Value, AllocError>
     ensures { IfOk result (λ value. view value ≡ terminal_data terminal) }
 {
-    let mut members = Map::new(alloc);
-    put_number(&mut members, alloc, "model", u64::from(terminal.model))?;
-    put_number(&mut members, alloc, "rows", u64::from(terminal.rows))?;
-    put_number(&mut members, alloc, "cols", u64::from(terminal.cols))?;
-    Ok(Value::Object(members))
+    let Terminal { model, rows, cols } = terminal;
+    let numbers = [("model", u16::from(model)), ("rows", rows), ("cols", cols)];
+    numbers_value(alloc, &numbers)
 }
 
-/// Puts the address of the client into an object, if there is one.
-fn put_client(
-    members: &mut Map<String, Value>,
-    alloc: Global,
-    client: Option<&str>,
-) -> Result<(), AllocError>
-    ensures { OnOk result (members_view members.new.entries
-        ≡ with_client (option_map (λ it. it.now) client.entry) (members_view members.old.entries)) }
-{
-    match client {
-        Some(client) => put_text(members, alloc, "client", client),
-        None => Ok(()),
-    }
-}
-
-/// Puts the terminal and the client into an object.
+/// Puts who asks into an object: the terminal, and the client's address, if it is known.
 fn put_asker(
     members: &mut Map<String, Value>,
     alloc: Global,
@@ -238,40 +192,39 @@ fn put_asker(
 {
     let terminal = terminal_value(alloc, request.terminal)?;
     serde_json::put(members, alloc, "terminal", terminal)?;
-    put_client(members, alloc, request.client)
+    match request.client {
+        Some(client) => put_texts(members, alloc, &[("client", client)]),
+        None => Ok(()),
+    }
 }
 
 /// The JSON object of a question.
 fn question_value(alloc: Global, request: &Request<'_>) -> Result<Value, AllocError>
     ensures { IfOk result (λ value. view value ≡ question_data request.now) }
 {
+    let fields = fields_value(alloc, request.fields)?;
     let mut members = Map::new(alloc);
-    put_ticket(&mut members, alloc, request.session, request.turn)?;
     put_question(&mut members, alloc, request)?;
-    put_screen(&mut members, alloc, request)?;
+    serde_json::put(&mut members, alloc, "fields", fields)?;
     put_asker(&mut members, alloc, request)?;
     Ok(Value::Object(members))
 }
 
-/// The body of a request: its JSON text.
-fn body_text(alloc: Global, request: &Request<'_>) -> Result<String, AllocError>
-    ensures { IfOk result (λ text. string_bytes text ≡ body_text request.now) }
-{
-    let value = question_value(alloc, request)?;
-    value.to_string(alloc)
-}
-
-/// The bytes of a request with this body, for the application at an endpoint.
+/// The bytes of a request with the text of a JSON value, for the application at an endpoint.
 pub(crate) fn post_text(
     alloc: Global,
     endpoint: &Endpoint,
-    body: &str,
+    value: &Value,
 ) -> Result<String, AllocError>
-    ensures { IfOk result (λ text. string_bytes text ≡ post_bytes endpoint.now body.now) }
+    requires { has_float (view value.now) ≡ false }
+    ensures { IfOk result
+        (λ text. string_bytes text ≡ post_bytes endpoint.now (compact_text (view value.now))) }
 {
+    let body = value.to_string(alloc)?;
     let mut text = String::new(alloc);
-    endpoint.put_head(&mut text, body.len())?;
-    text.push_str(body)?;
+    endpoint.put_first_line(&mut text)?;
+    endpoint.put_fields(&mut text, body.len())?;
+    text.push_str(body.as_str())?;
     Ok(text)
 }
 
@@ -283,6 +236,6 @@ pub fn request_text(
 ) -> Result<String, AllocError>
     ensures { IfOk result (λ text. string_bytes text ≡ request_bytes endpoint.now request.now) }
 {
-    let body = body_text(alloc, request)?;
-    post_text(alloc, endpoint, body.as_str())
+    let value = question_value(alloc, request)?;
+    post_text(alloc, endpoint, &value)
 }

@@ -19,7 +19,6 @@ use Rattle.application_http.specs.Replies.{field_text, name_of_copy}
 use Rattle.application_http.specs.declared.reply.Reply.{Reply}
 use Rattle.application_http.specs.declared.request.FieldText.{FieldText}
 use Rattle.host_core.specs.declared.question.Answer.{Answer}
-use Rattle.application_http.specs.declared.fault.ReplyFault.{ReplyFault}
 use Rattle.application_http.specs.declared.fault.ReplyFault.TheVariants as reply
 use Rattle.panels.specs.Characters.{codes_of}
 use Rattle.panels.specs.MessageText.{message_of}
@@ -256,19 +255,13 @@ abbrev pub failure_text : FailureMessage → List ℕ
 failure_text failure.NotAvailable = codes "APPLICATION NOT AVAILABLE"
 failure_text failure.Error = codes "APPLICATION ERROR"
 
--- A reply that breaks off means that the application can't be reached; every other fault is a wrong reply.
-abbrev pub message_for_reply : ReplyFault → FailureMessage
-message_for_reply reply.Memory = failure.NotAvailable
-message_for_reply reply.CutShort = failure.NotAvailable
-message_for_reply _ = failure.Error
-
-abbrev pub message_for_answer : AnswerFault → FailureMessage
-message_for_answer flaw.Memory = failure.NotAvailable
-message_for_answer _ = failure.Error
-
--- There is no message if the operator left.
+-- A reply that breaks off means that the application can't be reached; every other fault is a wrong reply. There is no
+-- message if the operator left.
 abbrev pub message_for : ApplicationFault → Option FailureMessage
 message_for (why.Absent absence) = Some failure.NotAvailable
-message_for (why.Reply fault) = Some (message_for_reply fault)
-message_for (why.Answer fault) = Some (message_for_answer fault)
+message_for (why.Reply reply.Memory) = Some failure.NotAvailable
+message_for (why.Reply reply.CutShort) = Some failure.NotAvailable
+message_for (why.Reply fault) = Some failure.Error
+message_for (why.Answer flaw.Memory) = Some failure.NotAvailable
+message_for (why.Answer fault) = Some failure.Error
 message_for why.Left = None

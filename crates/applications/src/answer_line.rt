@@ -2,7 +2,7 @@
 ghost use Rattle.std.specs.Prelude.{◌≡◌, ◌<◌, IfOk, drop, false, option_map, take};
 ghost use Rattle.std.specs.Str.{IsCharBoundary};
 ghost use Rattle.applications.specs.AnswerDrafts.{parts_in};
-ghost use Rattle.applications.specs.AnswerLines.{answer_in, answer_of_parts, cut_at, is_quoted_after, message_text, no_parts, pair_of, panel_of_name, taken_as, value_text, with_cursor_in, with_message, with_pair, with_text_of, with_word, with_words, word_length, words_after};
+ghost use Rattle.applications.specs.AnswerLines.{answer_in, answer_of_parts, cut_at, is_quoted_after, message_text, no_parts, pair_of, panel_of_name, taken_as, value_text, with_cursor_in, with_message, with_text_of, with_word, with_words, word_length, words_after};
 ghost use Rattle.panels.specs.Names.{field_named, number_named};
 
 use crate::application_reply::{message_bytes, set_text};
@@ -153,31 +153,15 @@ impl AnswerDraft {
         Ok(true)
     }
 
-    /// Sets what one pair gives. False if the pair is invalid.
-    fn set(
-        &mut self,
-        alloc: Global,
-        panels: &PanelSet,
-        name: &str,
-        text: &str,
-    ) -> Result<bool, AllocError>
-        ensures { IfOk result
-            (λ taken. with_pair panels.now name.now text.now (parts_in self.old) ≡ taken_as taken (parts_in self.new)) }
-    {
-        match name {
-            "message" => self.set_message(alloc, text),
-            "cursor" => Ok(self.set_cursor(panels, text)),
-            _ => self.set_field(alloc, panels, name, text),
-        }
-    }
-
     /// Takes one word, a pair name=value. False if it is invalid.
     fn take(&mut self, alloc: Global, panels: &PanelSet, word: &str) -> Result<bool, AllocError>
         ensures { IfOk result (λ taken. with_word panels.now (pair_of word.now) (parts_in self.old)
             ≡ taken_as taken (parts_in self.new)) }
     {
         match pair_of(word) {
-            Some((name, text)) => self.set(alloc, panels, name, text),
+            Some(("message", text)) => self.set_message(alloc, text),
+            Some(("cursor", name)) => Ok(self.set_cursor(panels, name)),
+            Some((name, text)) => self.set_field(alloc, panels, name, text),
             None => Ok(false),
         }
     }

@@ -1,7 +1,8 @@
 //! Why a question to an application has no answer: what the operator sees, and what the log says.
 ghost use Rattle.std.specs.Prelude.{◌≡◌};
-ghost use Rattle.applications.specs.Applications.{message_for, message_for_answer, message_for_reply, failure_text};
+ghost use Rattle.applications.specs.Applications.{message_for, failure_text};
 
+use self::ApplicationFault::{Absent, Answer, Left, Reply};
 use crate::application_reply::{AnswerFault, Replaced};
 use application_http::{KeyFault, ReplyFault};
 use std::fmt;
@@ -56,36 +57,17 @@ impl FailureMessage {
     }
 }
 
-/// The message after an invalid reply.
-fn message_for_reply(fault: &ReplyFault) -> FailureMessage
-    ensures { result ≡ message_for_reply fault.now }
-{
-    match fault {
-        ReplyFault::Memory | ReplyFault::CutShort => FailureMessage::NotAvailable,
-        _ => FailureMessage::Error,
-    }
-}
-
-/// The message after a reply that the host can't carry out.
-fn message_for_answer(fault: &AnswerFault) -> FailureMessage
-    ensures { result ≡ message_for_answer fault.now }
-{
-    match fault {
-        AnswerFault::Memory => FailureMessage::NotAvailable,
-        _ => FailureMessage::Error,
-    }
-}
-
 impl ApplicationFault {
     /// The message that the operator sees; None if the operator has left.
     pub fn message(&self) -> Option<FailureMessage>
         ensures { result ≡ message_for self.now }
     {
         match self {
-            ApplicationFault::Absent(_) => Some(FailureMessage::NotAvailable),
-            ApplicationFault::Reply(fault) => Some(message_for_reply(fault)),
-            ApplicationFault::Answer(fault) => Some(message_for_answer(fault)),
-            ApplicationFault::Left => None,
+            Left => None,
+            Absent(_)
+            | Reply(ReplyFault::Memory | ReplyFault::CutShort)
+            | Answer(AnswerFault::Memory) => Some(FailureMessage::NotAvailable),
+            Reply(_) | Answer(_) => Some(FailureMessage::Error),
         }
     }
 }
@@ -101,24 +83,10 @@ impl fmt::Display for Key<'_> {
         f.write_char('"')?;
         for character in self.0.chars().take(MOST_SHOWN) {
             // A quote or a control character would end the value or the line.
-            if character == '"' || character == '\\' || character.is_control() {
-                f.write_char('?')?;
-            } else {
-                f.write_char(character)?;
-            }
+            let is_plain = character != '"' && character != '\\' && !character.is_control();
+            f.write_char(if is_plain { character } else { '?' })?;
         }
         f.write_char('"')
-    }
-}
-
-impl fmt::Display for Absence {
-    fn fmt<W: fmt::Write>(&self, f: &mut fmt::Formatter<W>) -> fmt::Result {
-        f.write_str(match self {
-            Absence::Refused => "refused",
-            Absence::Broken => "broken",
-            Absence::Late => "timeout",
-            Absence::NoMemory => "no-memory",
-        })
     }
 }
 
@@ -133,37 +101,29 @@ fn key_word(what: KeyFault) -> &'static str {
     }
 }
 
-/// Adds why a reply is invalid.
-fn put_reply_fault<W: fmt::Write>(f: &mut fmt::Formatter<W>, fault: &ReplyFault) -> fmt::Result {
-    let reason = match fault {
-        ReplyFault::Memory => "no-memory",
-        ReplyFault::TooLong => "too-long",
-        ReplyFault::CutShort => "broken",
-        ReplyFault::NotHttp => "not-http",
-        ReplyFault::TooManyFields => "too-many-fields",
-        ReplyFault::BadLength => "bad-length",
-        ReplyFault::BadChunks => "bad-chunks",
-        ReplyFault::NotJson => "not-json",
-        ReplyFault::Status(status) => return write!(f, " reason=status status={status}"),
-        ReplyFault::Key { what, key } => {
-            let reason = key_word(*what);
-            let key = Key(key.as_str());
-            return write!(f, " reason={reason} key={key}");
-        }
-    };
-    write!(f, " reason={reason}")
-}
-
-/// Adds why the host can't carry out a reply.
-fn put_answer_fault<W: fmt::Write>(f: &mut fmt::Formatter<W>, fault: &AnswerFault) -> fmt::Result {
+/// The word for the reason of a fault, and the key of the reply that is wrong, if one is; None if the operator left.
+fn reason_of(fault: &ApplicationFault) -> Option<(&'static str, Option<&str>)> {
     let (reason, key) = match fault {
-        AnswerFault::Memory => return f.write_str(" reason=no-memory"),
-        AnswerFault::UnknownPanel => ("unknown-panel", "panel"),
-        AnswerFault::UnknownCursor => ("unknown-field", "cursor"),
-        AnswerFault::UnknownField(name) => ("unknown-field", name.as_str()),
+        Left => return None,
+        Absent(Absence::Refused) => ("refused", None),
+        Absent(Absence::Broken) | Reply(ReplyFault::CutShort) => ("broken", None),
+        Absent(Absence::Late) => ("timeout", None),
+        Absent(Absence::NoMemory) | Reply(ReplyFault::Memory) | Answer(AnswerFault::Memory) => {
+            ("no-memory", None)
+        }
+        Reply(ReplyFault::TooLong) => ("too-long", None),
+        Reply(ReplyFault::NotHttp) => ("not-http", None),
+        Reply(ReplyFault::TooManyFields) => ("too-many-fields", None),
+        Reply(ReplyFault::Status(_)) => ("status", None),
+        Reply(ReplyFault::BadLength) => ("bad-length", None),
+        Reply(ReplyFault::BadChunks) => ("bad-chunks", None),
+        Reply(ReplyFault::NotJson) => ("not-json", None),
+        Reply(ReplyFault::Key { what, key }) => (key_word(*what), Some(key.as_str())),
+        Answer(AnswerFault::UnknownPanel) => ("unknown-panel", Some("panel")),
+        Answer(AnswerFault::UnknownCursor) => ("unknown-field", Some("cursor")),
+        Answer(AnswerFault::UnknownField(name)) => ("unknown-field", Some(name.as_str())),
     };
-    let key = Key(key);
-    write!(f, " reason={reason} key={key}")
+    Some((reason, key))
 }
 
 /// The word for what happened.
@@ -180,11 +140,19 @@ impl fmt::Display for ApplicationFault {
     fn fmt<W: fmt::Write>(&self, f: &mut fmt::Formatter<W>) -> fmt::Result {
         let event = event_word(self);
         write!(f, "event={event}")?;
-        match self {
-            ApplicationFault::Absent(absence) => write!(f, " reason={absence}"),
-            ApplicationFault::Reply(fault) => put_reply_fault(f, fault),
-            ApplicationFault::Answer(fault) => put_answer_fault(f, fault),
-            ApplicationFault::Left => Ok(()),
+        let Some((reason, key)) = reason_of(self) else {
+            return Ok(());
+        };
+        write!(f, " reason={reason}")?;
+        if let Reply(ReplyFault::Status(status)) = self {
+            write!(f, " status={status}")?;
+        }
+        match key {
+            Some(key) => {
+                let key = Key(key);
+                write!(f, " key={key}")
+            }
+            None => Ok(()),
         }
     }
 }

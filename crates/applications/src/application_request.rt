@@ -4,7 +4,7 @@ ghost use Rattle.std.specs.Net.Text.{socket_text};
 ghost use Rattle.application_http.specs.Replies.{field_text};
 ghost use Rattle.application_http.specs.Requests.{request_bytes};
 ghost use Rattle.tn3270e_msg.specs.Words.{lu_text};
-ghost use Rattle.applications.specs.ApplicationRequests.{AsksQuestion, IsRequestFor, IsRequestOn, SaysWhoAsks, model_number, session_asking, terminal_of, text_asked, texts_asked};
+ghost use Rattle.applications.specs.ApplicationRequests.{AsksQuestion, IsRequestFor, IsRequestOn, SaysWhoAsks, session_asking, terminal_of, text_asked, texts_asked};
 ghost use Rattle.applications.specs.Applications.{key_name, shown_character};
 ghost use Rattle.host_core.specs.Questions.{fields_asked};
 ghost use Rattle.applications.specs.QuestionLines.{column_of, row_of, unicode_of};
@@ -63,19 +63,14 @@ impl fmt::Display for KeyName {
     ghost output = { λ key. Some (key_name key.0) };
 
     fn fmt<W: fmt::Write>(&self, f: &mut fmt::Formatter<W>) -> fmt::Result {
-        match self.0 {
-            Aid::NoAid => f.write_str("connect"),
-            Aid::Enter => f.write_str("enter"),
-            Aid::Clear => f.write_str("clear"),
-            Aid::Pf(number) => {
-                let number = number.get();
-                write!(f, "pf{number}")
-            }
-            Aid::Pa(number) => {
-                let number = number.get();
-                write!(f, "pa{number}")
-            }
-        }
+        let (key, number) = match self.0 {
+            Aid::NoAid => return f.write_str("connect"),
+            Aid::Enter => return f.write_str("enter"),
+            Aid::Clear => return f.write_str("clear"),
+            Aid::Pf(number) => ("pf", number.get()),
+            Aid::Pa(number) => ("pa", number.get()),
+        };
+        write!(f, "{key}{number}")
     }
 }
 
@@ -122,35 +117,18 @@ fn texts_asked(
     Ok(texts)
 }
 
-/// The session name for a question, if the host's start drew `boot`.
-fn session_asking(boot: u64, question: &Question) -> SessionName
-    ensures { result ≡ session_asking boot question.now }
-{
-    SessionName {
-        boot,
-        number: question.ticket.session,
-    }
-}
-
-/// The number of a model of the 3278.
-fn model_number(model: Model) -> u8
-    ensures { result ≡ model_number model }
-{
-    match model {
-        Model::M2 => 2,
-        Model::M3 => 3,
-        Model::M4 => 4,
-        Model::M5 => 5,
-    }
-}
-
 /// The model's number and its alternate size.
 fn terminal_of(model: Model) -> Terminal
     ensures { result ≡ terminal_of model }
 {
     let size = model.alternate();
     Terminal {
-        model: model_number(model),
+        model: match model {
+            Model::M2 => 2,
+            Model::M3 => 3,
+            Model::M4 => 4,
+            Model::M5 => 5,
+        },
         rows: size.rows(),
         cols: size.cols(),
     }
@@ -214,7 +192,8 @@ fn request_on(
         (λ text. IsRequestOn (request_bytes endpoint.now) boot panel.now query.now (string_bytes text)) }
 {
     let question = &query.question;
-    let session = session_text(alloc, session_asking(boot, question))?;
+    let number = question.ticket.session;
+    let session = session_text(alloc, SessionName { boot, number })?;
     let lu = question.lu;
     let lu = format!(in alloc; "{lu}")?;
     let key = key_name(alloc, question.aid)?;

@@ -107,10 +107,7 @@ fn asked_key(panel: &Panel) -> Option<Aid>
     if is_asked(panel, Aid::Clear) {
         return Some(Aid::Clear);
     }
-    match asked_pa(panel) {
-        Some(key) => Some(key),
-        None => asked_pf(panel),
-    }
+    asked_pa(panel).or(asked_pf(panel))
 }
 
 /// The name of the first panel that asks the application, and its first such key; None if no panel asks.

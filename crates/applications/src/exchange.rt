@@ -1,8 +1,7 @@
 //! An exchange with an application: one request, and the reply on the same connection.
 ghost use Rattle.std.specs.Prelude.{◌≡◌, drop, length, string_bytes};
 ghost use Rattle.std.specs.IoError.{error_kind};
-ghost use Rattle.applications.specs.Applications.{is_reply_late};
-ghost use Rattle.applications.specs.ExchangeTurns.{GoesOn, Hears, Reads, Serves, Writes, absence_by, begun, failed_by, hearing, in_time, is_not_now, read_as, unconnected_by, unsent_by};
+ghost use Rattle.applications.specs.ExchangeTurns.{GoesOn, Hears, Reads, Serves, Writes, absence_by, begun, failed_by, hearing, in_time, read_as, unconnected_by, unsent_by};
 
 use crate::application_fault::{Absence, ApplicationFault};
 use application_http::{Reply, ReplyFault, ReplyReader};
@@ -42,13 +41,6 @@ pub(crate) fn absence_of(error: &Error) -> Absence
     ensures { result ≡ unconnected_by (error_kind error.now) }
 {
     absence_by(error.kind()).unwrap_or(Absence::Broken)
-}
-
-/// Whether an error of this kind means that a read would have to wait.
-pub(crate) fn is_not_now(kind: ErrorKind) -> bool
-    ensures { result ≡ is_not_now kind }
-{
-    matches!(kind, ErrorKind::WouldBlock)
 }
 
 /// The progress of an exchange after a read failed.
@@ -92,13 +84,6 @@ fn in_time(is_late: bool, progress: IoProgress) -> IoProgress
         }
         progress => progress,
     }
-}
-
-/// Whether the reply is late, by when its request began and how long it may take, all in milliseconds.
-fn is_reply_late(began: u64, now: u64, most: u64) -> bool
-    ensures { result ≡ is_reply_late began now most }
-{
-    now.saturating_sub(began) >= most
 }
 
 /// An exchange on its own stream. Contracts see the request, how many of its bytes were sent, and the bytes that were
@@ -210,7 +195,7 @@ impl<S: RawRead + RawWrite + Drop> Exchange<S> {
         if !has_operator {
             return IoProgress::Over(Err(ApplicationFault::Left));
         }
-        let is_late = is_reply_late(self.began, now, most);
+        let is_late = now.saturating_sub(self.began) >= most;
         in_time(is_late, self.serve())
     }
 }

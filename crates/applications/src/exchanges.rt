@@ -9,13 +9,13 @@ use crate::application_fault::{Absence, ApplicationFault};
 use crate::application_reply::{answer_of, telling};
 use crate::application_request::{Query, request_of};
 use crate::ended_session::EndedSession;
-use crate::exchange::{Exchange, IoProgress, absence_of, is_not_now};
+use crate::exchange::{Exchange, IoProgress, absence_of};
 use application_http::{Endpoint, Reply};
 use host_core::{Acted, Answer, MOST_CONNECTIONS, Ticket};
 use jobs::{Fault, RawRead, RawWrite};
 use panels::PanelSet;
 use std::alloc::{AllocError, Global};
-use std::io;
+use std::io::{self, ErrorKind};
 use std::marker::Model;
 
 /// A server whose host asks an application.
@@ -186,13 +186,10 @@ fn end<A: AskingServer>(
     match outcome {
         Ok(reply) => match answer_of(alloc, server.panels(conn), panel, reply) {
             Ok(answer) => show(server, conn, ticket, &answer, reply),
-            Err(fault) => fail(
-                alloc,
-                server,
-                conn,
-                ticket,
-                &ApplicationFault::Answer(fault),
-            ),
+            Err(fault) => {
+                let fault = ApplicationFault::Answer(fault);
+                fail(alloc, server, conn, ticket, &fault)
+            }
         },
         Err(fault) => fail(alloc, server, conn, ticket, fault),
     }
@@ -239,7 +236,7 @@ impl<S: RawRead> KeptConnection<S> {
     {
         match self.stream.read_once(&mut [0]) {
             Ok(_) => false,
-            Err(error) => is_not_now(error.kind()),
+            Err(error) => matches!(error.kind(), ErrorKind::WouldBlock),
         }
     }
 

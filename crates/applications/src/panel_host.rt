@@ -51,10 +51,7 @@ pub fn host_of(alloc: Global, terminals: Terminals, text: &str) -> Result<Host, 
     ensures host { IfOk result (IsHostOf terminals text.now) }
     ensures fault { IfErr result (DefinesNoHost text.now) }
 {
-    let (panels, pool) = match application_of(alloc, text) {
-        Ok(parts) => parts,
-        Err(fault) => return Err(fault),
-    };
+    let (panels, pool) = application_of(alloc, text)?;
     match Host::serving(alloc, terminals, panels, pool) {
         Ok(host) => Ok(host),
         Err(_) => Err(Fault::NoMemory),

@@ -1,9 +1,9 @@
 //! The open question of a connection, and how a script prints it.
 ghost use Rattle.std.specs.Prelude.{◌≡◌, ◌++◌, IfOk, OnOk, string_bytes};
 ghost use Rattle.std.specs.List.{flat_map};
-ghost use Rattle.applications.specs.QuestionLines.{field_line, heading, panel_text, question_on, question_text, ticket_on};
+ghost use Rattle.applications.specs.QuestionLines.{field_line, heading, question_on, question_text, ticket_on};
 
-use crate::application_request::{key_name, place_of, unicode_of};
+use crate::application_request::{KeyName, place_of, unicode_of};
 use host_core::{Host, MOST_CONNECTIONS, Question, Ticket};
 use panels::{Field, Panel, PanelSet, Values};
 use std::alloc::{AllocError, Global};
@@ -35,17 +35,12 @@ pub fn ticket_on(host: &Host, conn: usize) -> Result<Ticket, AllocError>
 }
 
 /// Adds the LU, the panel's name, the key, and the cursor's row and column, both 1-based.
-fn put_heading(
-    alloc: Global,
-    text: &mut String,
-    panel: &Panel,
-    question: &Question,
-) -> Result<(), AllocError>
+fn put_heading(text: &mut String, panel: &Panel, question: &Question) -> Result<(), AllocError>
     ensures { OnOk result (string_bytes text.new ≡ string_bytes text.old ++ heading panel.now question.now) }
 {
     let lu = question.lu;
     let name = panel.name().as_str();
-    let key = key_name(alloc, question.aid)?;
+    let key = KeyName(question.aid);
     let (row, column) = place_of(question.cursor, panel.size());
     write!(text, "question {lu} {name} {key} {row} {column}\n")
 }
@@ -80,19 +75,6 @@ fn put_fields(
     Ok(())
 }
 
-/// Adds the lines of a question on its panel.
-fn put_panel(
-    alloc: Global,
-    text: &mut String,
-    panel: &Panel,
-    question: &Question,
-) -> Result<(), AllocError>
-    ensures { OnOk result (string_bytes text.new ≡ string_bytes text.old ++ panel_text panel.now question.now) }
-{
-    put_heading(alloc, text, panel, question)?;
-    put_fields(alloc, text, question.fields(panel), &question.values)
-}
-
 /// Adds a line for the question and one for each field that it has, or `no question` if there is none.
 pub fn put_question(
     alloc: Global,
@@ -105,8 +87,9 @@ pub fn put_question(
     let Some(question) = question else {
         return text.push_str("no question\n");
     };
-    match panels.panel(question.panel) {
-        Some(panel) => put_panel(alloc, text, panel, question),
-        None => Ok(()),
-    }
+    let Some(panel) = panels.panel(question.panel) else {
+        return Ok(());
+    };
+    put_heading(text, panel, question)?;
+    put_fields(alloc, text, question.fields(panel), &question.values)
 }

@@ -6,6 +6,3 @@ pub returns-in_err-head-clause-bad : goal.returns-in_err-head-clause-bad
 returns-in_err-head-clause-bad c =
     let same = err_from_is_err_and c.from_residual.result c.from_residual.ensures.1 in
     rw (same.1, same.2) (inl (c.in_err-head.ensures.wrong c.args.is_closed))
-
-pub returns-clause-kept : goal.returns-clause-kept
-returns-clause-kept c = rw c.in_ok-read_reply.ensures.kept c.kept_in-kept.ensures
