@@ -1,6 +1,6 @@
-//! The jobs: their names, options and operands.
+//! The jobs: their names, their options and operands, and the help texts of these.
 ghost use Rattle.std.specs.Prelude.{◌≡◌, map};
-ghost use Rattle.cli.specs.Topics.{name_of, options_of, row_of, topic_named};
+ghost use Rattle.cli.specs.Topics.{is_operand, name_of, options_of, row_of, topic_named};
 
 use jobs::HelpTopic;
 
@@ -24,6 +24,32 @@ pub(crate) enum ValueKind {
     Operand,
 }
 
+impl ValueKind {
+    /// Whether this is the kind of an operand.
+    pub(crate) fn is_operand(self) -> bool
+        ensures { result ≡ is_operand self }
+    {
+        matches!(self, ValueKind::Operand)
+    }
+
+    /// The text for the value in usage lines, with a blank before it.
+    pub(crate) fn placeholder(self) -> &'static str {
+        match self {
+            ValueKind::Port | ValueKind::ServicePort => " P",
+            ValueKind::Turns | ValueKind::Sessions => " N",
+            ValueKind::Host => " [HOST:]PORT",
+            ValueKind::LuName => " NAME",
+            ValueKind::Address => " ADDRESS",
+            ValueKind::Seconds | ValueKind::ReplyTime => " SECONDS",
+            ValueKind::Model => " M",
+            ValueKind::Url => " URL",
+            ValueKind::File => " FILE",
+            ValueKind::TtySize => " ROWSxCOLUMNS",
+            ValueKind::Flag | ValueKind::Operand => "",
+        }
+    }
+}
+
 /// An option of a job, or an operand.
 #[derive(Clone, Copy)]
 pub(crate) struct JobOption<'a> {
@@ -33,51 +59,105 @@ pub(crate) struct JobOption<'a> {
     pub(crate) kind: ValueKind,
     /// Whether it must be given.
     pub(crate) required: bool,
+    /// Its help text; that of an operand is in the job's help.
+    pub(crate) help: &'a str,
 }
 
-/// The options that a job needs, and those that it takes, each with the kind of its value.
-macro_rules! options {
-    (needs $($needed:literal: $need:ident),*; takes $($taken:literal: $kind:ident),*) => {
-        [
-            $(JobOption { name: $needed, kind: ValueKind::$need, required: true },)*
-            $(JobOption { name: $taken, kind: ValueKind::$kind, required: false },)*
-        ]
+/// An option that a job `needs` or `takes`: its name, the kind of its value, and its help text. An operand has only a
+/// name.
+macro_rules! option {
+    (needs $name:literal: $kind:ident, $help:literal) => {
+        JobOption { name: $name, kind: ValueKind::$kind, required: true, help: $help }
+    };
+    (takes $name:literal: $kind:ident, $help:literal) => {
+        JobOption { name: $name, kind: ValueKind::$kind, required: false, help: $help }
+    };
+    (needs $name:literal) => {
+        JobOption { name: $name, kind: ValueKind::Operand, required: true, help: "" }
+    };
+    (takes $name:literal) => {
+        JobOption { name: $name, kind: ValueKind::Operand, required: false, help: "" }
     };
 }
 
-static SCRIPT: [JobOption<'static>; 1] = options![needs; takes "any-terminal": Flag];
+const PORT: JobOption<'static> = option!(needs "port": Port, "the port, 1024 to 65535");
 
-static SHOW: [JobOption<'static>; 1] = options![needs; takes "model": Model];
+const TURNS: JobOption<'static> =
+    option!(takes "turns": Turns, "the number of turns, 1 to 1000000 [default: 10000]");
 
-static SELFRUN: [JobOption<'static>; 1] = options![needs; takes "turns": Turns];
+const LU: JobOption<'static> = option!(takes "lu": LuName,
+    "the LU to ask for: 1 to 8 of A to Z, 0 to 9, @, # and $, the first no digit [default: any LU]");
 
-static HOST: [JobOption<'static>; 2] = options![needs "port": Port; takes "turns": Turns];
+const MODEL: JobOption<'static> =
+    option!(takes "model": Model, "the model of the terminal, 2 to 5 [default: 2]");
 
-static SERVE: [JobOption<'static>; 15] = options![
-    needs "port": ServicePort;
-    takes "listen": Address, "panels": File, "negotiate": Seconds, "keepalive": Seconds, "idle": Seconds,
-        "application": Url, "application-timeout": ReplyTime, "metrics": ServicePort, "control": File,
-        "drain": Seconds, "proxy-protocol": Flag, "own-terminals": Flag, "verify": Flag, "quiet": Flag
+static SCRIPT: [JobOption<'static>; 1] = [option!(takes "any-terminal": Flag,
+    "the host serves any terminal, as that of serve does, and so doesn't rely on these, which wait")];
+
+static SHOW: [JobOption<'static>; 1] = [
+    option!(takes "model": Model, "the model of the screen, 2 to 5 [default: 2]"),
 ];
 
-static CHECK: [JobOption<'static>; 1] = options![needs; takes "file": Operand];
+static SELFRUN: [JobOption<'static>; 1] = [TURNS];
 
-static TELL: [JobOption<'static>; 4] =
-    options![needs "socket": Operand, "command": Operand; takes "first": Operand, "second": Operand];
+static HOST: [JobOption<'static>; 2] = [PORT, TURNS];
 
-static HELP: [JobOption<'static>; 1] = options![needs; takes "job": Operand];
-
-static TERM: [JobOption<'static>; 3] =
-    options![needs "port": Port; takes "lu": LuName, "model": Model];
-
-static OPERATE: [JobOption<'static>; 5] = options![
-    needs "port": ServicePort;
-    takes "host": Address, "lu": LuName, "model": Model, "raw": TtySize
+static SERVE: [JobOption<'static>; 15] = [
+    option!(needs "port": ServicePort, "the port, 1 to 65535"),
+    option!(takes "listen": Address,
+        "the IPv4 or IPv6 address to listen on; localhost is 127.0.0.1 [default: 127.0.0.1]"),
+    option!(takes "panels": File, "the file that has the panels [default: INPUT]"),
+    option!(takes "negotiate": Seconds, "drop a connection without a session after this time [default: 30]"),
+    option!(takes "keepalive": Seconds, "test a connection that sends nothing for this time [default: 60]"),
+    option!(takes "idle": Seconds, "drop a connection that sends nothing for this time [default: 0]"),
+    option!(takes "application": Url,
+        "the application of this machine for keys that panels ask about, as http://127.0.0.1:8080/bank"),
+    option!(takes "application-timeout": ReplyTime, "the time that an answer may take, 1 to 3600 [default: 30]"),
+    option!(takes "metrics": ServicePort,
+        "the port of 127.0.0.1 that answers with metrics, 1 to 65535, not that of --port"),
+    option!(takes "control": File, "the socket for commands of the job tell: a file that serve makes"),
+    option!(takes "drain": Seconds, "end the sessions that are left this time after the command drain [default: 0]"),
+    option!(takes "proxy-protocol": Flag,
+        "each connection comes from a proxy, and begins with a header of the PROXY protocol, version 1 or 2"),
+    option!(takes "own-terminals": Flag,
+        "all terminals are this project's own, in which only the host ends the wait after a key"),
+    option!(takes "verify": Flag,
+        "read the screen after each key, and drop a terminal that broke a rule; without --own-terminals"),
+    option!(takes "quiet": Flag, "log no connection"),
 ];
 
-static WEB: [JobOption<'static>; 6] = options![
-    needs "port": ServicePort, "connect": Host;
-    takes "listen": Address, "origin": Url, "sessions": Sessions, "keep": Seconds
+static CHECK: [JobOption<'static>; 1] = [option!(takes "file")];
+
+static TELL: [JobOption<'static>; 4] = [
+    option!(needs "socket"),
+    option!(needs "command"),
+    option!(takes "first"),
+    option!(takes "second"),
+];
+
+static HELP: [JobOption<'static>; 1] = [option!(takes "job")];
+
+static TERM: [JobOption<'static>; 3] = [PORT, LU, MODEL];
+
+static OPERATE: [JobOption<'static>; 5] = [
+    option!(needs "port": ServicePort, "the port of the host, 1 to 65535"),
+    option!(takes "host": Address,
+        "the IPv4 or IPv6 address of the host; localhost is 127.0.0.1 [default: 127.0.0.1]"),
+    LU,
+    MODEL,
+    option!(takes "raw": TtySize, "the size of the tty, which is in raw mode: bin/operate says so"),
+];
+
+static WEB: [JobOption<'static>; 6] = [
+    option!(needs "port": ServicePort, "the port of the page, 1 to 65535"),
+    option!(needs "connect": Host, "the host: a port of this machine, or an IPv4 address and a port"),
+    option!(takes "listen": Address,
+        "the IPv4 or IPv6 address to listen on; localhost is 127.0.0.1 [default: 127.0.0.1]"),
+    option!(takes "origin": Url,
+        "the page's origin behind a proxy, as https://terminals.example; without it browsers of this machine are \
+            served"),
+    option!(takes "sessions": Sessions, "the most sessions at one time, 1 to 64 [default: 64]"),
+    option!(takes "keep": Seconds, "keep a session without a page for this time, 0 to 1000000 [default: 120]"),
 ];
 
 /// The jobs of the program.
