@@ -5,8 +5,6 @@ use Rattle.jobs.specs.declared.job.HelpTopic.TheVariants as topic
 use Rattle.cli.specs.declared.job_table.JobOption.{JobOption}
 use Rattle.cli.specs.declared.job_table.ValueKind.{ValueKind}
 use Rattle.cli.specs.declared.job_table.ValueKind.TheVariants as kind
-use Rattle.tn3270e_msg.specs.Lu.{lu_of}
-use Rattle.jobs.specs.OptionValues.{address_of, model_of, port_of, reply_time_of, seconds_of, service_port_of, tty_size_of, turns_of}
 
 -- ---- names
 

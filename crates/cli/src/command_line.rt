@@ -5,9 +5,9 @@ ghost use Rattle.clap.specs.Matches.{found_of};
 ghost use Rattle.clap.specs.Simple.{subcommand_rows_of};
 ghost use Rattle.clap.specs.Values.{kind_of};
 ghost use Rattle.clap.specs.Walk.{first_of, rows_of};
-ghost use Rattle.jobs.specs.OptionValues.{endpoint_of, is_same_port};
+ghost use Rattle.jobs.specs.OptionValues.{endpoint_of};
 ghost use Rattle.cli.specs.Topics.{row_of};
-ghost use Rattle.cli.specs.Words.{HasNoJob, IsJobOf, program, job_by, job_by_kind, job_named, job_of, given_address, given_application, given_command, given_control, given_limits, given_live_options, given_lu, given_metrics, given_model, given_port, given_reply_time, given_script_terminals, given_seconds, given_service, given_service_port, given_sessions, given_terminals, given_topic, given_tty, given_turns, given_web, ends_by_dashes, is_given, job_shape, job_taken, option_rule, sound_service, topic_of, terminals_by};
+ghost use Rattle.cli.specs.Words.{HasNoJob, IsJobOf, program, job_by, job_by_kind, job_named, job_of, given_address, given_application, given_command, given_control, given_limits, given_live_options, given_lu, given_metrics, given_model, given_port, given_reply_time, given_script_terminals, given_seconds, given_service, given_service_port, given_sessions, given_terminals, given_topic, given_tty, given_turns, given_web, ends_by_dashes, is_given, job_shape, job_taken, option_rule, sound_service, topic_of};
 ghost use Rattle.cli.specs.ClapCommands.{AddsArguments, AddsJob, AddsJobs, IsArgument, IsCommand, IsJob, IsMatch, MayFail};
 
 use crate::help::VERSION;
@@ -102,8 +102,7 @@ fn bare<'a>(alloc: Global) -> Result<Command<'a>, AllocError>
 fn program<'a>(alloc: Global) -> Result<Command<'a>, AllocError>
     ensures { IfOk result (IsCommand program) }
 {
-    let command = bare(alloc)?;
-    with_jobs(alloc, command, &JOBS)
+    with_jobs(alloc, bare(alloc)?, &JOBS)
 }
 
 // ---- the values given
@@ -133,10 +132,7 @@ fn port_in(options: &ArgMatches<'_>) -> Option<Port>
 fn turns_in(options: &ArgMatches<'_>) -> Option<Turns>
     ensures { result ≡ given_turns (rows_of (found_of options.now)) }
 {
-    match given(options, "turns") {
-        Some(word) => Turns::read(word),
-        None => Some(Turns::of(10_000)),
-    }
+    given(options, "turns").map_or(Some(Turns::of(10_000)), Turns::read)
 }
 
 /// The value of `--lu`, if it is given. None if it isn't an LU name.
@@ -190,10 +186,7 @@ fn address_in(options: &ArgMatches<'_>, name: &str) -> Option<IpAddr>
 fn seconds_in(options: &ArgMatches<'_>, name: &str, usual: Seconds) -> Option<Seconds>
     ensures { result ≡ given_seconds name.now usual (rows_of (found_of options.now)) }
 {
-    match given(options, name) {
-        Some(word) => Seconds::read(word),
-        None => Some(usual),
-    }
+    given(options, name).map_or(Some(usual), Seconds::read)
 }
 
 /// The values of `--negotiate`, `--keepalive` and `--idle`.
@@ -227,27 +220,20 @@ pub(crate) fn is_given(options: &ArgMatches<'_>, flag: &str) -> bool
     }
 }
 
-/// The terminals that connect, given whether all are ours and whether the host verifies them. None if both are given.
-fn terminals_by(own: bool, verify: bool) -> Option<Terminals>
-    ensures { result ≡ terminals_by own verify }
-{
-    match (own, verify) {
-        (true, true) => None,
-        (true, false) => Some(Terminals::Waiting),
-        (false, true) => Some(Terminals::Verified),
-        (false, false) => Some(Terminals::Any),
-    }
-}
-
 /// The terminals that connect: those that wait for the host if `--own-terminals` is given, otherwise any, which the
 /// host verifies if `--verify` is given. None if both are given.
 fn terminals_in(options: &ArgMatches<'_>) -> Option<Terminals>
     ensures { result ≡ given_terminals (rows_of (found_of options.now)) }
 {
-    terminals_by(
+    match (
         is_given(options, "own-terminals"),
         is_given(options, "verify"),
-    )
+    ) {
+        (true, true) => None,
+        (true, false) => Some(Terminals::Waiting),
+        (false, true) => Some(Terminals::Verified),
+        (false, false) => Some(Terminals::Any),
+    }
 }
 
 /// The terminals that the host of a script serves: any if `--any-terminal` is given, otherwise those that wait for the
@@ -277,26 +263,15 @@ fn service_in(options: &ArgMatches<'_>) -> Option<Service>
     })
 }
 
-/// Whether another port is given and is equal to this one.
-fn is_same_port(port: ServicePort, other: Option<ServicePort>) -> bool
-    ensures { result ≡ is_same_port port other }
-{
-    match other {
-        Some(other) => port.get() == other.get(),
-        None => false,
-    }
-}
-
 /// The service that the options of `serve` describe. None if a value is invalid, or if the metrics port is the port for
 /// terminals.
 fn sound_service_in(options: &ArgMatches<'_>) -> Option<Service>
     ensures { result ≡ sound_service (rows_of (found_of options.now)) }
 {
     let service = service_in(options)?;
-    if is_same_port(service.port, service.metrics) {
-        None
-    } else {
-        Some(service)
+    match service.metrics {
+        Some(metrics) if metrics.get() == service.port.get() => None,
+        _ => Some(service),
     }
 }
 
@@ -324,10 +299,7 @@ fn endpoint_in(options: &ArgMatches<'_>) -> Option<HostEndpoint>
 fn sessions_in(options: &ArgMatches<'_>) -> Option<SessionCount>
     ensures { result ≡ given_sessions (rows_of (found_of options.now)) }
 {
-    match given(options, "sessions") {
-        Some(word) => SessionCount::read(word),
-        None => Some(SessionCount::of(64)),
-    }
+    given(options, "sessions").map_or(Some(SessionCount::of(64)), SessionCount::read)
 }
 
 /// The options of `web`.
@@ -348,10 +320,7 @@ fn web_in<'a>(options: &ArgMatches<'a>) -> Option<WebOptions<'a>>
 fn reply_time_in(options: &ArgMatches<'_>) -> Option<ReplyTime>
     ensures { result ≡ given_reply_time (rows_of (found_of options.now)) }
 {
-    match given(options, "application-timeout") {
-        Some(word) => ReplyTime::read(word),
-        None => Some(ReplyTime::of(30)),
-    }
+    given(options, "application-timeout").map_or(Some(ReplyTime::of(30)), ReplyTime::read)
 }
 
 /// The application that decides for `serve`, and the time for its reply.
@@ -389,10 +358,7 @@ fn command_in<'a>(options: &ArgMatches<'a>) -> Option<CommandWords<'a>>
 fn topic_in(options: &ArgMatches<'_>) -> Option<HelpTopic>
     ensures { result ≡ given_topic (rows_of (found_of options.now)) }
 {
-    match given(options, "job") {
-        Some(word) => topic_named(word),
-        None => Some(HelpTopic::Program),
-    }
+    given(options, "job").map_or(Some(HelpTopic::Program), topic_named)
 }
 
 /// The topic of `--help`: the job whose option it is.
@@ -454,10 +420,7 @@ fn job_of<'a>(topic: HelpTopic, options: &ArgMatches<'a>) -> Option<Job<'a>>
 fn job_named<'a>(name: &str, options: &ArgMatches<'a>) -> Option<Job<'a>>
     ensures { result ≡ job_named name.now (rows_of (found_of options.now)) }
 {
-    match topic_named(name) {
-        Some(topic) => job_of(topic, options),
-        None => None,
-    }
+    job_of(topic_named(name)?, options)
 }
 
 /// The job of a parsed command line; `script` if there is no argument.
@@ -512,8 +475,7 @@ fn matches_of<'a>(alloc: Global, words: &'a [String]) -> Result<ArgMatches<'a>, 
     ensures matches { IfOk result (IsMatch (map string_bytes words.now)) }
     ensures kind { IfErr result (λ error. MayFail (map string_bytes words.now) (kind_of error)) }
 {
-    let command = program(alloc)?;
-    command.try_get_matches_from(words)
+    program(alloc)?.try_get_matches_from(words)
 }
 
 /// The job of the program's arguments; `script` if there are none.

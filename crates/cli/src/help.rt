@@ -8,16 +8,6 @@ use std::fmt;
 /// The program's version.
 pub const VERSION: &str = "1.1";
 
-/// Prints as the program's name and version.
-#[derive(Clone, Copy, Drop)]
-struct NamedVersion;
-
-impl fmt::Display for NamedVersion {
-    fn fmt<W: fmt::Write>(&self, f: &mut fmt::Formatter<W>) -> fmt::Result {
-        write!(f, "panel3270 {VERSION}")
-    }
-}
-
 const BEFORE_JOBS: &str = "panel3270: TN3270E hosts and terminals, and 3270 screens
 
 usage: panel3270 [JOB] < INPUT
@@ -259,5 +249,5 @@ pub fn run_help<O: Sink, E: Sink>(topic: HelpTopic, out: &mut O, faults: &mut E)
 pub fn run_version<O: Sink, E: Sink>(out: &mut O, faults: &mut E) -> u8
     ensures { PrintsLine (O.seen out.old) (O.seen out.new) (E.seen faults.old) (E.seen faults.new) result }
 {
-    print_line(NamedVersion, out, faults)
+    print_line(format_args!("panel3270 {VERSION}"), out, faults)
 }

@@ -1,6 +1,6 @@
 //! The jobs: their names, their options and operands, and the help texts of these.
 ghost use Rattle.std.specs.Prelude.{◌≡◌, map};
-ghost use Rattle.cli.specs.Topics.{is_operand, name_of, options_of, row_of, takes_value, topic_named};
+ghost use Rattle.cli.specs.Topics.{is_operand, name_of, options_of, row_of, topic_named};
 
 use jobs::HelpTopic;
 
@@ -25,13 +25,6 @@ pub(crate) enum ValueKind {
 }
 
 impl ValueKind {
-    /// Whether an option of this kind takes a value.
-    pub(crate) fn takes_value(self) -> bool
-        ensures { result ≡ takes_value self }
-    {
-        !matches!(self, ValueKind::Flag)
-    }
-
     /// Whether this is the kind of an operand.
     pub(crate) fn is_operand(self) -> bool
         ensures { result ≡ is_operand self }

@@ -86,8 +86,8 @@ pub(crate) fn not_taken<'a>(alloc: Global, error: &clap::Error) -> WordFault<'a>
     }
 }
 
-/// Whether a word is a valid value of this kind, if that is a number.
-fn is_number(kind: ValueKind, word: &str) -> bool {
+/// Whether a word is a valid value of this kind.
+fn is_value(kind: ValueKind, word: &str) -> bool {
     match kind {
         ValueKind::Port => Port::read(word).is_some(),
         ValueKind::ServicePort => ServicePort::read(word).is_some(),
@@ -95,19 +95,12 @@ fn is_number(kind: ValueKind, word: &str) -> bool {
         ValueKind::Seconds => Seconds::read(word).is_some(),
         ValueKind::ReplyTime => ReplyTime::read(word).is_some(),
         ValueKind::Sessions => SessionCount::read(word).is_some(),
-        _ => true,
-    }
-}
-
-/// Whether a word is a valid value of this kind.
-fn is_value(kind: ValueKind, word: &str) -> bool {
-    match kind {
         ValueKind::LuName => Lu::read(word.as_bytes()).is_some(),
         ValueKind::Address => address_of(word).is_some(),
         ValueKind::Model => model_of(word).is_some(),
         ValueKind::TtySize => TtySize::read(word).is_some(),
         ValueKind::Host => HostEndpoint::read(word).is_some(),
-        _ => is_number(kind, word),
+        ValueKind::Url | ValueKind::File | ValueKind::Flag | ValueKind::Operand => true,
     }
 }
 

@@ -1,10 +1,10 @@
 //! The address and port of a host, as a word of the command line.
 ghost use Rattle.std.specs.Prelude.{◌≡◌};
-ghost use Rattle.std.specs.List.{after_first, before_first};
-ghost use Rattle.jobs.specs.OptionValues.{endpoint_of, is_colon};
+ghost use Rattle.jobs.specs.OptionValues.{endpoint_of};
 
 use crate::number::ServicePort;
 use crate::service::address_of;
+use crate::word::{after_first, before_first};
 use std::net::{IpAddr, Ipv4Addr};
 
 /// The address and port of a host.
@@ -16,33 +16,13 @@ pub struct HostEndpoint {
     pub port: ServicePort,
 }
 
-/// The text before the first colon; the whole text if there is none.
-fn before_colon(word: &str) -> &str
-    ensures { result.now ≡ before_first is_colon word.now }
-{
-    match word.split_once(':') {
-        Some((host, _)) => host,
-        None => word,
-    }
-}
-
-/// The text after the first colon; empty if there is none.
-fn behind_colon(word: &str) -> &str
-    ensures { result.now ≡ after_first is_colon word.now }
-{
-    match word.split_once(':') {
-        Some((_, port)) => port,
-        None => "",
-    }
-}
-
 impl HostEndpoint {
     /// The host in a word such as `3270`, a port of 127.0.0.1, or `192.0.2.7:3270` or `localhost:3270`, an IPv4 address
     /// and a port. None if the word is neither.
     pub fn read(word: &str) -> Option<HostEndpoint>
         ensures { result ≡ endpoint_of word.now }
     {
-        let port = behind_colon(word);
+        let port = after_first(word, ':');
         if port.is_empty() {
             Some(HostEndpoint {
                 host: IpAddr::V4(Ipv4Addr::LOCALHOST),
@@ -50,7 +30,7 @@ impl HostEndpoint {
             })
         } else {
             Some(HostEndpoint {
-                host: address_of(before_colon(word))?,
+                host: address_of(before_first(word, ':'))?,
                 port: ServicePort::read(port)?,
             })
         }

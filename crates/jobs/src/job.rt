@@ -1,6 +1,6 @@
 //! The jobs of the program, with the values of their options.
 ghost use Rattle.std.specs.Prelude.{◌≡◌};
-ghost use Rattle.jobs.specs.OptionValues.{model_numbered, model_of};
+ghost use Rattle.jobs.specs.OptionValues.{model_of};
 
 use crate::endpoint::HostEndpoint;
 use crate::number::{Port, Seconds, ServicePort, SessionCount, Turns};
@@ -13,24 +13,17 @@ use std::marker;
 use std::net::IpAddr;
 use tn3270e_msg::Lu;
 
-/// The 3278 model with this number, 2 to 5; None for any other number.
-fn model_numbered(number: usize) -> Option<Model>
-    ensures { result ≡ model_numbered number }
+/// The 3278 model with a number in decimal digits, 2 to 5; None if the word isn't such a number.
+pub fn model_of(word: &str) -> Option<Model>
+    ensures { result ≡ model_of word.now }
 {
-    match number {
+    match number_of(word)? {
         2 => Some(Model::M2),
         3 => Some(Model::M3),
         4 => Some(Model::M4),
         5 => Some(Model::M5),
         _ => None,
     }
-}
-
-/// The 3278 model with a number in decimal digits, 2 to 5; None if the word isn't such a number.
-pub fn model_of(word: &str) -> Option<Model>
-    ensures { result ≡ model_of word.now }
-{
-    model_numbered(number_of(word)?)
 }
 
 /// A word of the command line: a file name, or a URL. Contracts see its text.

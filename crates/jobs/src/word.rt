@@ -1,15 +1,35 @@
 //! The words of a line, and decimal numbers.
-ghost use Rattle.std.specs.Prelude.{◌≡◌};
+ghost use Rattle.std.specs.Prelude.{◌≡◌, ◌<◌, ◌==◌};
+ghost use Rattle.std.specs.List.{after_first, before_first};
 ghost use Rattle.jobs.specs.LineParts.{behind, is_digits, number_of};
+
+/// The text before the first `mark`, an ASCII character; the whole text if there is none.
+pub(crate) fn before_first(text: &str, mark: char) -> &str
+    requires { mark < 128 }
+    ensures { result.now ≡ before_first (λ char. char == mark) text.now }
+{
+    match text.split_once(mark) {
+        Some((front, _)) => front,
+        None => text,
+    }
+}
+
+/// The text after the first `mark`, an ASCII character; empty if there is none.
+pub(crate) fn after_first(text: &str, mark: char) -> &str
+    requires { mark < 128 }
+    ensures { result.now ≡ after_first (λ char. char == mark) text.now }
+{
+    match text.split_once(mark) {
+        Some((_, rest)) => rest,
+        None => "",
+    }
+}
 
 /// The text after the first blank; empty if there is no blank.
 pub fn behind(text: &str) -> &str
     ensures { result.now ≡ behind text.now }
 {
-    match text.split_once(' ') {
-        Some((_, rest)) => rest,
-        None => "",
-    }
+    after_first(text, ' ')
 }
 
 /// Whether a word consists of decimal digits, at least one.

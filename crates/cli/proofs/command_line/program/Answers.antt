@@ -11,5 +11,5 @@ bare = record program { top = record program.top { is_leaf = true }; subs = [] }
 
 pub returns : goal.returns
 returns c =
-    IfOk-weaker c.with_jobs.result _ _ (λ new adds. all_gained bare (map job_shape jobs) c.in_ok-command.command new c.in_ok-command.ensures adds)
+    IfOk-weaker c.with_jobs.result _ _ (λ new adds. all_gained bare (map job_shape jobs) c.in_ok-bare.field-0 new c.in_ok-bare.ensures adds)
     c.with_jobs.ensures
