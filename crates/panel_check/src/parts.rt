@@ -121,20 +121,18 @@ impl<'s, 'a> Words<'s, 'a> {
         if panel.model == 2 || !panel.has_otherwise {
             return Ok(());
         }
-        self.know_panels(true)?;
-        let name = panel.otherwise;
-        if !self.known.contains(&name) && self.draft.panel_named(name).is_some() {
+        let (draft, name) = (self.draft, panel.otherwise);
+        if draft.base_panel_named(name).is_none() && draft.panel_named(name).is_some() {
             return say!(self, "otherwise";
                 "'otherwise' must name a panel of model 2, and '{}' is of another model", Cut(name));
         }
-        self.lost("otherwise", name, "'otherwise' names no panel:")
+        self.lost_panel("otherwise", name, true)
     }
 
     /// Says which of a panel's keys lead to no panel.
     pub(crate) fn lost_keys(&mut self, panel: &PanelDraft) -> Done {
-        self.know_panels(false)?;
         for key in &panel.keys {
-            self.lost(key.0, key.1, format_args!("'{}' names no panel:", key.0))?;
+            self.lost_panel(key.0, key.1, false)?;
         }
         Ok(())
     }
@@ -149,8 +147,8 @@ impl<'s, 'a> Words<'s, 'a> {
         self.say_near("show", shown_in(item).unwrap_or(""), message)
     }
 
-    /// Takes the names of all panels for known ones, or of those of model 2.
-    pub(crate) fn know_panels(&mut self, only_base: bool) -> Done {
+    /// Says that a key names no panel, or none of model 2, if it is so.
+    pub(crate) fn lost_panel(&mut self, key: &str, name: &str, only_base: bool) -> Done {
         let draft = self.draft;
         self.known.clear();
         for panel in &draft.panels {
@@ -158,7 +156,7 @@ impl<'s, 'a> Words<'s, 'a> {
                 self.known.push(panel.name)?;
             }
         }
-        Ok(())
+        self.lost(key, name, format_args!("'{key}' names no panel:"))
     }
 
     /// Says this of a name at a key, unless the name is known.

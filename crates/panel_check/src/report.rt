@@ -10,7 +10,7 @@ use std::alloc::{AllocError, Global};
 use std::fmt;
 
 /// The kind of a finding. `TextWraps`, `FillNotNumeric` and `NoKeyLeads` are warnings, all others are faults.
-#[derive(Clone, Copy, Debug, PartialEq, Eq)]
+#[derive(Clone, Copy, Debug)]
 pub enum Cause {
     /// The text isn't TOML.
     NotToml,
@@ -68,8 +68,9 @@ pub struct Sizes {
 pub(crate) fn sizes_of(draft: &Draft) -> Sizes {
     let (panels, lus, mut fields) = (draft.panels.len(), draft.lus.len(), 0usize);
     for panel in &draft.panels {
-        let own = panel.fields.iter().filter(|item| !item.is_value);
-        fields = fields.saturating_add(own.count());
+        for item in &panel.fields {
+            fields = fields.saturating_add(usize::from(!item.is_value));
+        }
     }
     Sizes {
         panels,

@@ -135,7 +135,7 @@ fn report_on_tree(alloc: Global, text: &str, top: &Table) -> Result<Report, Allo
 fn report_no_toml(alloc: Global, text: &str, error: &Error) -> Result<Report, AllocError>
     ensures { parse_document text.now ≡ None → IfOk result (λ report. IsReportOn text.now report.findings.items) }
 {
-    let start = error.span().map_or(0, |span| span.start);
+    let start = error.span().unwrap_or(0..0).start;
     let line = line_ends(text, start).saturating_add(1);
     let words = String::from_str(alloc, error.message())?;
     let (cause, sizes, mut findings) = (Cause::NotToml, None, Vec::new(alloc));

@@ -168,8 +168,7 @@ impl<'s, 'a> Words<'s, 'a> {
                 self.most(draft.table, "panel", draft.panels.len(), MOST_PANELS)
             }
             (Cause::Tree(_, _), None, None) if draft.has_start => {
-                self.know_panels(false)?;
-                self.lost("start", draft.start, "'start' names no panel:")
+                self.lost_panel("start", draft.start, false)
             }
             (Cause::Lus(fault), _, _) => self.lu_fault(fault),
             (Cause::TextWraps | Cause::FillNotNumeric, _, _) => self.warn_of_items(),
@@ -230,9 +229,8 @@ impl<'s, 'a> Words<'s, 'a> {
             self.known.push(rule.key())?;
         }
         for (key, value) in table.iter() {
-            let key = key.as_str();
-            if !knows_key(rules, key) {
-                self.unknown(key, value)?;
+            if !knows_key(rules, key.as_str()) {
+                self.unknown(key.as_str(), value)?;
             }
         }
         for rule in rules {
@@ -353,6 +351,7 @@ impl<'s, 'a> Words<'s, 'a> {
         }
     }
 
+    /// Says what is wrong with the list of LUs; of a name that is listed twice, in which line it is first.
     fn lu_fault(&mut self, fault: PoolFault) -> Done {
         let draft = self.draft;
         let lus = draft.lus.as_slice();
@@ -360,18 +359,18 @@ impl<'s, 'a> Words<'s, 'a> {
             return say!(self, "lus"; "{} LUs: there must be 1 to 64", lus.len());
         };
         let text = lus.get(index).copied().unwrap_or("");
-        if matches!(fault, PoolFault::Twice(_)) {
-            return self.lu_twice(index, text, lus);
+        if matches!(fault, PoolFault::BadName(_)) {
+            return say!(self, format_args!("lus'{index}");
+                "bad LU name '{}': 1 to 8 of A-Z, 0-9, @, # and $, the first no digit", Cut(text));
         }
-        say!(self, format_args!("lus'{index}");
-            "bad LU name '{}': 1 to 8 of A-Z, 0-9, @, # and $, the first no digit", Cut(text))
-    }
-
-    /// Says in which line the name of an LU is listed first.
-    fn lu_twice(&mut self, index: usize, text: &str, lus: &[&str]) -> Done {
-        let (lu, mut others) = (Lu::read(text.as_bytes()), lus.iter());
-        let first = others.position(|other| Lu::read(other.as_bytes()) == lu);
-        let first = format_args!("lus'{}", first.unwrap_or(index));
+        let (lu, mut first) = (Lu::read(text.as_bytes()), 0usize);
+        for other in lus {
+            if Lu::read(other.as_bytes()) == lu {
+                break;
+            }
+            first = first.saturating_add(1);
+        }
+        let first = format_args!("lus'{first}");
         let line = self.lines.of_key(Location::Top, first)?;
         say!(self, format_args!("lus'{index}"); "LU '{}' is already listed in line {line}", Cut(text))
     }
