@@ -2,7 +2,7 @@
 ghost use Rattle.std.specs.Prelude.{◌≡◌, option_map};
 ghost use Rattle.service_wire.specs.Lines.{first_word, operand_of};
 ghost use Rattle.service_wire.specs.Texts.{text_of};
-ghost use Rattle.service_wire.specs.Commands.{command_in, command_of, command_of_word, command_with, drain_of, given_text, note_of, recipient_of};
+ghost use Rattle.service_wire.specs.Commands.{command_in, command_of, command_of_word, command_with, given_text, note_of, recipient_of};
 
 use crate::line_fault::LineFault;
 use crate::note_text::NoteText;
@@ -85,18 +85,10 @@ fn given_text(text: Option<&str>) -> Option<NoteText>
 fn note_of(to: Option<Recipient>, text: Option<NoteText>) -> Result<Command, LineFault>
     ensures { result ≡ note_of to text }
 {
-    let to = to.ok_or(LineFault::BadLu)?;
-    let text = text.ok_or(LineFault::BadText)?;
-    Ok(Command::Note { to, text })
-}
-
-/// The command to drain with this text.
-fn drain_of(text: Option<NoteText>) -> Result<Command, LineFault>
-    ensures { result ≡ drain_of text }
-{
-    match text {
-        Some(text) => Ok(Command::Drain { text }),
-        None => Err(LineFault::BadText),
+    match (to, text) {
+        (Some(to), Some(text)) => Ok(Command::Note { to, text }),
+        (Some(_), None) => Err(LineFault::BadText),
+        (None, _) => Err(LineFault::BadLu),
     }
 }
 
@@ -120,7 +112,10 @@ fn command_with(word: &str, operand: &str) -> Result<Command, LineFault>
     ensures { result ≡ command_with word.now operand.now }
 {
     match word {
-        "drain" => drain_of(NoteText::read(operand)),
+        "drain" => match NoteText::read(operand) {
+            Some(text) => Ok(Command::Drain { text }),
+            None => Err(LineFault::BadText),
+        },
         "note" => note_of(
             recipient_of(first_word(operand)),
             given_text(operand_of(operand)),
@@ -136,8 +131,8 @@ impl Command {
     pub fn read(line: &str) -> Result<Command, LineFault>
         ensures { result ≡ command_in line.now }
     {
-        match operand_of(line) {
-            Some(operand) => command_with(first_word(line), operand),
+        match line.split_once(' ') {
+            Some((word, operand)) => command_with(word, operand),
             None => command_of_word(line),
         }
     }

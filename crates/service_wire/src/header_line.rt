@@ -6,7 +6,7 @@ ghost use Rattle.std.specs.declared.net.socket_addr.SocketAddr.{SocketAddr};
 ghost use Rattle.service_wire.specs.Header.{HasHeader};
 ghost use Rattle.service_wire.specs.HeaderLine.{IsBadLine, IsClient, IsLine, IsNoClient, IsNoPair, IsOpenLine, IsPair, IsPort, begins_with_crlf, line_in, line_mark, list_of, words};
 
-use crate::fronts::{after, front_of};
+use crate::fronts::{after, front_of, place_of};
 use crate::header::Header;
 use crate::header_fault::HeaderFault;
 use std::net::{Ipv4Addr, Ipv6Addr, SocketAddr, SocketAddrV4, SocketAddrV6};
@@ -27,18 +27,11 @@ struct Words<'a> {
     target_port: &'a [u8],
 }
 
-/// The place of the first space.
-fn space_in(text: &[u8]) -> Option<usize>
-    ensures { result ≡ position (λ byte. byte == 0x20) text.now }
-{
-    text.iter().position(|byte| *byte == b' ')
-}
-
 /// The first word of a text and what follows the space after it; None if there is no space.
 fn split_word(text: &[u8]) -> Option<(&[u8], &[u8])>
     ensures { MatchOption result (words text.now ≡ text.now ∷ []) (λ p. words text.now ≡ p.0.now ∷ words p.1.now) }
 {
-    let Some(space) = space_in(text) else {
+    let Some(space) = place_of(b' ', text) else {
         return None;
     };
     Some((&text[..space], &text[space + 1..]))
@@ -160,23 +153,14 @@ fn ipv6_client(words: &Words<'_>) -> Option<SocketAddr>
     Some(SocketAddr::V6(SocketAddrV6::new(address, port, 0, 0)))
 }
 
-/// Whether a word is this text.
-fn is_same(word: &[u8], text: &[u8]) -> bool
-    ensures { Decides result (word.now ≡ text.now) }
-{
-    word == text
-}
-
 /// The client that the words name.
 fn client_of(words: &Words<'_>) -> Option<SocketAddr>
     ensures { MatchOption result (IsNoClient (list_of words.now)) (IsClient (list_of words.now)) }
 {
-    if is_same(words.family, b"TCP4") {
-        ipv4_client(words)
-    } else if is_same(words.family, b"TCP6") {
-        ipv6_client(words)
-    } else {
-        None
+    match words.family {
+        b"TCP4" => ipv4_client(words),
+        b"TCP6" => ipv6_client(words),
+        _ => None,
     }
 }
 

@@ -4,7 +4,7 @@ use Rattle.service_wire.proofs.header_reader.HeaderReader.new.Goals as goal
 
 pub invariant_of-result : goal.invariant_of-result
 invariant_of-result c = record {
-  all = ap length c.room.ensures ∙ length-replicate {A = ℕ} 536 0;
+  all = length-replicate {A = ℕ} 536 0;
   within = omega arith;
   awaited = inl (inl (record { next = 80; rest = codes "ROXY "; spelled = refl }));
 }
