@@ -21,23 +21,23 @@ pub enum Recipient {
 /// A command to a running service.
 #[derive(Drop)]
 pub enum Command {
-    /// Reads the panels again; new sessions get these.
+    /// `reload` reads the panels again; new sessions get these.
     Reload,
-    /// Admits no new session, and ends the service once no session is left.
+    /// `drain` or `drain TEXT` admits no new session, and ends the service once no session is left.
     Drain {
         /// What is shown on each screen, unless it is empty.
         text: NoteText,
     },
-    /// Shows a text on screens.
+    /// `note LU TEXT` or `note * TEXT` shows a text on screens.
     Note {
         /// On whose screen.
         to: Recipient,
         /// The text; an empty one clears the row.
         text: NoteText,
     },
-    /// Asks which sessions there are.
+    /// `sessions` asks which sessions there are.
     Sessions,
-    /// Ends the service.
+    /// `stop` ends the service.
     Stop,
 }
 

@@ -9,7 +9,7 @@ ghost use Rattle.service_wire.specs.HeaderLine.{IsBadLine, IsClient, IsLine, IsN
 use crate::fronts::{after, front_of, place_of};
 use crate::header::Header;
 use crate::header_fault::HeaderFault;
-use std::net::{Ipv4Addr, Ipv6Addr, SocketAddr, SocketAddrV4, SocketAddrV6};
+use std::net::{IpAddr, Ipv4Addr, Ipv6Addr, SocketAddr};
 
 /// What each header of version 1 begins with.
 pub(crate) const LINE_MARK: &[u8] = b"PROXY ";
@@ -125,43 +125,17 @@ fn first_ipv6(first: &[u8], second: &[u8]) -> Option<Ipv6Addr>
     }
 }
 
-/// The client that the words of TCP over IPv4 name.
-fn ipv4_client(words: &Words<'_>) -> Option<SocketAddr>
-    requires { words.now.family.now ≡ codes "TCP4" }
-    ensures { MatchOption result (IsNoClient (list_of words.now)) (IsClient (list_of words.now)) }
-{
-    let Some(address) = first_ipv4(words.source, words.target) else {
-        return None;
-    };
-    let Some(port) = first_port(words.source_port, words.target_port) else {
-        return None;
-    };
-    Some(SocketAddr::V4(SocketAddrV4::new(address, port)))
-}
-
-/// The client that the words of TCP over IPv6 name.
-fn ipv6_client(words: &Words<'_>) -> Option<SocketAddr>
-    requires { words.now.family.now ≡ codes "TCP6" }
-    ensures { MatchOption result (IsNoClient (list_of words.now)) (IsClient (list_of words.now)) }
-{
-    let Some(address) = first_ipv6(words.source, words.target) else {
-        return None;
-    };
-    let Some(port) = first_port(words.source_port, words.target_port) else {
-        return None;
-    };
-    Some(SocketAddr::V6(SocketAddrV6::new(address, port, 0, 0)))
-}
-
 /// The client that the words name.
 fn client_of(words: &Words<'_>) -> Option<SocketAddr>
     ensures { MatchOption result (IsNoClient (list_of words.now)) (IsClient (list_of words.now)) }
 {
-    match words.family {
-        b"TCP4" => ipv4_client(words),
-        b"TCP6" => ipv6_client(words),
-        _ => None,
-    }
+    let address = match words.family {
+        b"TCP4" => IpAddr::V4(first_ipv4(words.source, words.target)?),
+        b"TCP6" => IpAddr::V6(first_ipv6(words.source, words.target)?),
+        _ => return None,
+    };
+    let port = first_port(words.source_port, words.target_port)?;
+    Some(SocketAddr::new(address, port))
 }
 
 /// What a line says of the client; None if it is no line of the protocol.
