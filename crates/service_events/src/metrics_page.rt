@@ -171,14 +171,10 @@ panel3270_answer_seconds_count {count}
 
 impl fmt::Display for MetricsPage {
     fn fmt<W: fmt::Write>(&self, f: &mut fmt::Formatter<W>) -> fmt::Result {
-        let MetricsPage {
-            metrics,
-            version,
-            started,
-        } = *self;
-        metrics.put_sessions(f)?;
-        metrics.put_traffic(f)?;
-        metrics.put_questions(f)?;
+        self.metrics.put_sessions(f)?;
+        self.metrics.put_traffic(f)?;
+        self.metrics.put_questions(f)?;
+        let version = self.version;
         write!(
             f,
             "# HELP panel3270_build_info The program's version.
@@ -186,7 +182,7 @@ impl fmt::Display for MetricsPage {
 panel3270_build_info{{version=\"{version}\"}} 1
 "
         )?;
-        match started {
+        match self.started {
             Some(seconds) => write!(
                 f,
                 "# HELP process_start_time_seconds Start time of the process since the Unix epoch, in seconds.
