@@ -37,8 +37,8 @@ const FAILURES: [&str; 7] = [
 ];
 
 /// The bounds of the times from a question to its answer, in seconds.
-const BOUNDS: [&str; 12] = [
-    "0.005", "0.01", "0.025", "0.05", "0.1", "0.25", "0.5", "1", "2.5", "5", "10", "30",
+const BOUNDS: [&str; 13] = [
+    "0.005", "0.01", "0.025", "0.05", "0.1", "0.25", "0.5", "1", "2.5", "5", "10", "30", "+Inf",
 ];
 
 /// The page: what was counted, and the process.
@@ -157,12 +157,10 @@ panel3270_questions_total {asked}
                 "panel3270_answer_seconds_bucket{{le=\"{bound}\"}} {count}\n"
             )?;
         }
-        let count = count.saturating_add(self.answered[BOUNDS.len()]);
         let (seconds, millis) = (self.answer_millis / 1000, self.answer_millis % 1000);
         write!(
             f,
-            "panel3270_answer_seconds_bucket{{le=\"+Inf\"}} {count}
-panel3270_answer_seconds_sum {seconds}.{millis:03}
+            "panel3270_answer_seconds_sum {seconds}.{millis:03}
 panel3270_answer_seconds_count {count}
 "
         )

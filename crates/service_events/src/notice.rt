@@ -237,8 +237,7 @@ pub fn ending_of(closed: Option<Ending>, served: Served) -> Option<Ending>
     ensures { result ≡ ending_of closed served }
 {
     match served {
-        Served::Going => None,
+        Served::Going | Served::Memory => None,
         Served::Lost => Some(closed.unwrap_or(Ending::Lost)),
-        Served::Memory => None,
     }
 }

@@ -2,7 +2,7 @@
 ghost use Rattle.std.specs.Prelude.{◌≡◌, ◌≤◌, ◌==◌, [], ℕ, List, Some, All, IfOk, OnErr, OnOk, length, option_map, position};
 ghost use Rattle.httparse.specs.Grammar.{RequestHead as Head, ReadsRequest};
 ghost use Rattle.httparse.specs.Spans.{IsHeaderWithin};
-ghost use Rattle.service_events.specs.Scrapes.{IsAnswerTo, before, is_late, is_local, method_of, most_fields, resource_of, status_for_resource, status_of, status_of_parts, with_more};
+ghost use Rattle.service_events.specs.Scrapes.{IsAnswerTo, before, is_late, is_local, most_fields, resource_of, status_for_resource, status_of, status_of_parts, with_more};
 ghost use Rattle.websocket.specs.Headers.{fields_of};
 ghost use Rattle.web_wire.specs.Heads.{only_value};
 
@@ -106,17 +106,6 @@ fn is_local(host: Option<&[u8]>) -> bool
     }
 }
 
-/// The method with this name; None if the resources don't have it.
-fn method_of(name: &[u8]) -> Option<Method>
-    ensures { result ≡ method_of name.now }
-{
-    match name {
-        b"GET" => Some(Method::Get),
-        b"HEAD" => Some(Method::Head),
-        _ => None,
-    }
-}
-
 /// The status for a resource that is asked for at a host.
 fn status_for_resource(
     method: Method,
@@ -137,10 +126,12 @@ fn status_for_resource(
 fn status_of_parts(method: &[u8], target: &[u8], host: Option<&[u8]>) -> HttpStatus
     ensures { result ≡ status_of_parts method.now target.now (option_map (λ value. value.now) host.entry) }
 {
-    match method_of(method) {
-        Some(method) => status_for_resource(method, resource_of(before(target, b'?')), host),
-        None => HttpStatus::MethodNotAllowed,
-    }
+    let method = match method {
+        b"GET" => Method::Get,
+        b"HEAD" => Method::Head,
+        _ => return HttpStatus::MethodNotAllowed,
+    };
+    status_for_resource(method, resource_of(before(target, b'?')), host)
 }
 
 /// The status for the bytes sent so far; None if the head isn't complete yet.
