@@ -161,20 +161,6 @@ impl fmt::Display for Ending {
     }
 }
 
-/// Prints as nothing if the terminal wasn't bound to an LU; otherwise begins with a blank.
-impl fmt::Display for Usage {
-    fn fmt<W: fmt::Write>(&self, f: &mut fmt::Formatter<W>) -> fmt::Result {
-        if !self.bound {
-            return Ok(());
-        }
-        write!(
-            f,
-            " duration={} turns={} sent={} received={}",
-            self.duration, self.turns, self.sent, self.received
-        )
-    }
-}
-
 /// Prints as the command, its LU, and the status of the answer.
 impl fmt::Display for Commanded {
     fn fmt<W: fmt::Write>(&self, f: &mut fmt::Formatter<W>) -> fmt::Result {
@@ -223,7 +209,12 @@ impl fmt::Display for Notice {
                 };
                 write!(f, "{client} event=rule-broken rule={rule} cell={cell}")
             }
-            Notice::Ended(client, ending, usage) => write!(f, "{client} event={ending}{usage}"),
+            Notice::Ended(client, ending, usage) if usage.bound => write!(
+                f,
+                "{client} event={ending} duration={} turns={} sent={} received={}",
+                usage.duration, usage.turns, usage.sent, usage.received
+            ),
+            Notice::Ended(client, ending, _) => write!(f, "{client} event={ending}"),
             Notice::Asked => f.write_str("event=asked"),
             Notice::Answered(millis) => write!(f, "event=answered millis={millis}"),
             Notice::Commanded(commanded) => write!(f, "event=command {commanded}"),
