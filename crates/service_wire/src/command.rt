@@ -1,8 +1,7 @@
 //! The commands.
 ghost use Rattle.std.specs.Prelude.{◌≡◌, option_map};
 ghost use Rattle.service_wire.specs.Lines.{first_word, operand_of};
-ghost use Rattle.service_wire.specs.Texts.{text_of};
-ghost use Rattle.service_wire.specs.Commands.{command_in, command_of, command_of_word, command_with, given_text, note_of, recipient_of};
+ghost use Rattle.service_wire.specs.Commands.{command_in, command_of_word, command_with, given_text, note_of, recipient_of};
 
 use crate::line_fault::LineFault;
 use crate::note_text::NoteText;

@@ -1,5 +1,5 @@
 //! Places in bytes, and bytes at the front of others.
-ghost use Rattle.std.specs.Prelude.{◌≡◌, ◌++◌, ◌≤◌, ◌<◌, ◌==◌, ◌⊎◌, List, ℕ, IfSome, length, position, take, MatchOption, true};
+ghost use Rattle.std.specs.Prelude.{◌≡◌, ◌++◌, ◌≤◌, ◌<◌, ◌==◌, List, ℕ, IfSome, length, position, take, MatchOption, true};
 ghost use Rattle.service_wire.specs.Fronts.{IsPartOf};
 
 /// What follows the mark at the front of the bytes; None if they don't begin with it.

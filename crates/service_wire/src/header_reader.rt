@@ -1,5 +1,5 @@
 //! A reader of the header, which takes no byte that follows it.
-ghost use Rattle.std.specs.Prelude.{◌≡◌, ◌++◌, ◌+◌, ◌≤◌, [], IfErr, IfOk, IfSome, IfNone, length, replicate, take};
+ghost use Rattle.std.specs.Prelude.{◌≡◌, ◌++◌, ◌+◌, ◌≤◌, [], IfErr, IfOk, IfSome, IfNone, length, take};
 ghost use Rattle.service_wire.specs.Header.{IsAwaited, IsHeader, IsRefused, IsWholly};
 ghost use Rattle.service_wire.specs.Fronts.{Lacks};
 ghost use Rattle.service_wire.specs.HeaderReader.{IsMissing, longest_header, received};

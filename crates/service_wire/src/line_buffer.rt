@@ -1,6 +1,6 @@
 //! A line that is received in pieces.
-ghost use Rattle.std.specs.Prelude.{◌≡◌, ◌+◌, ◌-◌, ◌≤◌, ◌<◌, ◌==◌, ◌++◌, IfErr, IfOk, IfSome, MatchOption, Some, [], length, option_map, position, take};
-ghost use Rattle.service_wire.specs.Lines.{IsNoLine, IsNoText, IsOpen, line_in, received};
+ghost use Rattle.std.specs.Prelude.{◌≡◌, ◌-◌, ◌≤◌, ◌<◌, IfErr, IfOk, MatchOption, Some, [], option_map};
+ghost use Rattle.service_wire.specs.Lines.{IsNoLine, IsOpen, line_in, received};
 
 use crate::fronts::{front_of, place_of};
 use crate::line_fault::LineFault;

@@ -1,4 +1,4 @@
-use Rattle.std.proofs.Common.{ℕ, codes, length, ap, ◌∙◌, refl, inl, arith}
+use Rattle.std.proofs.Common.{ℕ, codes, refl, inl, arith}
 use Rattle.std.proofs.lemmas.List.{length-replicate}
 use Rattle.service_wire.proofs.header_reader.HeaderReader.new.Goals as goal
 
