@@ -35,9 +35,8 @@ impl Served<'_> {
     fn whole_page(&self) -> MetricsPage {
         let mut metrics = self.page.metrics;
         for conn in 0..MOST_CONNECTIONS {
-            match self.server.usage(conn) {
-                Some(usage) => metrics.count_usage(usage.turns, usage.received, usage.sent),
-                None => {}
+            if let Some(usage) = self.server.usage(conn) {
+                metrics.count_usage(usage.turns, usage.received, usage.sent);
             }
         }
         MetricsPage {
@@ -48,20 +47,13 @@ impl Served<'_> {
 
     /// The response with a status, and with the resource if the status is 200.
     fn response(&self, status: HttpStatus) -> Result<String, AllocError> {
-        let Served {
-            alloc,
-            page,
-            server,
-        } = *self;
+        let (alloc, server, started) = (self.alloc, self.server, self.page.started);
         let text = match status {
             HttpStatus::Found(_, Resource::Metrics) => {
-                let page = self.whole_page();
-                format!(in alloc; "{page}")?
+                format!(in alloc; "{}", self.whole_page())?
             }
-            HttpStatus::Found(_, Resource::Sessions) => session_page(alloc, server, page.started)?,
-            HttpStatus::Found(_, Resource::SessionData) => {
-                session_data(alloc, server, page.started)?
-            }
+            HttpStatus::Found(_, Resource::Sessions) => session_page(alloc, server, started)?,
+            HttpStatus::Found(_, Resource::SessionData) => session_data(alloc, server, started)?,
             _ => String::new(alloc),
         };
         response_of(alloc, status, text.as_str())

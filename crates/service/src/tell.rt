@@ -66,10 +66,7 @@ fn connect_reason(kind: ErrorKind) -> &'static str {
 /// Adds a blank and a word to a line, if there is a word.
 fn add_word(line: &mut String, word: &Option<Operand<'_>>) -> Result<(), AllocError> {
     match word {
-        Some(word) => {
-            let word = word.as_str();
-            write!(line, " {word}")
-        }
+        Some(word) => write!(line, " {}", word.as_str()),
         None => Ok(()),
     }
 }

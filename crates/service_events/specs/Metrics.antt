@@ -46,10 +46,6 @@ raised count by = min (count + by) (2 ^ 64 - 1)
 abbrev pub raised_at : (place : ℕ) → List ℕ → List ℕ
 raised_at place counts = slice_set counts place (raised (slice_index_or counts place 0) 1)
 
--- counts a session that began
-abbrev pub with_begin : Metrics → Metrics
-with_begin counts = record counts { current = raised counts.current 1; begun = raised counts.begun 1 }
-
 -- counts a session that ended; those that the host closed by the cause's number, 1 to 10. A stopped service has no page
 -- any more.
 abbrev pub ended_by : Ending → Metrics → Metrics
@@ -117,7 +113,8 @@ abbrev pub counted : Notice → Metrics → Metrics
 counted (notice.Listening address) counts = counts
 counted (notice.TurnedAway peer) counts = record counts { turned_away = raised counts.turned_away 1 }
 counted (notice.BadProxyHeader peer why) counts = counts
-counted (notice.Connected client) counts = with_begin counts
+counted (notice.Connected client) counts =
+    record counts { current = raised counts.current 1; begun = raised counts.begun 1 }
 counted (notice.Rejected client rejection) counts =
     record counts { rejected = raised_at (reason_place rejection.reason) counts.rejected }
 counted (notice.Bound client lu) counts = counts

@@ -92,30 +92,21 @@ impl Awaited {
     fn is_agreed(self) -> bool
         ensures { result ≡ is_agreed self }
     {
-        match self {
-            Awaited::Agreement => false,
-            Awaited::Operator | Awaited::Decision | Awaited::Response => true,
-        }
+        !matches!(self, Awaited::Agreement)
     }
 
     /// Whether the connection waits for the operator.
     pub fn is_operator(self) -> bool
         ensures { result ≡ is_operator self }
     {
-        match self {
-            Awaited::Operator => true,
-            Awaited::Agreement | Awaited::Decision | Awaited::Response => false,
-        }
+        matches!(self, Awaited::Operator)
     }
 
     /// Whether the connection waits for the host: for its decision, or until its command is answered.
     fn is_host(self) -> bool
         ensures { result ≡ is_host self }
     {
-        match self {
-            Awaited::Decision | Awaited::Response => true,
-            Awaited::Agreement | Awaited::Operator => false,
-        }
+        matches!(self, Awaited::Decision | Awaited::Response)
     }
 }
 
@@ -157,12 +148,7 @@ impl Activity {
     pub fn is_unanswered(&self, received: u64, sent: u64, awaited: Awaited) -> bool
         ensures { result ≡ is_unanswered self.now received sent awaited }
     {
-        match awaited {
-            Awaited::Decision => false,
-            Awaited::Agreement | Awaited::Operator | Awaited::Response => {
-                self.received != received && self.sent == sent
-            }
-        }
+        !matches!(awaited, Awaited::Decision) && self.received != received && self.sent == sent
     }
 
     /// Records the number of bytes received and sent until now, and what the connection waits for.

@@ -1,7 +1,7 @@
 //! The counts that `serve` keeps.
 ghost use Rattle.std.specs.Prelude.{◌≡◌, ◌-◌, ◌<◌};
 ghost use Rattle.tn3270e_msg.specs.Words.{cause_number};
-ghost use Rattle.service_events.specs.Metrics.{bucket_of, counted, failure_place, nothing_counted, raised, reason_place, with_begin, with_end, with_failure, with_paint, with_usage};
+ghost use Rattle.service_events.specs.Metrics.{bucket_of, counted, failure_place, nothing_counted, raised, reason_place, with_end, with_failure, with_paint, with_usage};
 
 use crate::limits::Overdue;
 use crate::notice::{Ending, Notice};
@@ -142,14 +142,6 @@ impl Metrics {
         }
     }
 
-    /// Counts a session that begins.
-    fn begin(&mut self)
-        ensures { self.new ≡ with_begin self.old }
-    {
-        raise(&mut self.current, 1);
-        raise(&mut self.begun, 1);
-    }
-
     /// Counts a session that ends.
     fn end(&mut self, ending: Ending)
         ensures { self.new ≡ with_end ending self.old }
@@ -171,14 +163,14 @@ impl Metrics {
         ensures { self.new ≡ counted notice.now self.old }
     {
         match notice {
-            Notice::Listening(_) => {}
             Notice::TurnedAway(_) => raise(&mut self.turned_away, 1),
-            Notice::BadProxyHeader(_, _) => {}
-            Notice::Connected(_) => self.begin(),
+            Notice::Connected(_) => {
+                raise(&mut self.current, 1);
+                raise(&mut self.begun, 1);
+            }
             Notice::Rejected(_, rejection) => {
                 raise(&mut self.rejected[reason_place(rejection.reason)], 1)
             }
-            Notice::Bound(_, _) => {}
             Notice::KeyDropped(_, _) => raise(&mut self.dropped_keys, 1),
             Notice::RuleBroken(_, _) => raise(&mut self.rule_breaks, 1),
             Notice::Ended(_, ending, usage) => {
@@ -190,7 +182,11 @@ impl Metrics {
                 raise(&mut self.answered[bucket_of(*millis)], 1);
                 raise(&mut self.answer_millis, *millis);
             }
-            Notice::Commanded(_) | Notice::Reloaded(_) => {}
+            Notice::Listening(_)
+            | Notice::BadProxyHeader(_, _)
+            | Notice::Bound(_, _)
+            | Notice::Commanded(_)
+            | Notice::Reloaded(_) => {}
         }
     }
 

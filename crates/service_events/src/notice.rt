@@ -104,8 +104,7 @@ pub struct PanelCounts {
 /// Prints as two keys.
 impl fmt::Display for PanelCounts {
     fn fmt<W: fmt::Write>(&self, f: &mut fmt::Formatter<W>) -> fmt::Result {
-        let PanelCounts { panels, lus } = *self;
-        write!(f, "panels={panels} lus={lus}")
+        write!(f, "panels={} lus={}", self.panels, self.lus)
     }
 }
 
@@ -143,12 +142,11 @@ pub enum Notice {
 /// Prints as the keys that begin a connection's log line.
 impl fmt::Display for Client {
     fn fmt<W: fmt::Write>(&self, f: &mut fmt::Formatter<W>) -> fmt::Result {
-        let Client {
-            conn,
-            session,
-            peer,
-        } = *self;
-        write!(f, "conn={conn} session={session} peer={peer}")
+        write!(
+            f,
+            "conn={} session={} peer={}",
+            self.conn, self.session, self.peer
+        )
     }
 }
 
@@ -157,52 +155,20 @@ impl fmt::Display for Ending {
     fn fmt<W: fmt::Write>(&self, f: &mut fmt::Formatter<W>) -> fmt::Result {
         f.write_str(self.word())?;
         match self {
-            Ending::Closed(cause) => {
-                let number = cause.number();
-                write!(f, " cause={cause} number={number}")
-            }
-            Ending::Lost
-            | Ending::Dropped(_)
-            | Ending::ByApplication
-            | Ending::Stopped
-            | Ending::Reloaded => Ok(()),
+            Ending::Closed(cause) => write!(f, " cause={cause} number={}", cause.number()),
+            _ => Ok(()),
         }
-    }
-}
-
-/// Prints as nothing if the terminal wasn't bound to an LU; otherwise begins with a blank.
-impl fmt::Display for Usage {
-    fn fmt<W: fmt::Write>(&self, f: &mut fmt::Formatter<W>) -> fmt::Result {
-        let Usage {
-            bound,
-            duration,
-            turns,
-            sent,
-            received,
-        } = *self;
-        if !bound {
-            return Ok(());
-        }
-        write!(
-            f,
-            " duration={duration} turns={turns} sent={sent} received={received}"
-        )
     }
 }
 
 /// Prints as the command, its LU, and the status of the answer.
 impl fmt::Display for Commanded {
     fn fmt<W: fmt::Write>(&self, f: &mut fmt::Formatter<W>) -> fmt::Result {
-        let name = self.name;
-        write!(f, "command={name}")?;
-        if let Some(lu) = self.lu {
-            write!(f, " lu={lu}")?;
+        let status = if self.done { "ok" } else { "error" };
+        match self.lu {
+            Some(lu) => write!(f, "command={} lu={lu} status={status}", self.name),
+            None => write!(f, "command={} status={status}", self.name),
         }
-        f.write_str(if self.done {
-            " status=ok"
-        } else {
-            " status=error"
-        })
     }
 }
 
@@ -233,14 +199,22 @@ impl fmt::Display for Notice {
             },
             Notice::Bound(client, lu) => write!(f, "{client} event=bound lu={lu}"),
             Notice::KeyDropped(client, dropped) => {
-                let key = KeyName(dropped.aid);
-                write!(f, "{client} event=key-dropped key={key}")
+                write!(f, "{client} event=key-dropped key={}", KeyName(dropped.aid))
             }
             Notice::RuleBroken(client, RuleBreak { rule, cell }) => {
-                let rule = rule_word(*rule);
+                let rule = match rule {
+                    Rule::Applies => "applies",
+                    Rule::Edits => "edits",
+                    Rule::Sends => "sends",
+                };
                 write!(f, "{client} event=rule-broken rule={rule} cell={cell}")
             }
-            Notice::Ended(client, ending, usage) => write!(f, "{client} event={ending}{usage}"),
+            Notice::Ended(client, ending, usage) if usage.bound => write!(
+                f,
+                "{client} event={ending} duration={} turns={} sent={} received={}",
+                usage.duration, usage.turns, usage.sent, usage.received
+            ),
+            Notice::Ended(client, ending, _) => write!(f, "{client} event={ending}"),
             Notice::Asked => f.write_str("event=asked"),
             Notice::Answered(millis) => write!(f, "event=answered millis={millis}"),
             Notice::Commanded(commanded) => write!(f, "event=command {commanded}"),
@@ -249,22 +223,12 @@ impl fmt::Display for Notice {
     }
 }
 
-/// The word for a rule in the log.
-fn rule_word(rule: Rule) -> &'static str {
-    match rule {
-        Rule::Applies => "applies",
-        Rule::Edits => "edits",
-        Rule::Sends => "sends",
-    }
-}
-
 /// Why a connection is over after a turn of serving, given why the host closed it, if it did; None if it continues.
 pub fn ending_of(closed: Option<Ending>, served: Served) -> Option<Ending>
     ensures { result ≡ ending_of closed served }
 {
     match served {
-        Served::Going => None,
+        Served::Going | Served::Memory => None,
         Served::Lost => Some(closed.unwrap_or(Ending::Lost)),
-        Served::Memory => None,
     }
 }

@@ -1,9 +1,7 @@
 //! The answers to a client of the metrics port: the part of HTTP/1.1 (RFC 9110, RFC 9112) that its resources need.
-ghost use Rattle.std.specs.Prelude.{◌≡◌, ◌≤◌, ◌==◌, [], ℕ, List, Some, All, IfOk, OnErr, OnOk, length, option_map, position, take};
+ghost use Rattle.std.specs.Prelude.{◌≡◌, ◌≤◌, ◌==◌, [], ℕ, List, Some, IfOk, OnErr, OnOk, length, option_map, position};
 ghost use Rattle.httparse.specs.Grammar.{RequestHead as Head, ReadsRequest};
-ghost use Rattle.httparse.specs.Spans.{IsHeaderWithin};
-ghost use Rattle.service_events.specs.Scrapes.{IsAnswerTo, before, is_late, is_local, method_of, most_fields, resource_of, status_for_resource, status_of, status_of_parts, with_more};
-ghost use Rattle.websocket.specs.Headers.{fields_of};
+ghost use Rattle.service_events.specs.Scrapes.{IsAnswerTo, before, is_late, is_local, most_fields, resource_of, status_for_resource, status_of, status_of_parts, with_more};
 ghost use Rattle.web_wire.specs.Heads.{only_value};
 
 use httparse::spans::{EMPTY_HEADER_SPAN, parse_request};
@@ -17,6 +15,13 @@ pub(crate) const MOST_HEAD: usize = 4096;
 
 /// The most header fields of a request.
 const MOST_FIELDS: usize = 64;
+
+/// The Content-Type of metrics, in Prometheus' text format, and of responses without a body.
+const METRICS: &str = "text/plain; version=0.0.4; charset=utf-8";
+
+/// The start of a response that lists sessions: nobody keeps who is connected, and the page loads nothing.
+const SESSIONS: &str =
+    "200 OK\r\nCache-Control: no-store\r\nContent-Security-Policy: default-src 'none'";
 
 /// The methods that the resources have (RFC 9110, section 9.3).
 #[derive(Clone, Copy)]
@@ -99,17 +104,6 @@ fn is_local(host: Option<&[u8]>) -> bool
     }
 }
 
-/// The method with this name; None if the resources don't have it.
-fn method_of(name: &[u8]) -> Option<Method>
-    ensures { result ≡ method_of name.now }
-{
-    match name {
-        b"GET" => Some(Method::Get),
-        b"HEAD" => Some(Method::Head),
-        _ => None,
-    }
-}
-
 /// The status for a resource that is asked for at a host.
 fn status_for_resource(
     method: Method,
@@ -130,10 +124,12 @@ fn status_for_resource(
 fn status_of_parts(method: &[u8], target: &[u8], host: Option<&[u8]>) -> HttpStatus
     ensures { result ≡ status_of_parts method.now target.now (option_map (λ value. value.now) host.entry) }
 {
-    match method_of(method) {
-        Some(method) => status_for_resource(method, resource_of(before(target, b'?')), host),
-        None => HttpStatus::MethodNotAllowed,
-    }
+    let method = match method {
+        b"GET" => Method::Get,
+        b"HEAD" => Method::Head,
+        _ => return HttpStatus::MethodNotAllowed,
+    };
+    status_for_resource(method, resource_of(before(target, b'?')), host)
 }
 
 /// The status for the bytes sent so far; None if the head isn't complete yet.
@@ -157,36 +153,20 @@ pub fn status_for(bytes: &[u8]) -> Option<HttpStatus>
 }
 
 impl HttpStatus {
-    /// The status number and phrase.
-    fn text(self) -> &'static str {
+    /// The status number and phrase, the fields of this status alone, and the Content-Type. A response with 405 has the
+    /// methods that are allowed (RFC 9110, section 15.5.6).
+    fn start(self) -> (&'static str, &'static str) {
         match self {
-            HttpStatus::Found(_, _) => "200 OK",
-            HttpStatus::BadRequest => "400 Bad Request",
-            HttpStatus::Forbidden => "403 Forbidden",
-            HttpStatus::NotFound => "404 Not Found",
-            HttpStatus::MethodNotAllowed => "405 Method Not Allowed",
-            HttpStatus::HeadTooLarge => "431 Request Header Fields Too Large",
-        }
-    }
-
-    /// The further fields of a response with this status: the methods that are allowed (RFC 9110, section 15.5.6); and
-    /// that nobody keeps who is connected, and that the page loads nothing.
-    fn extra_fields(self) -> &'static str {
-        match self {
-            HttpStatus::MethodNotAllowed => "Allow: GET, HEAD\r\n",
-            HttpStatus::Found(_, Resource::Sessions | Resource::SessionData) => {
-                "Cache-Control: no-store\r\nContent-Security-Policy: default-src 'none'\r\n"
+            HttpStatus::Found(_, Resource::Metrics) => ("200 OK", METRICS),
+            HttpStatus::Found(_, Resource::Sessions) => (SESSIONS, "text/html; charset=utf-8"),
+            HttpStatus::Found(_, Resource::SessionData) => (SESSIONS, "application/json"),
+            HttpStatus::BadRequest => ("400 Bad Request", METRICS),
+            HttpStatus::Forbidden => ("403 Forbidden", METRICS),
+            HttpStatus::NotFound => ("404 Not Found", METRICS),
+            HttpStatus::MethodNotAllowed => {
+                ("405 Method Not Allowed\r\nAllow: GET, HEAD", METRICS)
             }
-            _ => "",
-        }
-    }
-
-    /// The Content-Type of a response with this status. Metrics are in Prometheus' text format.
-    fn content_type(self) -> &'static str {
-        match self {
-            HttpStatus::Found(_, Resource::Sessions) => "text/html; charset=utf-8",
-            HttpStatus::Found(_, Resource::SessionData) => "application/json",
-            _ => "text/plain; version=0.0.4; charset=utf-8",
+            HttpStatus::HeadTooLarge => ("431 Request Header Fields Too Large", METRICS),
         }
     }
 }
@@ -199,10 +179,9 @@ pub fn response_of(alloc: Global, status: HttpStatus, page: &str) -> Result<Stri
         HttpStatus::Found(Method::Head, _) => (page, ""),
         _ => ("", ""),
     };
-    let (phrase, extra) = (status.text(), status.extra_fields());
-    let (kind, length) = (status.content_type(), body.len());
+    let ((start, kind), length) = (status.start(), body.len());
     format!(in alloc;
-        "HTTP/1.1 {phrase}\r\n{extra}Content-Type: {kind}\r\nContent-Length: {length}\r\n\
+        "HTTP/1.1 {start}\r\nContent-Type: {kind}\r\nContent-Length: {length}\r\n\
             Connection: close\r\n\r\n{sent}"
     )
 }
@@ -215,17 +194,6 @@ pub fn is_late(began: u64, now: u64) -> bool
     ensures { result ≡ is_late began now }
 {
     CLIENT_TIME <= now.saturating_sub(began)
-}
-
-/// The first `room` bytes, or all if there are fewer.
-fn front_of(bytes: &[u8], room: usize) -> &[u8]
-    ensures { result.now ≡ take room bytes.now }
-{
-    if bytes.len() < room {
-        bytes
-    } else {
-        &bytes[..room]
-    }
 }
 
 /// What a client sent so far: at most its first 4,096 bytes. Contracts see the bytes.
@@ -262,8 +230,8 @@ impl RequestHead {
         ensures unchanged { OnErr result (self.new ≡ self.old) }
         ensures answer { IfOk result (IsAnswerTo self.new) }
     {
-        let room = MOST_HEAD - self.bytes.as_slice().len();
-        self.bytes.extend_from_slice(front_of(bytes, room))?;
+        self.bytes.extend_from_slice(bytes)?;
+        self.bytes.truncate(MOST_HEAD);
         Ok(status_for(self.bytes.as_slice()))
     }
 }

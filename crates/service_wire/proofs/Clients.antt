@@ -34,17 +34,13 @@ pub no_ipv4_addresses : (f s t p q : List ℕ) → f ≡ codes "TCP4" → IsNoPa
 no_ipv4_addresses f s t p q family none (V4 client) is = no_addresses _ _ f s t p q _ _ none is
 no_ipv4_addresses f s t p q family none (V6 client) is = one_family (sym family ∙ family_is _ _ _ _ _ _ is.0)
 
-pub no_ipv4_ports : (f s t p q : List ℕ) → f ≡ codes "TCP4" → IsNoPair IsPort p q → IsNoClient (f ∷ s ∷ t ∷ p ∷ q ∷ [])
-no_ipv4_ports f s t p q family none (V4 client) is = no_ports _ _ f s t p q _ _ none is
-no_ipv4_ports f s t p q family none (V6 client) is = one_family (sym family ∙ family_is _ _ _ _ _ _ is.0)
-
 pub no_ipv6_addresses : (f s t p q : List ℕ) → f ≡ codes "TCP6" → IsNoPair IsIpv6Text s t → IsNoClient (f ∷ s ∷ t ∷ p ∷ q ∷ [])
 no_ipv6_addresses f s t p q family none (V4 client) is = one_family (sym (family_is _ _ _ _ _ _ is) ∙ family)
 no_ipv6_addresses f s t p q family none (V6 client) is = no_addresses _ _ f s t p q _ _ none is.0
 
-pub no_ipv6_ports : (f s t p q : List ℕ) → f ≡ codes "TCP6" → IsNoPair IsPort p q → IsNoClient (f ∷ s ∷ t ∷ p ∷ q ∷ [])
-no_ipv6_ports f s t p q family none (V4 client) is = one_family (sym (family_is _ _ _ _ _ _ is) ∙ family)
-no_ipv6_ports f s t p q family none (V6 client) is = no_ports _ _ f s t p q _ _ none is.0
+pub no_pair_of_ports : (f s t p q : List ℕ) → IsNoPair IsPort p q → IsNoClient (f ∷ s ∷ t ∷ p ∷ q ∷ [])
+no_pair_of_ports f s t p q none (V4 client) is = no_ports _ _ f s t p q _ _ none is
+no_pair_of_ports f s t p q none (V6 client) is = no_ports _ _ f s t p q _ _ none is.0
 
 pub no_family : (f s t p q : List ℕ) → f ≢ codes "TCP4" → f ≢ codes "TCP6" → IsNoClient (f ∷ s ∷ t ∷ p ∷ q ∷ [])
 no_family f s t p q ipv4 ipv6 (V4 client) is = ipv4 (family_is _ _ _ _ _ _ is)

@@ -1,10 +1,8 @@
 -- Received bytes, cut into pieces.
-use Rattle.std.proofs.Common.{◌≡◌, refl, sym, ap, ◌∙◌, ℕ, zero, suc, ◌+◌, ◌-◌, ◌≤◌, arith, List, [], ◌∷◌, ◌++◌, length, take, append_assoc, Some}
+use Rattle.std.proofs.Common.{◌≡◌, refl, sym, ap, ◌∙◌, ℕ, zero, suc, ◌+◌, ◌-◌, ◌≤◌, arith, List, [], ◌∷◌, ◌++◌, length, take, append_assoc}
 use Rattle.std.proofs.Math.Seq.{take-append-add}
 use Rattle.service_wire.specs.Laws.{CutsDontMatter}
-use Rattle.service_wire.specs.Lines.{IsNoLine, IsNoText, Received, line_in, received}
-use Rattle.service_wire.specs.declared.line_fault.LineFault.{LineFault}
-use Rattle.service_wire.specs.declared.line_fault.LineFault.TheVariants.{TooLong, NotText, Unknown, BadLu, BadText, NoStatus}
+use Rattle.service_wire.specs.Lines.{Received, received}
 
 -- what is cut off doesn't matter for the front
 take_of_front : (n : ℕ) (xs ys : List ℕ) → take n (take n xs ++ ys) ≡ take n (xs ++ ys)
@@ -23,12 +21,3 @@ kept before bytes fits =
     let all : length before.bytes + (before.limit - length before.bytes) ≡ before.limit = omega (arith, fits) in
     ap (λ (bytes : List ℕ). record before { bytes = bytes })
     (sym (take-append-add before.bytes bytes (before.limit - length before.bytes)) ∙ ap (λ (n : ℕ). take n (before.bytes ++ bytes)) all)
-
--- a line that is no text is no line
-pub no_line : (so_far : Received) (line : List ℕ) (fault : LineFault) → line_in so_far.bytes ≡ Some line → IsNoText line fault → IsNoLine so_far fault
-no_line so_far line NotText is fails = (line, is, fails)
-no_line so_far line TooLong is fails = absurd fails
-no_line so_far line Unknown is fails = absurd fails
-no_line so_far line BadLu is fails = absurd fails
-no_line so_far line BadText is fails = absurd fails
-no_line so_far line NoStatus is fails = absurd fails

@@ -9,23 +9,12 @@ use crate::line_fault::LineFault;
 use std::fmt;
 
 /// Whether a command was done.
-#[derive(Clone, Copy, PartialEq, Eq)]
+#[derive(Clone, Copy)]
 pub enum Status {
     /// It was done.
     Done,
     /// It wasn't.
     Failed,
-}
-
-/// The status of a word.
-fn status_of(word: &str) -> Option<Status>
-    ensures { result ≡ status_of word.now }
-{
-    match word {
-        "ok" => Some(Status::Done),
-        "error" => Some(Status::Failed),
-        _ => None,
-    }
 }
 
 /// The answer to a command.
@@ -37,26 +26,17 @@ pub struct Answer<'a> {
     pub text: &'a str,
 }
 
-/// A text up to its first LF.
-fn one_line(text: &str) -> &str
-    ensures { result.now ≡ one_line text.now }
-{
-    match text.split_once('\n') {
-        Some((line, _)) => line,
-        None => text,
-    }
-}
-
 impl<'a> Answer<'a> {
     /// The answer with this status and the first line of a text.
     pub fn new(status: Status, text: &'a str) -> Answer<'a>
         ensures status { result.status ≡ status }
         ensures text { result.text.now ≡ one_line text.entry.now }
     {
-        Answer {
-            status,
-            text: one_line(text),
-        }
+        let text = match text.split_once('\n') {
+            Some((line, _)) => line,
+            None => text,
+        };
+        Answer { status, text }
     }
 
     /// The answer of a line without LF. The error is `NoStatus` if the line's first word is neither `ok` nor `error`.
@@ -64,7 +44,11 @@ impl<'a> Answer<'a> {
         ensures answer { IfOk result (λ answer. IsAnswer line.entry.now answer.status answer.text.now) }
         ensures fault { IfErr result (λ fault. (fault ≡ NoStatus) × (status_of (first_word line.entry.now) ≡ None)) }
     {
-        let status = status_of(first_word(line)).ok_or(LineFault::NoStatus)?;
+        let status = match first_word(line) {
+            "ok" => Status::Done,
+            "error" => Status::Failed,
+            _ => return Err(LineFault::NoStatus),
+        };
         Ok(Answer {
             status,
             text: operand_of(line).unwrap_or(""),

@@ -1,8 +1,7 @@
 //! The commands.
 ghost use Rattle.std.specs.Prelude.{◌≡◌, option_map};
 ghost use Rattle.service_wire.specs.Lines.{first_word, operand_of};
-ghost use Rattle.service_wire.specs.Texts.{text_of};
-ghost use Rattle.service_wire.specs.Commands.{command_in, command_of, command_of_word, command_with, drain_of, given_text, note_of, recipient_of};
+ghost use Rattle.service_wire.specs.Commands.{command_in, command_of_word, command_with, given_text, note_of, recipient_of};
 
 use crate::line_fault::LineFault;
 use crate::note_text::NoteText;
@@ -21,23 +20,23 @@ pub enum Recipient {
 /// A command to a running service.
 #[derive(Drop)]
 pub enum Command {
-    /// Reads the panels again; new sessions get these.
+    /// `reload` reads the panels again; new sessions get these.
     Reload,
-    /// Admits no new session, and ends the service once no session is left.
+    /// `drain` or `drain TEXT` admits no new session, and ends the service once no session is left.
     Drain {
         /// What is shown on each screen, unless it is empty.
         text: NoteText,
     },
-    /// Shows a text on screens.
+    /// `note LU TEXT` or `note * TEXT` shows a text on screens.
     Note {
         /// On whose screen.
         to: Recipient,
         /// The text; an empty one clears the row.
         text: NoteText,
     },
-    /// Asks which sessions there are.
+    /// `sessions` asks which sessions there are.
     Sessions,
-    /// Ends the service.
+    /// `stop` ends the service.
     Stop,
 }
 
@@ -85,18 +84,10 @@ fn given_text(text: Option<&str>) -> Option<NoteText>
 fn note_of(to: Option<Recipient>, text: Option<NoteText>) -> Result<Command, LineFault>
     ensures { result ≡ note_of to text }
 {
-    let to = to.ok_or(LineFault::BadLu)?;
-    let text = text.ok_or(LineFault::BadText)?;
-    Ok(Command::Note { to, text })
-}
-
-/// The command to drain with this text.
-fn drain_of(text: Option<NoteText>) -> Result<Command, LineFault>
-    ensures { result ≡ drain_of text }
-{
-    match text {
-        Some(text) => Ok(Command::Drain { text }),
-        None => Err(LineFault::BadText),
+    match (to, text) {
+        (Some(to), Some(text)) => Ok(Command::Note { to, text }),
+        (Some(_), None) => Err(LineFault::BadText),
+        (None, _) => Err(LineFault::BadLu),
     }
 }
 
@@ -120,7 +111,10 @@ fn command_with(word: &str, operand: &str) -> Result<Command, LineFault>
     ensures { result ≡ command_with word.now operand.now }
 {
     match word {
-        "drain" => drain_of(NoteText::read(operand)),
+        "drain" => match NoteText::read(operand) {
+            Some(text) => Ok(Command::Drain { text }),
+            None => Err(LineFault::BadText),
+        },
         "note" => note_of(
             recipient_of(first_word(operand)),
             given_text(operand_of(operand)),
@@ -136,8 +130,8 @@ impl Command {
     pub fn read(line: &str) -> Result<Command, LineFault>
         ensures { result ≡ command_in line.now }
     {
-        match operand_of(line) {
-            Some(operand) => command_with(first_word(line), operand),
+        match line.split_once(' ') {
+            Some((word, operand)) => command_with(word, operand),
             None => command_of_word(line),
         }
     }

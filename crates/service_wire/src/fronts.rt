@@ -1,5 +1,5 @@
-//! Bytes at the front of others.
-ghost use Rattle.std.specs.Prelude.{◌≡◌, ◌++◌, ◌⊎◌, List, ℕ, take, MatchOption, true};
+//! Places in bytes, and bytes at the front of others.
+ghost use Rattle.std.specs.Prelude.{◌≡◌, ◌++◌, ◌≤◌, ◌<◌, ◌==◌, List, ℕ, IfSome, length, position, take, MatchOption, true};
 ghost use Rattle.service_wire.specs.Fronts.{IsPartOf};
 
 /// What follows the mark at the front of the bytes; None if they don't begin with it.
@@ -22,9 +22,18 @@ pub(crate) fn is_part_of(bytes: &[u8], mark: &[u8]) -> bool
     bytes.len() < mark.len() && mark.starts_with(bytes)
 }
 
+/// The place of the first byte that is `sought`.
+pub(crate) fn place_of(sought: u8, bytes: &[u8]) -> Option<usize>
+    ensures place { result ≡ position (λ byte. byte == sought) bytes.now }
+    ensures inside { IfSome result (λ place. place < length bytes.now) }
+{
+    bytes.iter().position(|byte| *byte == sought)
+}
+
 /// The first `room` bytes, or all if there are fewer.
 pub(crate) fn front_of(bytes: &[u8], room: usize) -> &[u8]
-    ensures { result.now ≡ take room bytes.now }
+    ensures front { result.now ≡ take room bytes.now }
+    ensures short { length result.now ≤ room }
 {
     if bytes.len() < room {
         bytes

@@ -14,7 +14,7 @@ pub(crate) const SIGNATURE: &[u8] = b"\r\n\r\n\0\r\nQUIT\n";
 const LONGEST_BLOCK: usize = 520;
 
 /// The command of a header.
-#[derive(Clone, Copy, Debug, PartialEq, Eq)]
+#[derive(Clone, Copy)]
 enum HeaderCommand {
     /// LOCAL: the proxy itself connects, as for a health check.
     Local,
@@ -23,7 +23,7 @@ enum HeaderCommand {
 }
 
 /// What a block has.
-#[derive(Clone, Copy, Debug, PartialEq, Eq)]
+#[derive(Clone, Copy)]
 enum Contents {
     /// Nothing that is used.
     Ignored,
@@ -89,23 +89,17 @@ fn inet6_client(block: &[u8]) -> SocketAddr
 }
 
 impl Contents {
-    /// How many bytes the addresses and ports have.
-    fn least_block(self) -> usize
-        ensures { result ≡ least_block self }
-    {
-        match self {
-            Contents::Ignored => 0,
-            Contents::Inet => 12,
-            Contents::Inet6 => 36,
-        }
-    }
-
     /// Refuses a length that a block of these contents can't have.
     fn check_length(self, size: usize) -> Result<(), HeaderFault>
         ensures can { OnOk result (CanHaveLength self size) }
         ensures bad { IfErr result (IsBadLength self size) }
     {
-        if size < self.least_block() {
+        let addresses_and_ports = match self {
+            Contents::Ignored => 0,
+            Contents::Inet => 12,
+            Contents::Inet6 => 36,
+        };
+        if size < addresses_and_ports {
             Err(HeaderFault::ShortBlock)
         } else if size > LONGEST_BLOCK {
             Err(HeaderFault::LongBlock)

@@ -2,7 +2,7 @@
 use std::fmt;
 
 /// Why a connection that must begin with a header of the PROXY protocol has none.
-#[derive(Clone, Copy, Debug, PartialEq, Eq)]
+#[derive(Clone, Copy)]
 pub enum HeaderFault {
     /// It begins with other bytes.
     NoHeader,

@@ -1,15 +1,15 @@
 //! Version 1: a header is a line of text (section 2.1).
-ghost use Rattle.std.specs.Prelude.{◌≡◌, ◌==◌, ◌∷◌, [], ◌++◌, ℕ, ◌+◌, ◌<◌, ◌≢◌, List, Option, MatchOption, IfOk, IfErr, IfSome, IfNone, length, take, drop, codes, option_copied, position, slice_index};
+ghost use Rattle.std.specs.Prelude.{◌≡◌, ◌==◌, ◌∷◌, [], ◌++◌, ℕ, ◌+◌, ◌<◌, ◌≢◌, Option, MatchOption, IfOk, IfErr, IfSome, IfNone, length, drop, option_copied, slice_index};
 ghost use Rattle.std.specs.Bool.{Decides};
 ghost use Rattle.std.specs.Net.Grammar.{IsIpv4Text, IsIpv6Text};
 ghost use Rattle.std.specs.declared.net.socket_addr.SocketAddr.{SocketAddr};
 ghost use Rattle.service_wire.specs.Header.{HasHeader};
 ghost use Rattle.service_wire.specs.HeaderLine.{IsBadLine, IsClient, IsLine, IsNoClient, IsNoPair, IsOpenLine, IsPair, IsPort, begins_with_crlf, line_in, line_mark, list_of, words};
 
-use crate::fronts::{after, front_of};
+use crate::fronts::{after, front_of, place_of};
 use crate::header::Header;
 use crate::header_fault::HeaderFault;
-use std::net::{Ipv4Addr, Ipv6Addr, SocketAddr, SocketAddrV4, SocketAddrV6};
+use std::net::{IpAddr, Ipv4Addr, Ipv6Addr, SocketAddr};
 
 /// What each header of version 1 begins with.
 pub(crate) const LINE_MARK: &[u8] = b"PROXY ";
@@ -27,18 +27,11 @@ struct Words<'a> {
     target_port: &'a [u8],
 }
 
-/// The place of the first space.
-fn space_in(text: &[u8]) -> Option<usize>
-    ensures { result ≡ position (λ byte. byte == 0x20) text.now }
-{
-    text.iter().position(|byte| *byte == b' ')
-}
-
 /// The first word of a text and what follows the space after it; None if there is no space.
 fn split_word(text: &[u8]) -> Option<(&[u8], &[u8])>
     ensures { MatchOption result (words text.now ≡ text.now ∷ []) (λ p. words text.now ≡ p.0.now ∷ words p.1.now) }
 {
-    let Some(space) = space_in(text) else {
+    let Some(space) = place_of(b' ', text) else {
         return None;
     };
     Some((&text[..space], &text[space + 1..]))
@@ -132,52 +125,17 @@ fn first_ipv6(first: &[u8], second: &[u8]) -> Option<Ipv6Addr>
     }
 }
 
-/// The client that the words of TCP over IPv4 name.
-fn ipv4_client(words: &Words<'_>) -> Option<SocketAddr>
-    requires { words.now.family.now ≡ codes "TCP4" }
-    ensures { MatchOption result (IsNoClient (list_of words.now)) (IsClient (list_of words.now)) }
-{
-    let Some(address) = first_ipv4(words.source, words.target) else {
-        return None;
-    };
-    let Some(port) = first_port(words.source_port, words.target_port) else {
-        return None;
-    };
-    Some(SocketAddr::V4(SocketAddrV4::new(address, port)))
-}
-
-/// The client that the words of TCP over IPv6 name.
-fn ipv6_client(words: &Words<'_>) -> Option<SocketAddr>
-    requires { words.now.family.now ≡ codes "TCP6" }
-    ensures { MatchOption result (IsNoClient (list_of words.now)) (IsClient (list_of words.now)) }
-{
-    let Some(address) = first_ipv6(words.source, words.target) else {
-        return None;
-    };
-    let Some(port) = first_port(words.source_port, words.target_port) else {
-        return None;
-    };
-    Some(SocketAddr::V6(SocketAddrV6::new(address, port, 0, 0)))
-}
-
-/// Whether a word is this text.
-fn is_same(word: &[u8], text: &[u8]) -> bool
-    ensures { Decides result (word.now ≡ text.now) }
-{
-    word == text
-}
-
 /// The client that the words name.
 fn client_of(words: &Words<'_>) -> Option<SocketAddr>
     ensures { MatchOption result (IsNoClient (list_of words.now)) (IsClient (list_of words.now)) }
 {
-    if is_same(words.family, b"TCP4") {
-        ipv4_client(words)
-    } else if is_same(words.family, b"TCP6") {
-        ipv6_client(words)
-    } else {
-        None
-    }
+    let address = match words.family {
+        b"TCP4" => IpAddr::V4(first_ipv4(words.source, words.target)?),
+        b"TCP6" => IpAddr::V6(first_ipv6(words.source, words.target)?),
+        _ => return None,
+    };
+    let port = first_port(words.source_port, words.target_port)?;
+    Some(SocketAddr::new(address, port))
 }
 
 /// What a line says of the client; None if it is no line of the protocol.

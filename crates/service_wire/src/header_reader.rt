@@ -1,5 +1,5 @@
 //! A reader of the header, which takes no byte that follows it.
-ghost use Rattle.std.specs.Prelude.{◌≡◌, ◌++◌, ◌+◌, ◌≤◌, [], IfErr, IfOk, IfSome, IfNone, length, replicate, take};
+ghost use Rattle.std.specs.Prelude.{◌≡◌, ◌++◌, ◌+◌, ◌≤◌, [], IfErr, IfOk, IfSome, IfNone, length, take};
 ghost use Rattle.service_wire.specs.Header.{IsAwaited, IsHeader, IsRefused, IsWholly};
 ghost use Rattle.service_wire.specs.Fronts.{Lacks};
 ghost use Rattle.service_wire.specs.HeaderReader.{IsMissing, longest_header, received};
@@ -16,13 +16,6 @@ pub const MOST_BYTES: usize = 536;
 /// The fewest bytes of a header: `PROXY UNKNOWN` and CRLF.
 const LEAST_BYTES: usize = 15;
 
-/// Room for a header.
-fn room() -> [u8; MOST_BYTES]
-    ensures { result ≡ replicate 536 0 }
-{
-    [0; MOST_BYTES]
-}
-
 /// Puts bytes at a place of the room.
 fn put(room: &mut [u8], place: usize, bytes: &[u8])
     requires { place + length bytes.now ≤ length room.old }
@@ -30,20 +23,6 @@ fn put(room: &mut [u8], place: usize, bytes: &[u8])
     ensures added { take (place + length bytes.now) room.new ≡ take place room.old ++ bytes.now }
 {
     room[place..place + bytes.len()].copy_from_slice(bytes);
-}
-
-/// How many bytes a header that begins with these has more, at least: one in a line, since CRLF may end it anywhere.
-fn missing_after(bytes: &[u8]) -> usize
-    requires { IsAwaited bytes.now }
-    ensures { IsMissing bytes.now result }
-{
-    if bytes.len() < LEAST_BYTES {
-        return LEAST_BYTES - bytes.len();
-    }
-    match after(bytes, SIGNATURE) {
-        Some(rest) => missing_in_block(rest),
-        None => 1,
-    }
 }
 
 /// Reads the header of a connection. Contracts see the bytes that it has received so far, all of which belong to the
@@ -71,7 +50,7 @@ impl HeaderReader {
         ensures { result ≡ [] }
     {
         HeaderReader {
-            bytes: room(),
+            bytes: [0; MOST_BYTES],
             size: 0,
         }
     }
@@ -80,7 +59,15 @@ impl HeaderReader {
     pub fn missing(&self) -> usize
         ensures { IsMissing self.now result }
     {
-        missing_after(&self.bytes[..self.size])
+        let bytes = &self.bytes[..self.size];
+        if bytes.len() < LEAST_BYTES {
+            return LEAST_BYTES - bytes.len();
+        }
+        match after(bytes, SIGNATURE) {
+            Some(rest) => missing_in_block(rest),
+            // CRLF may end a line anywhere.
+            None => 1,
+        }
     }
 
     /// Takes received bytes, no more than are `missing`. Returns the header, if these complete it; Ok(None) if more

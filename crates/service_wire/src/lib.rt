@@ -10,14 +10,6 @@
 //! until a line is complete, and [`Command::read`] or [`Answer::read`] reads that line. Both print as their line without
 //! LF.
 //!
-//! | Line | Command |
-//! |---|---|
-//! | `reload` | reads the panels again |
-//! | `drain`, `drain TEXT` | admits no new session; with a text, shows it on each screen |
-//! | `note LU TEXT`, `note * TEXT` | shows a text on the screen of an LU, or on each screen |
-//! | `sessions` | asks which sessions there are |
-//! | `stop` | ends the service |
-//!
 //! `specs/Header` says which bytes have a header, by `HeaderLine` for version 1 and `HeaderBlock` for version 2, and
 //! `HeaderReader` what a reader holds. `specs/Lines` says which bytes have a line, `specs/Texts` which texts a screen can
 //! show, `specs/Commands` which line is which command, and `specs/Answers` which line is which answer.

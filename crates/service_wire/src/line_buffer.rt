@@ -1,7 +1,8 @@
 //! A line that is received in pieces.
-ghost use Rattle.std.specs.Prelude.{◌≡◌, ◌+◌, ◌-◌, ◌≤◌, ◌<◌, ◌==◌, ◌++◌, IfErr, IfOk, IfSome, MatchOption, Some, [], length, option_map, position, take};
-ghost use Rattle.service_wire.specs.Lines.{IsNoLine, IsNoText, IsOpen, line_in, received};
+ghost use Rattle.std.specs.Prelude.{◌≡◌, ◌-◌, ◌≤◌, ◌<◌, IfErr, IfOk, MatchOption, Some, [], option_map};
+ghost use Rattle.service_wire.specs.Lines.{IsNoLine, IsOpen, line_in, received};
 
+use crate::fronts::{front_of, place_of};
 use crate::line_fault::LineFault;
 use std::alloc::{AllocError, Global};
 use std::marker::Model;
@@ -33,44 +34,13 @@ impl Model for LineBuffer {
     ghost invariant = { λ it. (vec_len it.bytes ≤ it.limit) × (it.limit ≤ vec_capacity it.bytes) };
 }
 
-/// The first `room` bytes, or all if there are fewer.
-fn front_of(bytes: &[u8], room: usize) -> &[u8]
-    ensures front { result.now ≡ take room bytes.now }
-    ensures short { length result.now ≤ room }
-{
-    if bytes.len() < room {
-        bytes
-    } else {
-        &bytes[..room]
-    }
-}
-
-/// The place of the first LF; None if there is none.
-fn end_in(bytes: &[u8]) -> Option<usize>
-    ensures place { result ≡ position (λ byte. byte == 0x0A) bytes.now }
-    ensures inside { IfSome result (λ end. end < length bytes.now) }
-{
-    bytes.iter().position(|byte| *byte == b'\n')
-}
-
 /// The bytes before the first LF; None if there is no LF.
 fn line_in(bytes: &[u8]) -> Option<&[u8]>
     ensures { option_map (λ line. line.now) result ≡ line_in bytes.now }
 {
-    match end_in(bytes) {
+    match place_of(b'\n', bytes) {
         Some(end) => Some(&bytes[..end]),
         None => None,
-    }
-}
-
-/// The text of a line. The error is `NotText` if it isn't UTF-8.
-fn text_of(line: &[u8]) -> Result<&str, LineFault>
-    ensures text { IfOk result (λ text. text.now ≡ line.now) }
-    ensures fault { IfErr result (IsNoText line.now) }
-{
-    match str::from_utf8(line) {
-        Ok(text) => Ok(text),
-        Err(_) => Err(LineFault::NotText),
     }
 }
 
@@ -83,41 +53,27 @@ impl LineBuffer {
         Ok(LineBuffer { bytes, limit })
     }
 
-    /// How many bytes there is room for.
-    fn room(&self) -> usize
-        ensures value { result ≡ self.now.limit - length self.now.bytes }
-        ensures within { length self.now.bytes ≤ self.now.limit }
-    {
-        self.limit - self.bytes.len()
-    }
-
-    /// Takes bytes for which there is room.
-    fn add(&mut self, bytes: &[u8])
-        requires { length self.old.bytes + length bytes.now ≤ self.old.limit }
-        ensures { self.new ≡ record self.old { bytes = self.old.bytes ++ bytes.now } }
-    {
-        self.bytes.extend_from_slice(bytes).unwrap();
-    }
-
     /// Takes received bytes. Those beyond the limit are dropped. It never allocates.
     pub fn push(&mut self, bytes: &[u8])
         ensures { self.new ≡ received self.old bytes.now }
     {
-        let room = self.room();
-        self.add(front_of(bytes, room));
+        let room = self.limit - self.bytes.len();
+        self.bytes.extend_from_slice(front_of(bytes, room)).unwrap();
     }
 
     /// The line up to the first LF, without it; Ok(None) if more bytes are awaited. What follows the LF is ignored. The
     /// error is `TooLong` if there is no LF within the limit, and `NotText` if the line isn't UTF-8.
-    #[tactic(auto, using(crate::proofs::Cuts::no_line))]
     pub fn line(&self) -> Result<Option<&str>, LineFault>
         ensures line { IfOk result (λ line. MatchOption line (IsOpen self.now)
             (λ text. line_in self.now.bytes ≡ Some text.now)) }
         ensures fault { IfErr result (IsNoLine self.now) }
     {
         match line_in(self.bytes.as_slice()) {
-            Some(line) => Ok(Some(text_of(line)?)),
-            None if self.room() > 0 => Ok(None),
+            Some(line) => match str::from_utf8(line) {
+                Ok(text) => Ok(Some(text)),
+                Err(_) => Err(LineFault::NotText),
+            },
+            None if self.bytes.len() < self.limit => Ok(None),
             None => Err(LineFault::TooLong),
         }
     }

@@ -1,11 +1,9 @@
 //! Why a line is neither a command nor an answer.
-ghost use Rattle.std.specs.Prelude.{◌≡◌};
-
 use std::error::Error;
 use std::fmt;
 
 /// Why received bytes are no command, or no answer.
-#[derive(Clone, Copy, Debug, PartialEq, Eq)]
+#[derive(Clone, Copy, Debug)]
 pub enum LineFault {
     /// There is no LF within the limit.
     TooLong,

@@ -43,18 +43,11 @@ fn are_graphic(codes: &[u8]) -> bool
     codes.iter().all(|code| is_graphic(*code))
 }
 
-/// Whether these are the codes of a text: at most 131, all of characters.
-fn is_text(codes: &[u8]) -> bool
-    ensures { result ≡ is_text codes.now }
-{
-    codes.len() <= LONGEST && are_graphic(codes)
-}
-
 /// The text of these codes; None if they are more than 131, or if one isn't that of a character.
 fn text_of_codes(codes: &[u8]) -> Option<NoteText>
     ensures { result ≡ text_of_codes codes.now }
 {
-    if !is_text(codes) {
+    if codes.len() > LONGEST || !are_graphic(codes) {
         return None;
     }
     let mut kept = [0; LONGEST];

@@ -1,6 +1,0 @@
-use Rattle.std.proofs.Common.{sym, arith}
-use Rattle.std.proofs.lemmas.List.{take_all}
-use Rattle.service_events.proofs.scrape.front_of.Goals as goal
-
-pub returns-then-bytes-room : goal.returns-then-bytes-room
-returns-then-bytes-room c = sym (take_all c.args.room c.args.bytes.now (omega arith))
