@@ -72,15 +72,11 @@ first_seat model size = record {
 
 abbrev pub is_quit : OperatorRequest → Bool
 is_quit asked.Quit = true
-is_quit asked.Connect = false
-is_quit asked.Nothing = false
+is_quit _ = false
 
 abbrev pub is_idle : TermPhase → Bool
 is_idle phase.Idle = true
-is_idle phase.Talking = false
-is_idle (phase.Bound lu) = false
-is_idle (phase.Refused reason) = false
-is_idle (phase.Closed cause) = false
+is_idle _ = false
 
 abbrev pub is_enter : Key → Bool
 is_enter key.Enter = true
@@ -113,8 +109,7 @@ is_reset _ = false
 
 abbrev pub is_wait : Lock → Bool
 is_wait lock.Wait = true
-is_wait lock.Free = false
-is_wait lock.Error = false
+is_wait _ = false
 
 -- whether a connected terminal's keyboard waits for the host
 abbrev pub waits : Terminal → Bool
@@ -143,20 +138,17 @@ resumed seat = all_typed seat.typeahead (record seat { typeahead = [] })
 -- ---- keystrokes, one after another
 
 abbrev pub is_keys : Overlay → Bool
-is_keys over.Nothing = false
-is_keys over.Status = false
 is_keys over.Keys = true
+is_keys _ = false
 
 abbrev pub is_status : Overlay → Bool
-is_status over.Nothing = false
 is_status over.Status = true
-is_status over.Keys = false
+is_status _ = false
 
 -- what is shown after the key for the table of keys: if that is shown, the screen
 abbrev pub after_help : Overlay → Overlay
-after_help over.Nothing = over.Keys
-after_help over.Status = over.Keys
 after_help over.Keys = over.Nothing
+after_help _ = over.Keys
 
 -- A key shows the screen again. At the table of keys it does nothing else.
 abbrev pub after_key_at : Key → Seat → Seat
@@ -201,18 +193,14 @@ Types (byte ∷ bytes) old new = ReadsTyped (byte ∷ bytes) old new
 
 abbrev pub is_connected : TermPhase → Bool
 is_connected phase.Idle = false
-is_connected phase.Talking = true
-is_connected (phase.Bound lu) = true
-is_connected (phase.Refused reason) = true
 is_connected (phase.Closed cause) = false
+is_connected _ = true
 
 -- the text in the status row's place for the LU: the LU's name, or what Enter does if there is no connection
 abbrev pub lu_place : TermPhase → List ℕ
 lu_place (phase.Bound lu) = lu
 lu_place phase.Idle = codes "Enter connects"
-lu_place phase.Talking = []
-lu_place (phase.Refused reason) = []
-lu_place (phase.Closed cause) = []
+lu_place _ = []
 
 -- The status row is below the screen if the tty has a row for it. If not, it gives way, unless it is asked for.
 abbrev pub status_place : Overlay → (tty_rows screen_rows : ℕ) → StatusPlace

@@ -17,8 +17,7 @@ sent_by (write.Took count) live =
     record live {
       seat = record live.seat { terminal = record live.seat.terminal { out = drop count live.seat.terminal.out } };
     }
-sent_by write.NotNow live = live
-sent_by write.Failed live = live
+sent_by _ live = live
 
 -- holds if the terminal has lost its connection
 abbrev pub lost_live : Live → Live → Type 0
@@ -52,9 +51,7 @@ pub record SendsOnce {S : Type 0} (took : S → List ℕ → Result ℕ Error �
 -- how many bytes a read returned
 abbrev pub got_count : LinkRead → ℕ
 got_count (read.Got count) = count
-got_count read.NotNow = 0
-got_count read.Ended = 0
-got_count read.Failed = 0
+got_count _ = 0
 
 module _ {S K T : Type 0} where
   -- holds if the output is written once; nothing else changes
@@ -70,10 +67,9 @@ module _ {S K T : Type 0} where
 
   -- holds for the session after this answer to a read of the connection
   abbrev pub AfterRead : LinkRead → (old new : Session S K T) → Type 0
-  AfterRead (read.Got count) old new = new ≡ old
-  AfterRead read.NotNow old new = new ≡ old
   AfterRead read.Ended old new = Loses old new
   AfterRead read.Failed old new = Loses old new
+  AfterRead _ old new = new ≡ old
 
   -- Holds if the connection is read once, and gives these bytes. If it ended or failed, the terminal has lost it.
   pub record ReadsHost (gave : S → ℕ → List ℕ → Result ℕ Error → S → Type 0) (came : List ℕ)

@@ -130,17 +130,6 @@ fn waits(terminal: &Terminal) -> bool
     !is_idle(&terminal.phase()) && is_wait(terminal.lock())
 }
 
-/// Adds a key to those that were typed ahead, if there are fewer than 256.
-fn keep_key(keys: &mut Vec<Key>, key: Key) -> Result<(), AllocError>
-    ensures { OnOk result (keys.new.items ≡ with_key key keys.old.items) }
-{
-    if keys.len() >= MOST_AHEAD {
-        return Ok(());
-    }
-    keys.push(key)?;
-    Ok(())
-}
-
 /// Whether the table of keys is shown.
 fn is_keys(overlay: Overlay) -> bool
     ensures { result ≡ is_keys overlay }
@@ -159,9 +148,10 @@ fn is_status(overlay: Overlay) -> bool
 fn after_help(overlay: Overlay) -> Overlay
     ensures { result ≡ after_help overlay }
 {
-    match overlay {
-        Overlay::Nothing | Overlay::Status => Overlay::Keys,
-        Overlay::Keys => Overlay::Nothing,
+    if is_keys(overlay) {
+        Overlay::Nothing
+    } else {
+        Overlay::Keys
     }
 }
 
@@ -183,14 +173,9 @@ fn refusal_after(pressed: &Pressed, shown: Option<Refusal>) -> Option<Refusal>
     ensures { result ≡ refusal_after pressed.now shown }
 {
     match pressed {
-        Pressed::Refused(why) => match why {
-            Refusal::Locked => shown,
-            Refusal::Protected | Refusal::NotNumeric | Refusal::NoRoom | Refusal::NoCode => {
-                Some(*why)
-            }
-        },
-        Pressed::Done => None,
-        Pressed::Send(_) => None,
+        Pressed::Refused(Refusal::Locked) => shown,
+        Pressed::Refused(why) => Some(*why),
+        Pressed::Done | Pressed::Send(_) => None,
     }
 }
 
@@ -213,12 +198,8 @@ fn press(
 fn asks_after(key: &Key, phase: &TermPhase, asked: OperatorRequest) -> OperatorRequest
     ensures { result ≡ asks_after key.now phase.now asked }
 {
-    if is_idle(phase) {
-        if is_enter(key) {
-            OperatorRequest::Connect
-        } else {
-            asked
-        }
+    if is_idle(phase) && is_enter(key) {
+        OperatorRequest::Connect
     } else {
         asked
     }
@@ -230,10 +211,7 @@ fn asks_after(key: &Key, phase: &TermPhase, asked: OperatorRequest) -> OperatorR
 fn is_connected(phase: &TermPhase) -> bool
     ensures { result ≡ is_connected phase.now }
 {
-    match phase {
-        TermPhase::Idle | TermPhase::Closed(_) => false,
-        TermPhase::Talking | TermPhase::Bound(_) | TermPhase::Refused(_) => true,
-    }
+    !matches!(phase, TermPhase::Idle | TermPhase::Closed(_))
 }
 
 /// The text in the status row's place for the LU: the LU's name, or what Enter does if there is no connection.
@@ -346,17 +324,10 @@ impl LiveTerminal {
             ≡ record self.old.seat { typeahead = with_key key self.old.seat.typeahead }) }
         ensures kept { self.new.kept ≡ self.old.kept }
     {
-        keep_key(&mut self.typeahead, key)?;
+        if self.typeahead.len() < MOST_AHEAD {
+            self.typeahead.push(key)?;
+        }
         Ok(())
-    }
-
-    /// Drops the keys that were typed ahead, and presses a key.
-    fn drop_and_press(&mut self, key: Key) -> Result<(), AllocError>
-        ensures seat { OnOk result (self.new.seat ≡ after_press key (record self.old.seat { typeahead = [] })) }
-        ensures kept { self.new.kept ≡ self.old.kept }
-    {
-        self.typeahead.clear();
-        self.press(key)
     }
 
     /// Takes a key: keeps it if the keyboard waits for the host, else presses it. Reset drops the keys that were kept.
@@ -365,7 +336,8 @@ impl LiveTerminal {
         ensures kept { self.new.kept ≡ self.old.kept }
     {
         if is_reset(&key) {
-            self.drop_and_press(key)
+            self.typeahead.clear();
+            self.press(key)
         } else if waits(&self.terminal) {
             self.keep(key)
         } else {
@@ -421,29 +393,15 @@ impl LiveTerminal {
         ensures kept { self.new.kept ≡ self.old.kept }
     {
         match keystroke {
-            Keystroke::Key(key) => self.take_key(key),
-            Keystroke::Status => {
-                self.overlay = Overlay::Status;
-                Ok(())
-            }
-            Keystroke::Help => {
-                self.overlay = after_help(self.overlay);
-                Ok(())
-            }
-            Keystroke::Redraw => {
-                self.drawing.forget();
-                Ok(())
-            }
-            Keystroke::Size { rows, columns } => {
-                self.resize(rows, columns);
-                Ok(())
-            }
-            Keystroke::Quit => {
-                self.asked = OperatorRequest::Quit;
-                Ok(())
-            }
-            Keystroke::Unknown => Ok(()),
+            Keystroke::Key(key) => return self.take_key(key),
+            Keystroke::Status => self.overlay = Overlay::Status,
+            Keystroke::Help => self.overlay = after_help(self.overlay),
+            Keystroke::Redraw => self.drawing.forget(),
+            Keystroke::Size { rows, columns } => self.resize(rows, columns),
+            Keystroke::Quit => self.asked = OperatorRequest::Quit,
+            Keystroke::Unknown => {}
         }
+        Ok(())
     }
 
     /// Takes a keystroke. It is ignored once the operator has asked to end the program.
@@ -481,24 +439,16 @@ impl LiveTerminal {
         Ok(())
     }
 
-    /// Takes a read of the tty without a byte. It ends an incomplete keystroke.
-    fn take_pause(&mut self)
-        ensures { Types [] self.old self.new }
-    {
-        let _ = self.reader.pause();
-    }
-
     /// Takes the bytes of a read of the tty: presses their keys in order. A read without a byte ends an incomplete
     /// keystroke.
     pub fn take_typed(&mut self, typed: &[u8]) -> Result<(), AllocError>
         ensures { OnOk result (Types typed.now self.old self.new) }
     {
         if typed.is_empty() {
-            self.take_pause();
-            Ok(())
-        } else {
-            self.take_bytes(typed)
+            let _ = self.reader.pause();
+            return Ok(());
         }
+        self.take_bytes(typed)
     }
 
     /// Takes bytes received from the host.
@@ -507,8 +457,7 @@ impl LiveTerminal {
     {
         match self.terminal.feed(came).stop {
             Stop::Memory => Err(AllocError),
-            Stop::Going => Ok(()),
-            Stop::Closed(_) => Ok(()),
+            Stop::Going | Stop::Closed(_) => Ok(()),
         }
     }
 

@@ -2,7 +2,7 @@
 ghost use Rattle.std.specs.Prelude.{◌≡◌, ◌≤◌, ◌||◌, IfOk, OnOk, length, take};
 ghost use Rattle.term_core.specs.State.{is_bound, phase_of};
 ghost use Rattle.jobs.specs.Counting.{chunk_size};
-ghost use Rattle.operate.specs.LiveSessions.{AfterRead, Draws, Loses, ReadsHost, ReadsKeys, Rests, SendsOnce, SendsOver, TakesBytes, TakesInput, TakesTurnOver, TakesTurnTyped, Works, WritesTty, got_count, is_quiet};
+ghost use Rattle.operate.specs.LiveSessions.{AfterRead, Loses, ReadsHost, ReadsKeys, Rests, SendsOver, TakesBytes, TakesInput, TakesTurnOver, TakesTurnTyped, Works, WritesTty, got_count, is_quiet};
 ghost use Rattle.host_core.specs.Serves.{GotWithin, bytes_got};
 ghost use Rattle.jobs.specs.Sockets.{Gives};
 
@@ -53,15 +53,6 @@ fn read_socket<S: RawRead + RawWrite + Drop>(
     socket.read(came)
 }
 
-/// Begins a connection of the terminal, if there is none. Answers whether it did.
-fn begin(live: &mut LiveTerminal, wanted: Option<Lu>) -> Result<bool, Fault> {
-    if let TermPhase::Idle = live.phase() {
-        live.connect(wanted)?;
-        return Ok(true);
-    }
-    Ok(false)
-}
-
 /// How many bytes a read returned.
 fn got_count(answer: LinkRead) -> usize
     ensures { result ≡ got_count answer }
@@ -69,20 +60,6 @@ fn got_count(answer: LinkRead) -> usize
     match answer {
         LinkRead::Got(count) => count,
         LinkRead::NotNow | LinkRead::Ended | LinkRead::Failed => 0,
-    }
-}
-
-/// Writes the terminal's output to the connection once. Answers whether a byte was taken. A failed connection is
-/// noticed by a read.
-fn send<S: RawRead + RawWrite + Drop>(live: &mut LiveTerminal, socket: &mut SocketSlot<S>) -> bool
-    ensures { SendsOnce S.write_took live.old live.new socket.old socket.new result }
-{
-    match socket.write(live.out()) {
-        LinkWrite::Took(count) => {
-            live.sent(count);
-            true
-        }
-        LinkWrite::NotNow | LinkWrite::Failed => false,
     }
 }
 
@@ -100,15 +77,6 @@ impl<S, K, T> marker::Model for OperatorSession<S, K, T> {
       stale = session.stale;
       was_bound = session.was_bound;
     } };
-}
-
-/// A fault if the host rejected the terminal's request for an LU, or if the terminal closed the connection.
-fn check(phase: TermPhase) -> Result<(), Fault> {
-    match phase {
-        TermPhase::Refused(reason) => Err(Fault::Live(LiveFault::LuRefused(reason))),
-        TermPhase::Closed(cause) => Err(Fault::Live(LiveFault::Closed(cause))),
-        TermPhase::Bound(_) | TermPhase::Idle | TermPhase::Talking => Ok(()),
-    }
 }
 
 /// Whether nothing was received or typed, and the tty shows the current screen.
@@ -141,7 +109,8 @@ impl<S: RawRead + RawWrite + Drop, K: Drop, T: Drop> OperatorSession<S, K, T> {
     /// Begins a connection, if there is none. The terminal requests this LU, if one is given. NoMemory if memory is
     /// refused.
     pub fn connect(&mut self, socket: S, wanted: Option<Lu>) -> Result<(), Fault> {
-        if begin(&mut self.live, wanted)? {
+        if let TermPhase::Idle = self.live.phase() {
+            self.live.connect(wanted)?;
             self.socket.open(socket);
             self.stale = true;
         }
@@ -174,18 +143,24 @@ impl<S: RawRead + RawWrite + Drop, K: Drop, T: Drop> OperatorSession<S, K, T> {
         ensures { OnOk result (AfterRead answer self.old self.new) }
     {
         match answer {
-            LinkRead::Got(_) => Ok(()),
-            LinkRead::NotNow => Ok(()),
+            LinkRead::Got(_) | LinkRead::NotNow => Ok(()),
             LinkRead::Ended => self.lose(Fault::Live(LiveFault::HostEnded)),
             LinkRead::Failed => self.lose(Fault::SocketFailed),
         }
     }
 
-    /// Writes the terminal's output to the connection once. Answers whether a byte was taken.
+    /// Writes the terminal's output to the connection once. Answers whether a byte was taken. A failed connection is
+    /// noticed by a read.
     fn send(&mut self) -> bool
         ensures { SendsOver S.write_took self.old self.new result }
     {
-        send(&mut self.live, &mut self.socket)
+        match self.socket.write(self.live.out()) {
+            LinkWrite::Took(count) => {
+                self.live.sent(count);
+                true
+            }
+            LinkWrite::NotNow | LinkWrite::Failed => false,
+        }
     }
 
     /// Takes the typed bytes, and draws nothing.
@@ -196,7 +171,8 @@ impl<S: RawRead + RawWrite + Drop, K: Drop, T: Drop> OperatorSession<S, K, T> {
         Ok(())
     }
 
-    /// Notes whether the terminal is bound, and checks its phase.
+    /// Notes whether the terminal is bound. A fault if the host rejected the terminal's request for an LU, or if the
+    /// terminal closed the connection.
     fn check_phase(&mut self) -> Result<(), Fault>
         ensures { OnOk result (self.new ≡ record self.old {
           was_bound = self.old.was_bound || is_bound (phase_of self.old.live.seat.terminal.link);
@@ -204,23 +180,11 @@ impl<S: RawRead + RawWrite + Drop, K: Drop, T: Drop> OperatorSession<S, K, T> {
     {
         let phase = self.live.phase();
         self.was_bound |= phase.is_bound();
-        check(phase)
-    }
-
-    /// Takes a turn of the live terminal, and appends what draws it.
-    fn draw(
-        &mut self,
-        alloc: Global,
-        came: &[u8],
-        typed: &[u8],
-        drawn: &mut Vec<u8>,
-    ) -> Result<(), Fault>
-        ensures { OnOk result
-            (Draws came.now typed.now self.old self.new drawn.old.items drawn.new.items) }
-    {
-        self.live.turn(alloc, came, typed, drawn)?;
-        self.stale = false;
-        Ok(())
+        match phase {
+            TermPhase::Refused(reason) => Err(Fault::Live(LiveFault::LuRefused(reason))),
+            TermPhase::Closed(cause) => Err(Fault::Live(LiveFault::Closed(cause))),
+            TermPhase::Bound(_) | TermPhase::Idle | TermPhase::Talking => Ok(()),
+        }
     }
 
     /// Takes the bytes received and those typed, and appends what draws the screen, unless nothing happened.
@@ -235,10 +199,11 @@ impl<S: RawRead + RawWrite + Drop, K: Drop, T: Drop> OperatorSession<S, K, T> {
             (TakesBytes came.now typed.now self.old self.new drawn.old.items drawn.new.items) }
     {
         if is_quiet(came, typed, self.stale) {
-            self.rest(typed)
-        } else {
-            self.draw(alloc, came, typed, drawn)
+            return self.rest(typed);
         }
+        self.live.turn(alloc, came, typed, drawn)?;
+        self.stale = false;
+        Ok(())
     }
 
     /// One turn as [`turn`](OperatorSession::turn) in which these bytes were typed, and in which what draws the screen
@@ -386,17 +351,10 @@ impl Dialer {
         if self.dialed.is_some() {
             return Ok(());
         }
-        match TcpStream::connect(net, self.address) {
-            Ok(socket) => {
-                self.watch(socket);
-                Ok(())
-            }
-            Err(error) => self.give_up(error.kind()),
-        }
-    }
-
-    /// Takes the connection that is being established, and lets the poll wait for it.
-    fn watch(&mut self, mut socket: TcpStream) {
+        let mut socket = match TcpStream::connect(net, self.address) {
+            Ok(socket) => socket,
+            Err(error) => return self.give_up(error.kind()),
+        };
         // As in the server: if one of these calls fails, the socket is used anyway.
         let _ = socket.set_nodelay(true);
         let interest = Interest::READABLE | Interest::WRITABLE;
@@ -405,6 +363,7 @@ impl Dialer {
             .registry()
             .register(&mut socket, Token(0), interest);
         self.dialed = Some(socket);
+        Ok(())
     }
 
     /// Continues without a connection if one was established before; otherwise CannotConnect.
@@ -480,20 +439,6 @@ fn tty_size(model: Model, tty: Option<TtySize>) -> Result<TtySize, Fault> {
     }
 }
 
-/// Runs a live terminal of a model, at a tty of this size, with the connections of `dialer`.
-fn operate_by<N: Net, K: Source + Drop, T: Sink + Drop>(
-    net: &N,
-    alloc: Global,
-    dialer: &mut Dialer,
-    model: Model,
-    size: TtySize,
-    keys: K,
-    tty: T,
-) -> Result<(), Fault> {
-    let mut session = OperatorSession::new(alloc, model, size, keys, tty)?;
-    take_turns(net, alloc, dialer, &mut session)
-}
-
 /// Runs a live terminal.
 fn operate<N: Net, K: Source + Drop, T: Sink + Drop>(
     net: &N,
@@ -504,7 +449,8 @@ fn operate<N: Net, K: Source + Drop, T: Sink + Drop>(
 ) -> Result<(), Fault> {
     let size = tty_size(options.model, options.tty)?;
     let mut dialer = Dialer::new(net, alloc, options)?;
-    operate_by(net, alloc, &mut dialer, options.model, size, keys, tty)
+    let mut session = OperatorSession::new(alloc, options.model, size, keys, tty)?;
+    take_turns(net, alloc, &mut dialer, &mut session)
 }
 
 /// Runs a terminal at the host of the options, until the operator presses Ctrl-]. The operator's keys are read
