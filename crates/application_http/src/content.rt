@@ -1,10 +1,10 @@
 //! Finds the content of a reply (RFC 9112, sections 4, 6 and 7).
-ghost use Rattle.std.specs.Prelude.{◌≡◌, ◌<◌, ◌≤◌, ⊤, [], Bool, drop, length, true, List, MatchOption, IfErr, IfOk, IsTrue, OnErr, IsFalse};
+ghost use Rattle.std.specs.Prelude.{◌≡◌, ◌<◌, ◌≤◌, [], Bool, drop, length, true, List, MatchOption, IfErr, IfOk, IsTrue, OnErr, IsFalse};
 ghost use Rattle.httparse.specs.Grammar.{HasNoResponse};
 ghost use Rattle.httparse.specs.declared.spans.HeaderSpan.{HeaderSpan};
 ghost use Rattle.http1.specs.Decoder.{Decodes, HasNoBody};
 ghost use Rattle.http1.specs.declared.framing.Framing.TheVariants as framed;
-ghost use Rattle.application_http.specs.Contents.{HasContent, StoresContent, IsBadBody, IsBadMessage, IsHead, IsKept, IsUnfinished, IsCompleteBody, IsIncompleteBody, limits, most_fields};
+ghost use Rattle.application_http.specs.Contents.{HasContent, IsBadBody, IsBadMessage, IsHead, IsKept, IsUnfinished, IsCompleteBody, IsIncompleteBody, limits, most_fields};
 
 use crate::fault::ReplyFault;
 use crate::keeping::{kept_after, kept_by};
