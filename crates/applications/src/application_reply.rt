@@ -6,7 +6,7 @@ ghost use Rattle.application_http.specs.Replies.{field_text, name_of_copy};
 ghost use Rattle.panels.specs.Characters.{codes_of};
 ghost use Rattle.panels.specs.MessageText.{message_of};
 ghost use Rattle.panels.specs.Values.{value_of};
-ghost use Rattle.applications.specs.Applications.{AreKnownArrays, AreKnownTexts, IsAnswerFault, IsAnswerFor, IsArrayFault, IsFirstArrayFault, IsFirstTextFault, IsFirstValueFault, IsKnown, IsTextFault, IsUnknown, TakesMemory, as_byte, first_field_replaced, first_replaced, is_known_array, is_known_text, message_bytes, message_in, most_characters, most_copies, number_on, panel_number, panel_of_reply, telling, value_by, values_of_reply, with_arrays, with_copies_emptied, with_copy_emptied, with_text, with_texts};
+ghost use Rattle.applications.specs.Applications.{AreKnownArrays, AreKnownTexts, IsAnswerFault, IsAnswerFor, IsArrayFault, IsFirstArrayFault, IsFirstTextFault, IsFirstValueFault, IsKnown, IsTextFault, IsUnknown, TakesMemory, as_byte, first_field_replaced, first_replaced, is_known_array, is_known_text, message_bytes, message_in, most_characters, most_copies, number_on, panel_number, telling, value_by, values_of_reply, with_arrays, with_copies_emptied, with_copy_emptied, with_text, with_texts};
 ghost use Rattle.applications.specs.PlainTexts.{plain_text};
 ghost use Rattle.applications.specs.declared.application_reply.AnswerFault.TheVariants as flaw;
 

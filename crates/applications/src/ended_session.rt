@@ -1,5 +1,5 @@
 //! Turns the end of a session into a notification to an application.
-ghost use Rattle.std.specs.Prelude.{◌≡◌, IfOk, string_bytes};
+ghost use Rattle.std.specs.Prelude.{IfOk, string_bytes};
 ghost use Rattle.application_http.specs.Requests.{notification_bytes};
 ghost use Rattle.applications.specs.ApplicationRequests.{IsNotificationOf};
 

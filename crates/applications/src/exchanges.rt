@@ -332,21 +332,17 @@ fn go_on<S: RawRead + RawWrite + Drop, A: AskingServer<Stream = S>>(
     ensures { Goes A.served A.answered A.reported S.read_gave S.write_took A.noted has_operator asking.entry.now
         asking.entry.most conn asked server.old result server.new slot.new }
 {
-    match asked.exchange.go_on(has_operator, asking.now, asking.most) {
-        IoProgress::Moved => {
-            *slot = Some(ApplicationConnection::Asking(asked));
-            Ok(true)
-        }
-        IoProgress::Still => {
-            *slot = Some(ApplicationConnection::Asking(asked));
-            Ok(false)
-        }
+    let has_moved = match asked.exchange.go_on(has_operator, asking.now, asking.most) {
+        IoProgress::Moved => true,
+        IoProgress::Still => false,
         IoProgress::Over(outcome) => {
             let (ticket, panel) = (asked.ticket, asked.panel);
             *slot = connection_after(&outcome, asking.now, asked.exchange.into_stream());
-            end(asking.alloc, server, conn, ticket, panel, &outcome)
+            return end(asking.alloc, server, conn, ticket, panel, &outcome);
         }
-    }
+    };
+    *slot = Some(ApplicationConnection::Asking(asked));
+    Ok(has_moved)
 }
 
 /// Begins an exchange for an open question in an empty slot, and takes its first turn.

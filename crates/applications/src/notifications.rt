@@ -64,17 +64,13 @@ fn go_on<S: RawRead + RawWrite + Drop>(
     requires empty { slot.old ≡ None }
     ensures { Continues S.read_gave S.write_took asking.entry.now asking.entry.most exchange result slot.new }
 {
-    match exchange.go_on(true, asking.now, asking.most) {
-        IoProgress::Moved => {
-            *slot = Some(exchange);
-            true
-        }
-        IoProgress::Still => {
-            *slot = Some(exchange);
-            false
-        }
-        IoProgress::Over(_) => true,
-    }
+    let has_moved = match exchange.go_on(true, asking.now, asking.most) {
+        IoProgress::Moved => true,
+        IoProgress::Still => false,
+        IoProgress::Over(_) => return true,
+    };
+    *slot = Some(exchange);
+    has_moved
 }
 
 /// Takes a turn on a connection with this slot.
