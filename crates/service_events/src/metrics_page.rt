@@ -1,108 +1,45 @@
-//! The page of a service's metrics, in Prometheus' text format, version 0.0.4: texts with `{}` for each count.
+//! The page of a service's metrics, in Prometheus' text format, version 0.0.4.
 use crate::metrics::Metrics;
 use std::fmt;
+use tn3270e_msg::Cause;
 
-const SESSIONS: &str = "# HELP panel3270_sessions Connections of terminals that are open.
-# TYPE panel3270_sessions gauge
-panel3270_sessions {}
-# HELP panel3270_sessions_total Connections of terminals that began.
-# TYPE panel3270_sessions_total counter
-panel3270_sessions_total {}
-";
+const CAUSES: [Cause; 10] = [
+    Cause::NoTn3270e,
+    Cause::NoResponses,
+    Cause::BadTalk,
+    Cause::TooMany,
+    Cause::Wire,
+    Cause::BadRecord,
+    Cause::BadInbound,
+    Cause::BadResponse,
+    Cause::Negative,
+    Cause::RuleBroken,
+];
 
-const CLOSED: &str =
-    "# HELP panel3270_session_ends_total Connections of terminals that ended, by what ended them.
-# TYPE panel3270_session_ends_total counter
-panel3270_session_ends_total{end=\"closed\",cause=\"NoTn3270e\"} {}
-panel3270_session_ends_total{end=\"closed\",cause=\"NoResponses\"} {}
-panel3270_session_ends_total{end=\"closed\",cause=\"BadTalk\"} {}
-panel3270_session_ends_total{end=\"closed\",cause=\"TooMany\"} {}
-panel3270_session_ends_total{end=\"closed\",cause=\"Wire\"} {}
-panel3270_session_ends_total{end=\"closed\",cause=\"BadRecord\"} {}
-panel3270_session_ends_total{end=\"closed\",cause=\"BadInbound\"} {}
-panel3270_session_ends_total{end=\"closed\",cause=\"BadResponse\"} {}
-panel3270_session_ends_total{end=\"closed\",cause=\"Negative\"} {}
-panel3270_session_ends_total{end=\"closed\",cause=\"RuleBroken\"} {}
-";
+/// The reasons of rejections.
+const REJECTIONS: [&str; 5] = [
+    "DEVICE-IN-USE",
+    "INV-NAME",
+    "INV-DEVICE-TYPE",
+    "UNSUPPORTED-REQ",
+    "other",
+];
 
-const LOST: &str = "panel3270_session_ends_total{end=\"lost\"} {}
-panel3270_session_ends_total{end=\"idle\"} {}
-panel3270_session_ends_total{end=\"no-agreement\"} {}
-";
+/// The reasons of questions that the application didn't answer.
+const FAILURES: [&str; 7] = [
+    "refused",
+    "broken",
+    "timeout",
+    "no-memory",
+    "status",
+    "bad-reply",
+    "left",
+];
 
-const OTHER_ENDS: &str = "panel3270_session_ends_total{end=\"ended-by-application\"} {}
-# HELP panel3270_turned_away_total Connections closed at once because no number was free.
-# TYPE panel3270_turned_away_total counter
-panel3270_turned_away_total {}
-";
-
-const REJECTIONS: &str = "# HELP panel3270_rejections_total Rejected requests for an LU, by reason.
-# TYPE panel3270_rejections_total counter
-panel3270_rejections_total{reason=\"DEVICE-IN-USE\"} {}
-panel3270_rejections_total{reason=\"INV-NAME\"} {}
-panel3270_rejections_total{reason=\"INV-DEVICE-TYPE\"} {}
-panel3270_rejections_total{reason=\"UNSUPPORTED-REQ\"} {}
-panel3270_rejections_total{reason=\"other\"} {}
-";
-
-const KEYS: &str =
-    "# HELP panel3270_dropped_keys_total Keys that were dropped because the last one wasn't answered yet.
-# TYPE panel3270_dropped_keys_total counter
-panel3270_dropped_keys_total {}
-# HELP panel3270_rule_breaks_total Terminals that broke a rule that the host verifies.
-# TYPE panel3270_rule_breaks_total counter
-panel3270_rule_breaks_total {}
-";
-
-const SCREENS: &str =
-    "# HELP panel3270_turns_total Screens sent after the first one of a connection.
-# TYPE panel3270_turns_total counter
-panel3270_turns_total {}
-# HELP panel3270_paints_total Screens sent.
-# TYPE panel3270_paints_total counter
-panel3270_paints_total {}
-";
-
-const TRAFFIC: &str = "# HELP panel3270_received_bytes_total Bytes received from terminals.
-# TYPE panel3270_received_bytes_total counter
-panel3270_received_bytes_total {}
-# HELP panel3270_sent_bytes_total Bytes sent to terminals.
-# TYPE panel3270_sent_bytes_total counter
-panel3270_sent_bytes_total {}
-# HELP panel3270_questions_total Questions to the application.
-# TYPE panel3270_questions_total counter
-panel3270_questions_total {}
-";
-
-const FAILURES: &str =
-    "# HELP panel3270_question_failures_total Questions that the application didn't answer, by reason.
-# TYPE panel3270_question_failures_total counter
-panel3270_question_failures_total{reason=\"refused\"} {}
-panel3270_question_failures_total{reason=\"broken\"} {}
-panel3270_question_failures_total{reason=\"timeout\"} {}
-panel3270_question_failures_total{reason=\"no-memory\"} {}
-panel3270_question_failures_total{reason=\"status\"} {}
-panel3270_question_failures_total{reason=\"bad-reply\"} {}
-panel3270_question_failures_total{reason=\"left\"} {}
-";
-
-const ANSWERS: &str =
-    "# HELP panel3270_answer_seconds Time from a question to the application's answer.
-# TYPE panel3270_answer_seconds histogram
-panel3270_answer_seconds_bucket{le=\"0.005\"} {}
-panel3270_answer_seconds_bucket{le=\"0.01\"} {}
-panel3270_answer_seconds_bucket{le=\"0.025\"} {}
-panel3270_answer_seconds_bucket{le=\"0.05\"} {}
-panel3270_answer_seconds_bucket{le=\"0.1\"} {}
-panel3270_answer_seconds_bucket{le=\"0.25\"} {}
-panel3270_answer_seconds_bucket{le=\"0.5\"} {}
-panel3270_answer_seconds_bucket{le=\"1\"} {}
-panel3270_answer_seconds_bucket{le=\"2.5\"} {}
-panel3270_answer_seconds_bucket{le=\"5\"} {}
-panel3270_answer_seconds_bucket{le=\"10\"} {}
-panel3270_answer_seconds_bucket{le=\"30\"} {}
-panel3270_answer_seconds_bucket{le=\"+Inf\"} {}
-";
+/// The bounds of the times from a question to its answer, in seconds.
+const BOUNDS: [&str; 13] = [
+    "0.005", "0.01", "0.025", "0.05", "0.1", "0.25", "0.5", "1", "2.5", "5", "10", "30", "+Inf",
+];
 
 /// The page: what was counted, and the process.
 #[derive(Clone, Copy)]
@@ -114,39 +51,112 @@ pub struct MetricsPage {
     pub started: Option<i64>,
 }
 
-/// Adds a text with a count in place of each `{}`.
-fn put<W: fmt::Write>(f: &mut fmt::Formatter<W>, text: &str, counts: &[u64]) -> fmt::Result {
-    for (place, part) in text.split("{}").enumerate() {
-        f.write_str(part)?;
-        if let Some(count) = counts.get(place) {
-            write!(f, "{count}")?;
-        }
-    }
-    Ok(())
-}
-
 impl Metrics {
-    /// Adds all counts but those of answers.
-    fn put_counts<W: fmt::Write>(&self, f: &mut fmt::Formatter<W>) -> fmt::Result {
-        put(f, SESSIONS, &[self.current, self.begun])?;
-        put(f, CLOSED, &self.closed)?;
-        put(f, LOST, &[self.lost, self.idle, self.no_agreement])?;
-        put(f, OTHER_ENDS, &[self.by_application, self.turned_away])?;
-        put(f, REJECTIONS, &self.rejected)?;
-        put(f, KEYS, &[self.dropped_keys, self.rule_breaks])?;
-        put(f, SCREENS, &[self.turns, self.paints])?;
-        put(f, TRAFFIC, &[self.received, self.sent, self.asked])?;
-        put(f, FAILURES, &self.failed)
+    /// Adds the metrics of connections.
+    fn put_sessions<W: fmt::Write>(&self, f: &mut fmt::Formatter<W>) -> fmt::Result {
+        let (current, begun) = (self.current, self.begun);
+        write!(
+            f,
+            "# HELP panel3270_sessions Connections of terminals that are open.
+# TYPE panel3270_sessions gauge
+panel3270_sessions {current}
+# HELP panel3270_sessions_total Connections of terminals that began.
+# TYPE panel3270_sessions_total counter
+panel3270_sessions_total {begun}
+# HELP panel3270_session_ends_total Connections of terminals that ended, by what ended them.
+# TYPE panel3270_session_ends_total counter
+"
+        )?;
+        for (cause, count) in CAUSES.iter().zip(&self.closed) {
+            write!(
+                f,
+                "panel3270_session_ends_total{{end=\"closed\",cause=\"{cause}\"}} {count}\n"
+            )?;
+        }
+        let (lost, idle, no_agreement) = (self.lost, self.idle, self.no_agreement);
+        let (by_application, turned_away) = (self.by_application, self.turned_away);
+        write!(
+            f,
+            "panel3270_session_ends_total{{end=\"lost\"}} {lost}
+panel3270_session_ends_total{{end=\"idle\"}} {idle}
+panel3270_session_ends_total{{end=\"no-agreement\"}} {no_agreement}
+panel3270_session_ends_total{{end=\"ended-by-application\"}} {by_application}
+# HELP panel3270_turned_away_total Connections closed at once because no number was free.
+# TYPE panel3270_turned_away_total counter
+panel3270_turned_away_total {turned_away}
+# HELP panel3270_rejections_total Rejected requests for an LU, by reason.
+# TYPE panel3270_rejections_total counter
+"
+        )?;
+        for (reason, count) in REJECTIONS.iter().zip(&self.rejected) {
+            write!(
+                f,
+                "panel3270_rejections_total{{reason=\"{reason}\"}} {count}\n"
+            )?;
+        }
+        Ok(())
     }
 
-    /// Adds the times from questions to their answers: how many are within each bound, and their sum.
-    fn put_answers<W: fmt::Write>(&self, f: &mut fmt::Formatter<W>) -> fmt::Result {
-        let (mut within, mut count) = (self.answered, 0u64);
-        for bucket in within.iter_mut() {
-            count = count.saturating_add(*bucket);
-            *bucket = count;
+    /// Adds the metrics of keys, screens and bytes.
+    fn put_traffic<W: fmt::Write>(&self, f: &mut fmt::Formatter<W>) -> fmt::Result {
+        let (dropped_keys, rule_breaks) = (self.dropped_keys, self.rule_breaks);
+        let (turns, paints) = (self.turns, self.paints);
+        let (received, sent) = (self.received, self.sent);
+        write!(
+            f,
+            "# HELP panel3270_dropped_keys_total Keys that were dropped because the last one wasn't answered yet.
+# TYPE panel3270_dropped_keys_total counter
+panel3270_dropped_keys_total {dropped_keys}
+# HELP panel3270_rule_breaks_total Terminals that broke a rule that the host verifies.
+# TYPE panel3270_rule_breaks_total counter
+panel3270_rule_breaks_total {rule_breaks}
+# HELP panel3270_turns_total Screens sent after the first one of a connection.
+# TYPE panel3270_turns_total counter
+panel3270_turns_total {turns}
+# HELP panel3270_paints_total Screens sent.
+# TYPE panel3270_paints_total counter
+panel3270_paints_total {paints}
+# HELP panel3270_received_bytes_total Bytes received from terminals.
+# TYPE panel3270_received_bytes_total counter
+panel3270_received_bytes_total {received}
+# HELP panel3270_sent_bytes_total Bytes sent to terminals.
+# TYPE panel3270_sent_bytes_total counter
+panel3270_sent_bytes_total {sent}
+"
+        )
+    }
+
+    /// Adds the metrics of questions to the application.
+    fn put_questions<W: fmt::Write>(&self, f: &mut fmt::Formatter<W>) -> fmt::Result {
+        let asked = self.asked;
+        write!(
+            f,
+            "# HELP panel3270_questions_total Questions to the application.
+# TYPE panel3270_questions_total counter
+panel3270_questions_total {asked}
+# HELP panel3270_question_failures_total Questions that the application didn't answer, by reason.
+# TYPE panel3270_question_failures_total counter
+"
+        )?;
+        for (reason, count) in FAILURES.iter().zip(&self.failed) {
+            write!(
+                f,
+                "panel3270_question_failures_total{{reason=\"{reason}\"}} {count}\n"
+            )?;
         }
-        put(f, ANSWERS, &within)?;
+        f.write_str(
+            "# HELP panel3270_answer_seconds Time from a question to the application's answer.
+# TYPE panel3270_answer_seconds histogram
+",
+        )?;
+        let mut count: u64 = 0;
+        for (bound, within) in BOUNDS.iter().zip(&self.answered) {
+            count = count.saturating_add(*within);
+            write!(
+                f,
+                "panel3270_answer_seconds_bucket{{le=\"{bound}\"}} {count}\n"
+            )?;
+        }
         let (seconds, millis) = (self.answer_millis / 1000, self.answer_millis % 1000);
         write!(
             f,
@@ -159,8 +169,9 @@ panel3270_answer_seconds_count {count}
 
 impl fmt::Display for MetricsPage {
     fn fmt<W: fmt::Write>(&self, f: &mut fmt::Formatter<W>) -> fmt::Result {
-        self.metrics.put_counts(f)?;
-        self.metrics.put_answers(f)?;
+        self.metrics.put_sessions(f)?;
+        self.metrics.put_traffic(f)?;
+        self.metrics.put_questions(f)?;
         let version = self.version;
         write!(
             f,
