@@ -243,7 +243,7 @@ fn reply_in(alloc: Global, value: &Value) -> Result<Reply, ReplyFault>
     }
 }
 
-/// The reply that the bytes of a content represent. Whether its connection is kept, the head says.
+/// The reply that the bytes of a content represent. The head says whether its connection is kept.
 pub(crate) fn read_reply(alloc: Global, content: &[u8]) -> Result<Reply, ReplyFault>
     ensures said { IfOk result (λ reply. Says content.now (answer_in reply)) }
     ensures bad { IfErr result (IsBadContent content.now) }
