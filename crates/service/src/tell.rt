@@ -1,7 +1,7 @@
 //! The job `tell`: sends a command to a running service over its control socket, and prints the answer.
 //!
-//! Crate `service_wire` has the lines of commands and answers; `control_socket` is the other end. No contract says what goes
-//! over the socket.
+//! Crate `service_wire` has the lines of commands and answers; `control_socket` is the other end. No contract says
+//! what goes over the socket.
 use jobs::{
     CHUNK, CommandWords, CountedReader, CountedWriter, Fault, Operand, Sink, Source, read_chunk,
     report_and_exit_code,
