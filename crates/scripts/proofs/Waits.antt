@@ -13,7 +13,7 @@ use Rattle.term_core.specs.Feeds.{IsAttached, StopsFor}
 use Rattle.term_core.specs.State.{Link, Terminal, Detached, Attached, Closed, lost, phase_of}
 use Rattle.jobs.specs.Counting.{CutShort, Output, Written, bytes_given}
 use Rattle.scripts.specs.Operating.{IsWaitOver, is_wait_over}
-use Rattle.scripts.specs.Waits.{Exchanges, GaveOn, GoesOn, HasClosed, HasExchanged, HasWaited, IsFed, SendsAll, SendsLast, ended, is_memory, most_waits, sound, unsent, read_room}
+use Rattle.scripts.specs.Waits.{Exchanges, GaveOn, GoesOn, HasClosed, HasExchanged, HasWaited, IsFed, SendsAll, ended, most_waits, sound, unsent, read_room}
 use Rattle.scripts.specs.declared.operator.WaitEnd.{WaitEnd}
 use Rattle.scripts.specs.declared.operator.WaitEnd.TheVariants.{Over, ReadsUsedUp}
 use Rattle.jobs.specs.declared.streams.Answer.{Answer}
@@ -65,7 +65,7 @@ drop_all (x ∷ all) count is = ap (λ (n : ℕ). drop n (x ∷ all)) is ∙ dro
 
 -- a terminal that waits is fed what it takes of the bytes
 pub is_fed : (room : ℕ) (old new : Terminal) (bytes : List ℕ) (taken : ℕ) (stop : Stop) → is_wait_over (phase_of old.link) old.station.keyboard.lock ≡ false
-    → taken ≤ length bytes → TakesBytes old (take taken bytes) new → StopsFor room stop old bytes taken new → is_memory stop ≡ false → IsFed old bytes new
+    → taken ≤ length bytes → TakesBytes old (take taken bytes) new → StopsFor room stop old bytes taken new → (stop ≡ Memory → ⊥) → IsFed old bytes new
 is_fed room old new bytes taken Going waits few takes stops going = record {
   front = take taken bytes;
   rest = drop taken bytes;
@@ -76,7 +76,7 @@ is_fed room old new bytes taken Going waits few takes stops going = record {
       (λ none. absurd (not_detached old.link none.1 (waits_attached old.link _ waits)))
       stops;
 }
-is_fed room old new bytes taken Memory waits few takes stops going = absurd (true≢false going)
+is_fed room old new bytes taken Memory waits few takes stops going = absurd (going refl)
 is_fed room old new bytes taken (ClosedStop cause) waits few takes stops going = record {
   front = take taken bytes;
   rest = drop taken bytes;
@@ -232,11 +232,8 @@ module _ {D : Type 0} (gave : D → ℕ → List ℕ → Answer → D → Type 0
     after_all true new up_new sends all = (after_send new up_new sends.0 sends.1, ap (λ (t : Terminal). t.out) sends.1)
     after_all false new up_new sends all = absurd (true≢false (sym all))
 
-  -- the last send ends the wait
-  pub has_waited : (exchanged : WaitEnd) (old mid new : Terminal) (down_old down_new : D) (up_old up_mid up_new : Output)
-      → HasExchanged gave exchanged old mid down_old down_new up_old up_mid → SendsLast exchanged mid new up_mid up_new
-      → HasWaited gave old new down_old down_new up_old up_new
-  has_waited Over old mid new down_old down_new up_old up_mid up_new has sends =
-      subst (λ (last : Terminal). HasWaited gave old last down_old down_new up_old up_new) (sym sends.0)
-      (subst (HasWaited gave old mid down_old down_new up_old) (sym sends.1) has)
-  has_waited ReadsUsedUp old mid new down_old down_new up_old up_mid up_new has sends = has sends.0 new up_new sends.1
+  -- a wait that didn't use all of its reads is over
+  pub has_ended : (exchanged : WaitEnd) (old new : Terminal) (down_old down_new : D) (up_old up_new : Output) → (exchanged ≡ ReadsUsedUp → ⊥)
+      → HasExchanged gave exchanged old new down_old down_new up_old up_new → HasWaited gave old new down_old down_new up_old up_new
+  has_ended Over old new down_old down_new up_old up_new other has = has
+  has_ended ReadsUsedUp old new down_old down_new up_old up_new other has = absurd (other refl)

@@ -46,11 +46,9 @@ events_of happenings = map (λ happening. happening.event) happenings
 
 -- the line for a refused key, with the number of the reason, or for a skipped event
 abbrev pub answer_text : Stepped → List ℕ
-answer_text stepped.Done = []
 answer_text (stepped.Refused why) = codes "refused " ++ decimal (refusal_number why) ++ newline ∷ []
 answer_text stepped.Skipped = codes "skipped" ++ newline ∷ []
-answer_text (stepped.Part taken) = []
-answer_text stepped.Memory = []
+answer_text _ = []
 
 abbrev pub answers_text : List Happening → List ℕ
 answers_text happenings = flat_map (λ happening. answer_text happening.answer) happenings
@@ -58,11 +56,8 @@ answers_text happenings = flat_map (λ happening. answer_text happening.answer) 
 -- ---- typed text
 
 abbrev pub is_refused : Stepped → Bool
-is_refused stepped.Done = false
 is_refused (stepped.Refused why) = true
-is_refused stepped.Skipped = false
-is_refused (stepped.Part taken) = false
-is_refused stepped.Memory = false
+is_refused _ = false
 
 -- holds if the run ends here and there are no others, or if it continues and the others satisfy `Rightly`
 abbrev pub OthersIf : Bool → List Happening → Type 0 → Type 0
@@ -93,11 +88,8 @@ round_below zero = []
 round_below (suc number) = round_below number ++ exchange_events number
 
 abbrev pub is_skipped : Stepped → Bool
-is_skipped stepped.Done = false
-is_skipped (stepped.Refused why) = false
 is_skipped stepped.Skipped = true
-is_skipped (stepped.Part taken) = false
-is_skipped stepped.Memory = false
+is_skipped _ = false
 
 abbrev pub all_skipped : List Happening → Bool
 all_skipped happenings = list_all (λ happening. is_skipped happening.answer) happenings

@@ -32,14 +32,9 @@ terminal_count = length terminal_models
 
 -- whether the terminal of a `show` or `status` has a number below `terminals`; true for other commands
 abbrev pub is_in_range : ℕ → ScriptCommand → Bool
-is_in_range terminals command.Nothing = true
-is_in_range terminals (command.Happen event) = true
-is_in_range terminals (command.TypeText terminal) = true
-is_in_range terminals (command.Answer conn) = true
-is_in_range terminals command.Settle = true
 is_in_range terminals (command.Show terminal) = nat_lt terminal terminals
 is_in_range terminals (command.Status terminal) = nat_lt terminal terminals
-is_in_range terminals (command.Question conn) = true
+is_in_range terminals _ = true
 
 abbrev pub if_in_range : ℕ → Option ScriptCommand → Option ScriptCommand
 if_in_range terminals None = None
@@ -51,14 +46,8 @@ command_in_range terminals line = if_in_range terminals (script_command line)
 
 -- whether the operand of an `answer` is valid; true for other commands
 abbrev pub is_understood : Panels → ScriptCommand → List ℕ → Bool
-is_understood panels command.Nothing line = true
-is_understood panels (command.Happen event) line = true
-is_understood panels (command.TypeText terminal) line = true
 is_understood panels (command.Answer conn) line = is_some (answer_in panels (typed_text line))
-is_understood panels command.Settle line = true
-is_understood panels (command.Show terminal) line = true
-is_understood panels (command.Status terminal) line = true
-is_understood panels (command.Question conn) line = true
+is_understood panels _ line = true
 
 abbrev pub if_understood : Panels → Option ScriptCommand → List ℕ → Option ScriptCommand
 if_understood panels None line = None

@@ -1,5 +1,5 @@
 -- An input with a panel text and a script, and the page that is printed for it (our profile).
-use Rattle.std.specs.Prelude.{◌≡◌, ℕ, ◌==◌, true, List, Option, drop, if◌then◌else◌}
+use Rattle.std.specs.Prelude.{◌≡◌, ℕ, ◌==◌, true, List, Option, drop}
 use Rattle.std.specs.List.{after_first}
 use Rattle.host_core.specs.declared.terminals.Terminals.{Terminals}
 use Rattle.lu_pool.specs.Reading.{IsReadFrom as IsPoolReadFrom, IsRight}

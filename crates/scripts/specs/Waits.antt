@@ -1,10 +1,6 @@
 -- How an operator waits for the host (our profile): the terminal sends its output, is fed one read, and so on.
 use Rattle.std.specs.Prelude.{◌≡◌, ◌≤◌, ◌⊎◌, ⊤, ℕ, Bool, true, false, List, [], ◌++◌}
-use Rattle.tn3270e_msg.specs.declared.cause.Fed.{Fed}
-use Rattle.tn3270e_msg.specs.declared.cause.Stop.{Stop}
-use Rattle.tn3270e_msg.specs.declared.cause.Stop.TheVariants.{Going, Memory, Closed as ClosedStop}
 use Rattle.term_core.specs.Bytes.{TakesBytes}
-use Rattle.term_core.specs.Feeds.{Feeds}
 use Rattle.term_core.specs.State.{Link, Terminal, Detached, Attached, Closed, lost}
 use Rattle.jobs.specs.Counting.{CutShort, Output, Reads, Written}
 use Rattle.scripts.specs.Operating.{IsWaitOver}
@@ -34,12 +30,6 @@ HasClosed Detached = ⊥
 HasClosed (Attached rest talk) = ⊥
 HasClosed (Closed cause) = ⊤
 
--- whether memory was refused
-abbrev pub is_memory : Stop → Bool
-is_memory Memory = true
-is_memory Going = false
-is_memory (ClosedStop cause) = false
-
 -- Holds if a terminal is fed bytes: it takes all of them, or closes the connection at one of them.
 pub record IsFed (old : Terminal) (bytes : List ℕ) (new : Terminal) : Type 0 where
   pub front : List ℕ
@@ -48,21 +38,10 @@ pub record IsFed (old : Terminal) (bytes : List ℕ) (new : Terminal) : Type 0 w
   pub takes : TakesBytes old front new
   pub whole : (rest ≡ []) ⊎ HasClosed new.link
 
--- Holds if a terminal is fed bytes and stops for this reason.
-pub record FeedsAll (room : ℕ) (stop : Stop) (old : Terminal) (bytes : List ℕ) (new : Terminal) : Type 0 where
-  pub fed : Fed
-  pub feeds : Feeds room old bytes fed new
-  pub stop_is : stop ≡ fed.stop
-
 -- Holds if all output of a terminal is sent, or if the write fails and the terminal is detached.
 abbrev pub SendsAll : Bool → (old new : Terminal) (up_old up_new : Output) → Type 0
 SendsAll true old new up_old up_new = Written up_old up_new old.out × (new ≡ record old { out = [] })
 SendsAll false old new up_old up_new = CutShort up_old up_new old.out × (new ≡ lost old)
-
--- Holds for the last send of a wait: all output, if the wait used all of its reads.
-abbrev pub SendsLast : WaitEnd → (old new : Terminal) (up_old up_new : Output) → Type 0
-SendsLast Over old new up_old up_new = (new ≡ old) × (up_new ≡ up_old)
-SendsLast ReadsUsedUp old new up_old up_new = (all_sent : Bool) × SendsAll all_sent old new up_old up_new
 
 module _ {D : Type 0} (gave : D → ℕ → List ℕ → Answer → D → Type 0) where
   abbrev pub GaveOn : D → ℕ → List ℕ → Answer → D → Type 0

@@ -9,12 +9,8 @@ use std::alloc::Global;
 fn print_report<O: Sink>(alloc: Global, name: &str, input: &str, out: &mut O) -> Result<bool, Fault>
     ensures { EndsReporting result input.now (O.seen out.old) (O.seen out.new) }
 {
-    let Ok(report) = panel_check::check(alloc, input) else {
-        return Err(Fault::NoMemory);
-    };
-    let Ok(page) = report.page(alloc, name) else {
-        return Err(Fault::NoMemory);
-    };
+    let report = panel_check::check(alloc, input)?;
+    let page = report.page(alloc, name)?;
     match out.write_all(page.as_bytes()) {
         Ok(()) => Ok(report.faults() == 0),
         Err(_) => Err(Fault::OutputFailed),

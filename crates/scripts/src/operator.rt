@@ -5,7 +5,7 @@ ghost use Rattle.term_core.specs.ScreenText.{screen_text};
 ghost use Rattle.term_core.specs.State.{phase_of};
 ghost use Rattle.scripts.specs.Operating.{after_text, is_wait_over, phase_line, refusal_in, refusal_text, said_of_key, said_of_text};
 ghost use Rattle.jobs.specs.Counting.{GivesWithin, bytes_given};
-ghost use Rattle.scripts.specs.Waits.{FeedsAll, HasExchanged, HasWaited, IsFed, SendsAll, SendsLast, is_memory, read_room};
+ghost use Rattle.scripts.specs.Waits.{HasExchanged, HasWaited, IsFed, SendsAll, read_room};
 
 use jobs::{Answer, Sink, Source};
 use keyboard::{Key, Lock, Pressed, Refusal};
@@ -22,23 +22,14 @@ const READ_ROOM: usize = 16_384;
 
 // ---- keys
 
-/// The reason for which a key was refused; None if it wasn't.
-fn refusal_in(pressed: &Pressed) -> Option<Refusal>
-    ensures { result ≡ refusal_in pressed.now }
-{
-    match pressed {
-        Pressed::Refused(why) => Some(*why),
-        Pressed::Done | Pressed::Send(_) => None,
-    }
-}
-
 /// Presses a key. Returns the reason if it is refused. An error if memory is refused.
 fn press_once(terminal: &mut Terminal, key: Key) -> Result<Option<Refusal>, AllocError>
     ensures pressed { OnOk result (terminal.new.terminal ≡ after_key key terminal.old.terminal) }
     ensures refusal { IfOk result (λ refusal. refusal ≡ refusal_in (answer_to_key key terminal.old.terminal)) }
 {
     match terminal.press(key) {
-        Ok(pressed) => Ok(refusal_in(&pressed)),
+        Ok(Pressed::Refused(why)) => Ok(Some(why)),
+        Ok(Pressed::Done | Pressed::Send(_)) => Ok(None),
         Err(error) => Err(error),
     }
 }
@@ -129,23 +120,6 @@ fn send_all<U: Sink>(terminal: &mut Terminal, up: &mut U) -> bool
     }
 }
 
-/// Whether memory was refused.
-fn is_memory(stop: Stop) -> bool
-    ensures { result ≡ is_memory stop }
-{
-    match stop {
-        Stop::Memory => true,
-        Stop::Going | Stop::Closed(_) => false,
-    }
-}
-
-/// Feeds bytes to a terminal, and returns why it stopped.
-fn feed_all(terminal: &mut Terminal, bytes: &[u8]) -> Stop
-    ensures { FeedsAll terminal.new.room result terminal.old.terminal bytes.now terminal.new.terminal }
-{
-    terminal.feed(bytes).stop
-}
-
 /// Reads a connection once, into a buffer of `READ_ROOM` bytes.
 fn read_host<D: Source>(down: &mut D, buffer: &mut [u8]) -> Answer
     requires { length buffer.old ≡ read_room }
@@ -161,10 +135,10 @@ fn take(terminal: &mut Terminal, bytes: &[u8]) -> Result<(), AllocError>
     requires { is_wait_over (phase_of terminal.old.terminal.link) terminal.old.terminal.station.keyboard.lock ≡ false }
     ensures { OnOk result (IsFed terminal.old.terminal bytes.now terminal.new.terminal) }
 {
-    if is_memory(feed_all(terminal, bytes)) {
-        return Err(AllocError);
+    match terminal.feed(bytes).stop {
+        Stop::Memory => Err(AllocError),
+        Stop::Going | Stop::Closed(_) => Ok(()),
     }
-    Ok(())
 }
 
 /// How the reads of a wait ended.
@@ -206,18 +180,6 @@ fn exchange<D: Source, U: Sink>(
     Ok(WaitEnd::ReadsUsedUp)
 }
 
-/// Sends all output of a terminal if the wait used all of its reads.
-fn send_last<U: Sink>(exchanged: WaitEnd, terminal: &mut Terminal, up: &mut U)
-    ensures { SendsLast exchanged terminal.old.terminal terminal.new.terminal (U.seen up.old) (U.seen up.new) }
-{
-    match exchanged {
-        WaitEnd::Over => {}
-        WaitEnd::ReadsUsedUp => {
-            let _ = send_all(terminal, up);
-        }
-    }
-}
-
 /// Waits for the host until the keyboard is free, the host refuses an LU or closes the connection, the connection is
 /// lost, or 1,000 reads are made. After that all output has been sent. A terminal is detached if its connection ends or
 /// fails.
@@ -229,7 +191,8 @@ pub(crate) fn wait<D: Source, U: Sink>(
     ensures { OnOk result (HasWaited D.gave terminal.old.terminal terminal.new.terminal down.old down.new
         (U.seen up.old) (U.seen up.new)) }
 {
-    let exchanged = exchange(terminal, down, up)?;
-    send_last(exchanged, terminal, up);
+    if let WaitEnd::ReadsUsedUp = exchange(terminal, down, up)? {
+        let _ = send_all(terminal, up);
+    }
     Ok(())
 }

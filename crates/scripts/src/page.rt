@@ -107,9 +107,7 @@ pub(crate) fn print_page<O: Sink>(
 ) -> Result<(), Fault>
     ensures { EndsPrinting (Show model) (ending_of result) text.now (O.seen out.old) (O.seen out.new) }
 {
-    let Ok(page) = page_of(alloc, model, text) else {
-        return Err(Fault::NoMemory);
-    };
+    let page = page_of(alloc, model, text)?;
     if out.write_all(page.text.as_bytes()).is_err() {
         return Err(Fault::OutputFailed);
     }

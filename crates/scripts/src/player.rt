@@ -101,15 +101,8 @@ fn is_in_range(command: &ScriptCommand) -> bool
     ensures { result ≡ is_in_range terminal_count command.now }
 {
     match command {
-        ScriptCommand::Nothing
-        | ScriptCommand::Happen(_)
-        | ScriptCommand::TypeText(_)
-        | ScriptCommand::Answer(_)
-        | ScriptCommand::Settle
-        | ScriptCommand::Question(_) => true,
-        ScriptCommand::Show(terminal) | ScriptCommand::Status(terminal) => {
-            *terminal < MODELS.len()
-        }
+        ScriptCommand::Show(terminal) | ScriptCommand::Status(terminal) => *terminal < MODELS.len(),
+        _ => true,
     }
 }
 

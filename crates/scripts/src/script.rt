@@ -24,10 +24,7 @@ pub(crate) fn print_script<O: Sink>(
 ) -> Result<(), Fault>
     ensures { EndsPrinting (Script terminals) (ending_of result) text.now (O.seen out.old) (O.seen out.new) }
 {
-    let page = match page_of_script(alloc, terminals, text) {
-        Ok(page) => page,
-        Err(fault) => return Err(fault),
-    };
+    let page = page_of_script(alloc, terminals, text)?;
     if out.write_all(page.text.as_bytes()).is_err() {
         return Err(Fault::OutputFailed);
     }
@@ -51,15 +48,10 @@ fn page_of_script(alloc: Global, terminals: Terminals, input: &str) -> Result<Sc
     ensures fault { IfErr result (DefinesNoHost (panel_text input.now)) }
 {
     let (panel_text, script) = parted(input);
-    let mut world = match world_of(alloc, terminals, panel_text) {
-        Ok(world) => world,
-        Err(fault) => return Err(fault),
-    };
+    let mut world = world_of(alloc, terminals, panel_text)?;
     let mut text = String::new(alloc);
-    match play(alloc, &mut world, script, &mut text) {
-        Ok(stopped) => Ok(ScriptPage { text, stopped }),
-        Err(_) => Err(Fault::NoMemory),
-    }
+    let stopped = play(alloc, &mut world, script, &mut text)?;
+    Ok(ScriptPage { text, stopped })
 }
 
 // ---- the two parts of an input
@@ -90,12 +82,6 @@ fn world_of(alloc: Global, terminals: Terminals, text: &str) -> Result<World, Fa
     ensures world { IfOk result (IsWorldOf terminals text.now) }
     ensures fault { IfErr result (DefinesNoHost text.now) }
 {
-    let (panels, pool) = match application_of(alloc, text) {
-        Ok(parts) => parts,
-        Err(fault) => return Err(fault),
-    };
-    match World::serving(alloc, terminals, panels, pool, &MODELS) {
-        Ok(world) => Ok(world),
-        Err(_) => Err(Fault::NoMemory),
-    }
+    let (panels, pool) = application_of(alloc, text)?;
+    Ok(World::serving(alloc, terminals, panels, pool, &MODELS)?)
 }
