@@ -122,15 +122,11 @@ fn do_job<T: Iterator<Item = ()>>(rt: &HostRuntime, turns: T, job: &Job<'_>) -> 
             application,
             control,
         } => {
-            let file = match panels {
-                Some(panels) => Some(panels.as_str()),
-                None => None,
-            };
             let options = ServeOptions {
                 service,
                 application,
                 control,
-                file,
+                file: panels.as_ref().map(Operand::as_str),
             };
             serve(rt, turns, options)
         }

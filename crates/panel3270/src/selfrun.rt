@@ -48,8 +48,8 @@ impl LoopbackRun {
     fn turn(&mut self) -> Result<bool, Fault> {
         self.port.poll(poll_timeout(false), self.server.now())?;
         let mut moved = self.server.turn(&mut self.port.arrivals, &mut Unwatched)?;
-        for number in 0..self.terminals.len() {
-            moved |= self.terminals[number].turn()?;
+        for terminal in &mut self.terminals {
+            moved |= terminal.turn()?;
         }
         Ok(moved)
     }
@@ -92,10 +92,10 @@ impl LoopbackRun {
 
     /// Presses a key at a terminal.
     fn press(&mut self, terminal: usize, key: Key) -> Result<Stepped, Fault> {
-        if terminal >= self.terminals.len() {
-            return Ok(Stepped::Skipped);
+        match self.terminals.get_mut(terminal) {
+            Some(at) => at.press(key),
+            None => Ok(Stepped::Skipped),
         }
-        self.terminals[terminal].press(key)
     }
 
     /// Types the characters of a text at a terminal, up to the first that is refused.
@@ -121,9 +121,9 @@ impl LoopbackRun {
         let Some(row) = self.server.session_row(conn) else {
             return Ok(Stepped::Skipped);
         };
-        for number in 0..self.terminals.len() {
-            if self.terminals[number].is_at(row.peer) {
-                self.terminals[number].disconnect();
+        for terminal in &mut self.terminals {
+            if terminal.is_at(row.peer) {
+                terminal.disconnect();
                 return Ok(Stepped::Done);
             }
         }
@@ -169,25 +169,11 @@ impl LoopbackRun {
         line: &str,
         text: &mut String,
     ) -> Result<bool, Fault> {
-        match answer_in(alloc, self.server.host().panels(), typed_text(line))? {
-            Some(answer) => {
-                put_answer(text, self.answer(conn, &answer)?)?;
-                Ok(true)
-            }
-            None => Ok(false),
-        }
-    }
-
-    /// Adds the open question of a connection.
-    fn put_question(
-        &self,
-        alloc: Global,
-        conn: usize,
-        text: &mut String,
-    ) -> Result<(), AllocError> {
-        let host = self.server.host();
-        let question = question_on(host, conn)?;
-        put_question(alloc, text, host.panels(), &question)
+        let Some(answer) = answer_in(alloc, self.server.host().panels(), typed_text(line))? else {
+            return Ok(false);
+        };
+        put_answer(text, self.answer(conn, &answer)?)?;
+        Ok(true)
     }
 
     /// Executes a command, and adds its output. False if its line is invalid, or if scripts over sockets don't have
@@ -219,7 +205,11 @@ impl LoopbackRun {
                     put_phase(&at.terminal, text)?;
                 }
             }
-            ScriptCommand::Question(conn) => self.put_question(rt.alloc(), *conn, text)?,
+            ScriptCommand::Question(conn) => {
+                let host = self.server.host();
+                let question = question_on(host, *conn)?;
+                put_question(rt.alloc(), text, host.panels(), &question)?;
+            }
         }
         Ok(true)
     }

@@ -1,10 +1,8 @@
 //! A terminal with the socket of its connection.
-ghost use Rattle.std.specs.Prelude.{length};
-ghost use Rattle.host_core.specs.Serves.{GotWithin};
 
 use codes3270::Model;
 use host_core::{LinkRead, LinkWrite};
-use jobs::{CHUNK, Fault, read_once, write_once};
+use jobs::{CHUNK, Fault, SocketSlot};
 use keyboard::Key;
 use mio::net::TcpStream;
 use std::alloc::{AllocError, Global};
@@ -13,11 +11,12 @@ use term_core::{TermPhase, Terminal};
 use tn3270e_msg::{Lu, Stop};
 use world3270::Stepped;
 
-/// A terminal, and the socket of its connection if there is one.
+/// A terminal, and its connection with its local address, if there is one.
 #[derive(Drop)]
 pub(crate) struct SocketTerminal {
     pub(crate) terminal: Terminal,
-    socket: Option<TcpStream>,
+    socket: SocketSlot<TcpStream>,
+    address: Option<SocketAddr>,
 }
 
 impl SocketTerminal {
@@ -25,7 +24,8 @@ impl SocketTerminal {
     pub(crate) fn new(alloc: Global, model: Model) -> Result<SocketTerminal, AllocError> {
         Ok(SocketTerminal {
             terminal: Terminal::new(alloc, model)?,
-            socket: None,
+            socket: SocketSlot::unused(),
+            address: None,
         })
     }
 
@@ -36,24 +36,23 @@ impl SocketTerminal {
 
     /// Whether its socket has this local address.
     pub(crate) fn is_at(&self, address: SocketAddr) -> bool {
-        match &self.socket {
-            Some(socket) => socket.local_addr().ok() == Some(address),
-            None => false,
-        }
+        self.address == Some(address)
     }
 
     /// Begins a connection, if the terminal is idle.
     pub(crate) fn connect(&mut self, socket: TcpStream, wanted: Option<Lu>) {
         if let TermPhase::Idle = self.terminal.phase() {
             self.terminal.connected(wanted);
-            self.socket = Some(socket);
+            self.address = socket.local_addr().ok();
+            self.socket.open(socket);
         }
     }
 
     /// Ends the connection, and closes the socket. Unsent output is lost.
     pub(crate) fn disconnect(&mut self) {
         self.terminal.lost();
-        self.socket = None;
+        self.socket.close();
+        self.address = None;
     }
 
     /// Presses a key, and returns the answer to that event.
@@ -64,25 +63,9 @@ impl SocketTerminal {
         }
     }
 
-    /// Reads the socket once; NotNow if there is no connection.
-    fn read(&mut self, buffer: &mut [u8]) -> LinkRead
-        ensures { GotWithin result (length buffer.new) }
-    {
-        match &mut self.socket {
-            Some(socket) => read_once(socket, buffer),
-            None => LinkRead::NotNow,
-        }
-    }
-
     /// Writes the terminal's output once. Answers whether a byte was taken. A failed connection is noticed by a read.
     fn send(&mut self) -> bool {
-        if self.terminal.out().is_empty() {
-            return false;
-        }
-        let Some(socket) = &mut self.socket else {
-            return false;
-        };
-        match write_once(socket, self.terminal.out()) {
+        match self.socket.write(self.terminal.out()) {
             LinkWrite::Took(count) => {
                 self.terminal.sent(count);
                 true
@@ -95,7 +78,7 @@ impl SocketTerminal {
     /// terminal closes it. Answers whether a byte was read or written.
     pub(crate) fn turn(&mut self) -> Result<bool, Fault> {
         let mut buffer = [0; CHUNK];
-        let count = match self.read(&mut buffer) {
+        let count = match self.socket.read(&mut buffer) {
             LinkRead::Got(count) => count,
             LinkRead::NotNow => 0,
             LinkRead::Ended | LinkRead::Failed => {
