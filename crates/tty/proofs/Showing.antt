@@ -1,5 +1,5 @@
 -- What is written has a tty show a picture.
-use Rattle.std.proofs.Common.{◌≡◌, ℕ, ◌+◌, ◌*◌, ◌<◌, ◌≤◌, ◌==◌, ◌&&◌, ◌||◌, not, nat_lt, Bool, true, false, List, [], ◌∷◌, ◌++◌, length, drop, get_or, Option, Some, None, if◌then◌else◌, arith, refl, sym, ◌∙◌, ap, subst, eq-eqb}
+use Rattle.std.proofs.Common.{◌≡◌, inl, inr, ℕ, ◌+◌, ◌*◌, ◌<◌, ◌≤◌, ◌==◌, ◌&&◌, ◌||◌, not, nat_lt, Bool, true, false, List, [], ◌∷◌, ◌++◌, length, drop, get_or, Option, Some, None, if◌then◌else◌, arith, refl, sym, ◌∙◌, ap, subst, eq-eqb}
 use Rattle.std.specs.Prelude.{IfSome}
 use Rattle.std.proofs.Math.Nat.{mul-le-mul_right}
 use Rattle.std.proofs.lemmas.Bool.{and_parts, and_from, eqb-true, lt-ltb, ltb-true, ltb-false}
@@ -13,7 +13,7 @@ use Rattle.tty.specs.Pictures.{PictureParts, IsSized, blank_cell, same_cell, ori
 use Rattle.tty.specs.Spelling.{selection}
 use Rattle.tty.specs.Tty.{Tty, TtyCell, Rendition, Control, is_inside, after, after_all}
 use Rattle.tty.specs.Changes.{written, changes, update, redrawing, same_size, drawing_of}
-use Rattle.tty.specs.Drawn.{rendition_of, tty_cell, ShowsFrom, HasRoom, Shows, ShowsKnown}
+use Rattle.tty.specs.Drawn.{rendition_of, tty_cell, ShowsFrom, HasRoom, IsBeyond, Shows, ShowsKnown}
 
 -- ---- looks and cells that are the same
 
@@ -166,6 +166,25 @@ earlier cell grid one other before =
     earlier_by (other.row == one.row) (other.column == one.column) one other before refl refl in
     ap (λ (here : Bool). if here then tty_cell cell else grid other.row other.column) no
 
+beyond_by : (same_row same_column : Bool) (high columns : ℕ) (one other : Place) → one.row < high → one.column < columns
+    → IsBeyond high columns other → other.row == one.row ≡ same_row → other.column == one.column ≡ same_column → same_row && same_column ≡ false
+beyond_by false same_column high columns one other tall wide beyond row column = refl
+beyond_by true false high columns one other tall wide beyond row column = refl
+beyond_by true true high columns one other tall wide beyond row column =
+    let same_row : other.row ≡ one.row = eqb-true other.row one.row row in
+    let same_column : other.column ≡ one.column = eqb-true other.column one.column column in
+    absurd (elim beyond [ inl below ↦ omega (arith, below, same_row, tall) | inr right ↦ omega (arith, right, same_column, wide) ])
+
+-- a cell of a picture leaves each place beyond the picture as it is
+unreached : (cell : PictureCell) (grid : ℕ → ℕ → TtyCell) (high columns : ℕ) (one other : Place)
+    → (nat_lt one.row high && nat_lt one.column columns) ≡ true → IsBeyond high columns other
+    → grid_with one cell grid other.row other.column ≡ grid other.row other.column
+unreached cell grid high columns one other within beyond =
+    let parts = and_parts (nat_lt one.row high) (nat_lt one.column columns) within in
+    let no : (other.row == one.row && other.column == one.column) ≡ false =
+    beyond_by (other.row == one.row) (other.column == one.column) high columns one other (ltb-true one.row high parts.0) (ltb-true one.column columns parts.1) beyond refl refl in
+    ap (λ (here : Bool). if here then tty_cell cell else grid other.row other.column) no
+
 at_place : (cell : PictureCell) (grid : ℕ → ℕ → TtyCell) (place : Place) → grid_with place cell grid place.row place.column ≡ tty_cell cell
 at_place cell grid place =
     let row : place.row == place.row ≡ true = eq-eqb place.row place.row refl in
@@ -195,20 +214,21 @@ had_kept columns (new ∷ news) olds one place cell grid after written before ha
   had_kept columns news (drop 1 olds) one (next_place columns place) cell grid after written (before_next columns one place before) had.1,
 )
 
--- a tty after these cells were written where one with this grid and size was
-record GoesOn (columns : ℕ) (place : Place) (news : List PictureCell) (grid : ℕ → ℕ → TtyCell) (rows width : ℕ) (end : Tty) : Type 0 where
+-- a tty after these cells, of a picture of `high` rows, were written where one with this grid and size was
+record GoesOn (columns high : ℕ) (place : Place) (news : List PictureCell) (grid : ℕ → ℕ → TtyCell) (rows width : ℕ) (end : Tty) : Type 0 where
   shows : ShowsFrom columns place news end.grid
+  beyond : (other : Place) → IsBeyond high columns other → end.grid other.row other.column ≡ grid other.row other.column
   kept : (other : Place) → Before other place → end.grid other.row other.column ≡ grid other.row other.column
   rows_kept : end.rows ≡ rows
   columns_kept : end.columns ≡ width
   sound : end.garbled ≡ false
 
 -- that of the cells from a place on
-abbrev Rest : ℕ → Place → List PictureCell → List PictureCell → Type 0
-Rest columns place olds news =
+abbrev Rest : (columns high : ℕ) → Place → List PictureCell → List PictureCell → Type 0
+Rest columns high place olds news =
     (run : Option Look) (tty : Tty) → HadFrom columns place olds news tty.grid → Running place run tty
-    → InsideFrom tty.rows tty.columns columns place news → tty.garbled ≡ false
-    → GoesOn columns place news tty.grid tty.rows tty.columns (after_all (changes columns place run olds news) tty)
+    → InsideFrom tty.rows tty.columns columns place news → InsideFrom high columns columns place news → tty.garbled ≡ false
+    → GoesOn columns high place news tty.grid tty.rows tty.columns (after_all (changes columns place run olds news) tty)
 
 running_on : (last : Bool) (place : Place) (cell : PictureCell) (tty : Tty) → tty.cursor ≡ record { row = place.row; column = place.column + 1 }
     → tty.rendition ≡ rendition_of cell.look
@@ -216,23 +236,24 @@ running_on : (last : Bool) (place : Place) (cell : PictureCell) (tty : Tty) → 
 running_on true place cell tty cursor rendition = tt
 running_on false place cell tty cursor rendition = (cursor, rendition)
 
-step : (same : Bool) (columns : ℕ) (place : Place) (run : Option Look) (old new : PictureCell) (olds news : List PictureCell) (tty : Tty)
-    → same_cell old new ≡ same → Rest columns (next_place columns place) olds news
+step : (same : Bool) (columns high : ℕ) (place : Place) (run : Option Look) (old new : PictureCell) (olds news : List PictureCell) (tty : Tty)
+    → same_cell old new ≡ same → Rest columns high (next_place columns place) olds news
     → tty.grid place.row place.column ≡ tty_cell old → HadFrom columns (next_place columns place) olds news tty.grid
-    → Running place run tty → InsideFrom tty.rows tty.columns columns place (new ∷ news) → tty.garbled ≡ false
-    → GoesOn columns place (new ∷ news) tty.grid tty.rows tty.columns
+    → Running place run tty → InsideFrom tty.rows tty.columns columns place (new ∷ news) → InsideFrom high columns columns place (new ∷ news) → tty.garbled ≡ false
+    → GoesOn columns high place (new ∷ news) tty.grid tty.rows tty.columns
     (after_all ((if same then [] else written place run new)
     ++ changes columns (next_place columns place) (if same then None else if place.column + 1 == columns then None else Some new.look) olds news) tty)
-step true columns place run old new olds news tty e rest was had running inside sound =
-    let on = rest None tty had tt inside.1 sound in
+step true columns high place run old new olds news tty e rest was had running inside within sound =
+    let on = rest None tty had tt inside.1 within.1 sound in
     record {
       shows = (on.kept place (behind columns place) ∙ was ∙ ap tty_cell (same_cells old new e), on.shows);
+      beyond = on.beyond;
       kept = λ other before. on.kept other (before_next columns other place before);
       rows_kept = on.rows_kept;
       columns_kept = on.columns_kept;
       sound = on.sound;
     }
-step false columns place run old new olds news tty e rest was had running inside sound =
+step false columns high place run old new olds news tty e rest was had running inside within sound =
     let next : Place = next_place columns place in
     let goes : Option Look = if place.column + 1 == columns then None else Some new.look in
     let now : Tty = after_all (written place run new) tty in
@@ -240,12 +261,13 @@ step false columns place run old new olds news tty e rest was had running inside
     let fits : InsideFrom now.rows now.columns columns next news =
     subst (λ (rows : ℕ). InsideFrom rows now.columns columns next news) (sym w.rows_kept)
     (subst (λ (width : ℕ). InsideFrom tty.rows width columns next news) (sym w.columns_kept) inside.1) in
-    let on : GoesOn columns next news now.grid now.rows now.columns (after_all (changes columns next goes olds news) now) =
+    let on : GoesOn columns high next news now.grid now.rows now.columns (after_all (changes columns next goes olds news) now) =
     rest goes now (had_kept columns news olds place next new tty.grid now.grid w.shown (behind columns place) had)
-    (running_on (place.column + 1 == columns) place new now w.cursor w.rendition) fits w.sound in
-    subst (GoesOn columns place (new ∷ news) tty.grid tty.rows tty.columns) (sym (after_joined (written place run new) (changes columns next goes olds news) tty))
+    (running_on (place.column + 1 == columns) place new now w.cursor w.rendition) fits within.1 w.sound in
+    subst (GoesOn columns high place (new ∷ news) tty.grid tty.rows tty.columns) (sym (after_joined (written place run new) (changes columns next goes olds news) tty))
     record {
       shows = (on.kept place (behind columns place) ∙ w.shown place.row place.column ∙ at_place new tty.grid place, on.shows);
+      beyond = λ other is. on.beyond other is ∙ w.shown other.row other.column ∙ unreached new tty.grid high columns place other within.0 is;
       kept = λ other before.
           on.kept other (before_next columns other place before) ∙ w.shown other.row other.column ∙ earlier new tty.grid place other before;
       rows_kept = on.rows_kept ∙ w.rows_kept;
@@ -253,13 +275,13 @@ step false columns place run old new olds news tty e rest was had running inside
       sound = on.sound;
     }
 
-changes_shown : (columns : ℕ) (place : Place) (olds news : List PictureCell) → Rest columns place olds news
-changes_shown columns place olds [] run tty had running inside sound =
-    record { shows = tt; kept = λ other before. refl; rows_kept = refl; columns_kept = refl; sound = sound }
-changes_shown columns place olds (new ∷ news) run tty had running inside sound =
+changes_shown : (columns high : ℕ) (place : Place) (olds news : List PictureCell) → Rest columns high place olds news
+changes_shown columns high place olds [] run tty had running inside within sound =
+    record { shows = tt; beyond = λ other is. refl; kept = λ other before. refl; rows_kept = refl; columns_kept = refl; sound = sound }
+changes_shown columns high place olds (new ∷ news) run tty had running inside within sound =
     let old : PictureCell = get_or olds 0 blank_cell in
-    step (same_cell old new) columns place run old new (drop 1 olds) news tty refl
-    (changes_shown columns (next_place columns place) (drop 1 olds) news) had.0 had.1 running inside sound
+    step (same_cell old new) columns high place run old new (drop 1 olds) news tty refl
+    (changes_shown columns high (next_place columns place) (drop 1 olds) news) had.0 had.1 running inside within sound
 
 -- ---- a whole picture
 
@@ -312,10 +334,15 @@ had_erased columns place [] grid blank = tt
 had_erased columns place (new ∷ news) grid blank =
     (blank place.row place.column, had_erased columns (next_place columns place) news grid blank)
 
+-- beyond a picture of this size the tty shows blanks
+abbrev IsBlankBeyond : (rows columns : ℕ) → (ℕ → ℕ → TtyCell) → Type 0
+IsBlankBeyond rows columns grid = (place : Place) → IsBeyond rows columns place → grid place.row place.column ≡ tty_cell blank_cell
+
 -- the cells that changed, and the cursor
 update_shown : (olds : List PictureCell) (picture : PictureParts) (tty : Tty) → IsSized picture → HasRoom picture tty
-    → HadFrom picture.columns origin olds picture.cells tty.grid → tty.garbled ≡ false → Shows picture (after_all (update olds picture) tty)
-update_shown olds picture tty sized room had sound =
+    → HadFrom picture.columns origin olds picture.cells tty.grid → IsBlankBeyond picture.rows picture.columns tty.grid
+    → tty.garbled ≡ false → Shows picture (after_all (update olds picture) tty)
+update_shown olds picture tty sized room had blank sound =
     let written_cells : List Control = changes picture.columns origin None olds picture.cells in
     let now : Tty = after_all written_cells tty in
     let many : length picture.cells ≤ picture.rows * picture.columns = omega (arith, sized.cells) in
@@ -323,9 +350,10 @@ update_shown olds picture tty sized room had sound =
     let column : picture.cursor.column < picture.columns = sized.column in
     let tall : picture.rows ≤ tty.rows = room.rows in
     let wide : picture.columns ≤ tty.columns = room.columns in
-    let on : GoesOn picture.columns origin picture.cells tty.grid tty.rows tty.columns now =
-    changes_shown picture.columns origin olds picture.cells None tty had tt
-    (inside_from tty.rows tty.columns picture.columns picture.rows origin picture.cells tall wide (omega (arith, many)) (omega (arith, column))) sound in
+    let on : GoesOn picture.columns picture.rows origin picture.cells tty.grid tty.rows tty.columns now =
+    changes_shown picture.columns picture.rows origin olds picture.cells None tty had tt
+    (inside_from tty.rows tty.columns picture.columns picture.rows origin picture.cells tall wide (omega (arith, many)) (omega (arith, column)))
+    (inside_from picture.rows picture.columns picture.columns picture.rows origin picture.cells (omega arith) (omega arith) (omega (arith, many)) (omega (arith, column))) sound in
     let rows_now : now.rows ≡ tty.rows = on.rows_kept in
     let columns_now : now.columns ≡ tty.columns = on.columns_kept in
     let sound_now : now.garbled ≡ false = on.sound in
@@ -333,13 +361,13 @@ update_shown olds picture tty sized room had sound =
     and_from (nat_lt picture.cursor.row now.rows) (nat_lt picture.cursor.column now.columns)
     (lt-ltb picture.cursor.row now.rows (omega (arith, row, tall, rows_now))) (lt-ltb picture.cursor.column now.columns (omega (arith, column, wide, columns_now))) in
     subst (Shows picture) (sym (after_joined written_cells (Control.CursorTo picture.cursor ∷ []) tty))
-    record { cells = on.shows; cursor = refl; sound = rw (sound_now, inside) refl }
+    record { cells = on.shows; beyond = λ place is. on.beyond place is ∙ blank place is; cursor = refl; sound = rw (sound_now, inside) refl }
 
 redrawing_shown : (picture : PictureParts) (tty : Tty) → IsSized picture → HasRoom picture tty → Shows picture (after_all (redrawing picture) tty)
 redrawing_shown picture tty sized room =
     let erased : Tty = after Control.EraseAll (after (Control.SelectRendition 0 []) tty) in
     update_shown [] picture erased sized (record { rows = room.rows; columns = room.columns })
-    (had_erased picture.columns origin picture.cells erased.grid (λ row column. refl)) refl
+    (had_erased picture.columns origin picture.cells erased.grid (λ row column. refl)) (λ place is. refl) refl
 
 over_shown : (same : Bool) (shown picture : PictureParts) (tty : Tty) → same_size shown picture ≡ same → IsSized shown → IsSized picture
     → HasRoom picture tty → Shows shown tty → Shows picture (after_all (if same then update shown.cells picture else redrawing picture) tty)
@@ -353,6 +381,8 @@ over_shown true shown picture tty e old sized room shows =
     update_shown shown.cells picture tty sized room
     (had_from picture.columns origin shown.cells picture.cells tty.grid (omega (arith, many))
     (subst (λ (count : ℕ). ShowsFrom count origin shown.cells tty.grid) columns shows.cells))
+    (subst (λ (high : ℕ). IsBlankBeyond high picture.columns tty.grid) rows
+    (subst (λ (width : ℕ). IsBlankBeyond shown.rows width tty.grid) columns shows.beyond))
     shows.sound
 
 pub controls_shown : (known : Option PictureParts) (picture : PictureParts) → IfSome known IsSized → IsSized picture

@@ -1,10 +1,10 @@
 -- When a tty shows a picture.
-use Rattle.std.specs.Prelude.{◌≡◌, ℕ, ◌≤◌, true, false, List, [], ◌∷◌, Option, Some, None}
+use Rattle.std.specs.Prelude.{◌≡◌, ◌⊎◌, ℕ, ◌≤◌, true, false, List, [], ◌∷◌, Option, Some, None}
 use Rattle.tty.specs.declared.place.Place.{Place}
 use Rattle.tty.specs.declared.look.Look.{Look}
 use Rattle.tty.specs.declared.look.Look.TheVariants.{Plain, UnprotectedNormal, UnprotectedBright, ProtectedNormal, ProtectedBright}
 use Rattle.tty.specs.declared.picture.PictureCell.{PictureCell}
-use Rattle.tty.specs.Pictures.{PictureParts, origin, next_place}
+use Rattle.tty.specs.Pictures.{PictureParts, blank_cell, origin, next_place}
 use Rattle.tty.specs.Spelling.{all_spelt}
 use Rattle.tty.specs.Changes.{drawing_of}
 use Rattle.tty.specs.Reading.{read}
@@ -33,9 +33,16 @@ pub record HasRoom (picture : PictureParts) (tty : Tty) : Type 0 where
   pub rows : picture.rows ≤ tty.rows
   pub columns : picture.columns ≤ tty.columns
 
--- the tty shows the picture
+-- holds if a place is below or to the right of a picture with these rows and columns
+abbrev pub IsBeyond : (rows columns : ℕ) → Place → Type 0
+IsBeyond rows columns place = (rows ≤ place.row) ⊎ (columns ≤ place.column)
+
+-- The tty shows the picture in its upper left corner, and blanks at all other places: nothing of a larger picture that
+-- it showed before.
 pub record Shows (picture : PictureParts) (tty : Tty) : Type 0 where
   pub cells : ShowsFrom picture.columns origin picture.cells tty.grid
+  pub beyond : (place : Place) → IsBeyond picture.rows picture.columns place
+      → tty.grid place.row place.column ≡ tty_cell blank_cell
   pub cursor : tty.cursor ≡ picture.cursor
   pub sound : tty.garbled ≡ false
 
