@@ -254,6 +254,16 @@ pub record Draws (old new : Live) (drawn_old drawn_new : List ℕ) : Type 0 wher
   pub drawn : drawn_new ≡ drawn_old ++ all_spelt (drawing_of old.seat.shown (picture_at old.seat))
   pub live : new ≡ record old { seat = record old.seat { shown = Some (picture_at old.seat) } }
 
+-- whether some bytes came from the host
+abbrev pub has_bytes : List ℕ → Bool
+has_bytes [] = false
+has_bytes (byte ∷ bytes) = true
+
+-- Holds if the current picture is drawn, provided that this is due.
+abbrev pub DrawsIf : (is_due : Bool) → (old new : Live) → (drawn_old drawn_new : List ℕ) → Type 0
+DrawsIf true old new drawn_old drawn_new = Draws old new drawn_old drawn_new
+DrawsIf false old new drawn_old drawn_new = (new ≡ old) × (drawn_new ≡ drawn_old)
+
 -- the bytes that sound the tty's alarm, if it must sound
 abbrev pub alarm_bytes : (sounds : Bool) → List ℕ
 alarm_bytes true = encoded Control.Bell
@@ -269,16 +279,20 @@ pub record Resumes (old new : Live) : Type 0 where
   pub seat : new.seat ≡ resumed old.seat
   pub kept : new.kept ≡ old.kept
 
--- Holds for a turn: the host's bytes are taken, then the keys that were typed ahead, then those that are typed now;
--- then the tty is drawn, and sounds the alarm.
+-- Holds for a turn: the host's bytes are taken, and the tty is drawn if there are any. So a new panel is drawn before
+-- keys are pressed on it: first those that were typed ahead, then those that are typed now. Then the tty is drawn again,
+-- and sounds the alarm.
 pub record TakesTurn (came typed : List ℕ) (old new : Live) (drawn_old drawn_new : List ℕ) : Type 0 where
   pub heard : Live
   pub hears : Hears came old heard
+  pub seen : Live
+  pub panel : List ℕ
+  pub shows : DrawsIf (has_bytes came) heard seen drawn_old panel
   pub free : Live
-  pub resumes : Resumes heard free
+  pub resumes : Resumes seen free
   pub pressed : Live
   pub types : Types typed free pressed
   pub drawn : Live
   pub drawing : List ℕ
-  pub draws : Draws pressed drawn drawn_old drawing
+  pub draws : Draws pressed drawn panel drawing
   pub sounds : Sounds drawn new drawing drawn_new

@@ -7,7 +7,7 @@ ghost use Rattle.tty.specs.KeyReading.{read_byte};
 ghost use Rattle.tty.specs.Painting.{notice_of, page_of};
 ghost use Rattle.tty.specs.TtyRoom.{too_small_text};
 ghost use Rattle.operate.specs.KeyTable.{key_table};
-ghost use Rattle.operate.specs.Live.{Draws, Hears, ReadsTyped, Resumes, Sounds, TakesTurn, Types, after_help, after_key_at, after_keystroke, after_keystrokes, after_meaning, after_press, after_typing, all_typed, asks_after, first_seat, is_connected, is_enter, is_idle, is_keys, is_quit, is_reset, is_status, is_wait, lack_at, lu_place, page_at, picture_at, refusal_after, resized, screen_at, status_place, waits, with_key};
+ghost use Rattle.operate.specs.Live.{Draws, DrawsIf, Hears, ReadsTyped, Resumes, Sounds, TakesTurn, Types, after_help, after_key_at, after_keystroke, after_keystrokes, after_meaning, after_press, after_typing, all_typed, asks_after, first_seat, has_bytes, is_connected, is_enter, is_idle, is_keys, is_quit, is_reset, is_status, is_wait, lack_at, lu_place, page_at, picture_at, refusal_after, resized, screen_at, status_place, waits, with_key};
 
 use crate::key_table::KEY_TABLE;
 use codes3270::Model;
@@ -531,6 +531,21 @@ impl LiveTerminal {
         self.drawing.draw(picture, drawn)
     }
 
+    /// Appends the bytes with which the tty shows the screen after the host's bytes, if there are any.
+    fn show_heard(
+        &mut self,
+        alloc: Global,
+        came: &[u8],
+        drawn: &mut Vec<u8>,
+    ) -> Result<(), AllocError>
+        ensures { OnOk result (DrawsIf (has_bytes came.now) self.old self.new drawn.old.items drawn.new.items) }
+    {
+        if came.is_empty() {
+            return Ok(());
+        }
+        self.draw(alloc, drawn)
+    }
+
     /// Appends BEL, if a write of the host asked for the alarm.
     fn sound(&mut self, drawn: &mut Vec<u8>) -> Result<(), AllocError>
         ensures { OnOk result (Sounds self.old self.new drawn.old.items drawn.new.items) }
@@ -542,8 +557,8 @@ impl LiveTerminal {
     }
 
     /// One turn: takes the bytes received from the host, then the keys that were typed ahead, then the bytes typed at
-    /// the tty, and appends to `drawn` the bytes to be written to the tty, with BEL if a write asked for the alarm. The
-    /// bytes to be sent are then in `out`.
+    /// the tty, and appends to `drawn` the bytes to be written to the tty, with BEL if a write asked for the alarm. What
+    /// the host's bytes show is drawn before a key is pressed on it. The bytes to be sent are then in `out`.
     pub fn turn(
         &mut self,
         alloc: Global,
@@ -554,6 +569,7 @@ impl LiveTerminal {
         ensures { OnOk result (TakesTurn came.now typed.now self.old self.new drawn.old.items drawn.new.items) }
     {
         self.hear(came)?;
+        self.show_heard(alloc, came, drawn)?;
         self.resume(alloc)?;
         self.take_typed(typed)?;
         self.draw(alloc, drawn)?;

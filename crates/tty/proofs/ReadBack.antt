@@ -6,7 +6,9 @@ use Rattle.std.proofs.lemmas.Bool.{and_parts, eqb-true, ltb-true, false≢true}
 use Rattle.codes3270.proofs.Tables.{passes_at}
 use Rattle.tty.specs.declared.place.Place.{Place}
 use Rattle.tty.specs.declared.look.Look.{Look}
-use Rattle.tty.specs.declared.look.Look.TheVariants.{Plain, UnprotectedNormal, UnprotectedBright, ProtectedNormal, ProtectedBright}
+use Rattle.tty.specs.declared.look.Look.TheVariants.{Plain, UnprotectedNormal, UnprotectedBright, ProtectedNormal, ProtectedBright, Erased}
+use Rattle.tty.specs.declared.colors.Colors.{Colors}
+use Rattle.tty.specs.declared.colors.Colors.TheVariants.{Dark, Light, Terminal, Mono}
 use Rattle.tty.specs.StatusRow.{three_digits}
 use Rattle.tty.specs.Pictures.{is_graphic}
 use Rattle.tty.specs.Spelling.{encoded, all_spelt, selection}
@@ -81,12 +83,31 @@ graphic_read glyph graphic rest =
 
 -- ---- SGR, ED and BEL
 
-pub look_read : (look : Look) → IsReadBack (selection look)
-look_read Plain rest = refl
-look_read UnprotectedNormal rest = refl
-look_read UnprotectedBright rest = refl
-look_read ProtectedNormal rest = refl
-look_read ProtectedBright rest = refl
+pub look_read : (colors : Colors) (look : Look) → IsReadBack (selection colors look)
+look_read Dark Plain rest = refl
+look_read Dark UnprotectedNormal rest = refl
+look_read Dark UnprotectedBright rest = refl
+look_read Dark ProtectedNormal rest = refl
+look_read Dark ProtectedBright rest = refl
+look_read Dark Erased rest = refl
+look_read Light Plain rest = refl
+look_read Light UnprotectedNormal rest = refl
+look_read Light UnprotectedBright rest = refl
+look_read Light ProtectedNormal rest = refl
+look_read Light ProtectedBright rest = refl
+look_read Light Erased rest = refl
+look_read Terminal Plain rest = refl
+look_read Terminal UnprotectedNormal rest = refl
+look_read Terminal UnprotectedBright rest = refl
+look_read Terminal ProtectedNormal rest = refl
+look_read Terminal ProtectedBright rest = refl
+look_read Terminal Erased rest = refl
+look_read Mono Plain rest = refl
+look_read Mono UnprotectedNormal rest = refl
+look_read Mono UnprotectedBright rest = refl
+look_read Mono ProtectedNormal rest = refl
+look_read Mono ProtectedBright rest = refl
+look_read Mono Erased rest = refl
 
 pub default_read : IsReadBack (Control.SelectRendition 0 [])
 default_read rest = refl

@@ -4,14 +4,15 @@ use Rattle.codes3270.specs.declared.attribute.Cell.{Cell}
 use Rattle.codes3270.specs.declared.attribute.Cell.TheVariants.{Char}
 use Rattle.datastream.specs.Screen.{attribute_in, attribute_over}
 use Rattle.presentation.specs.Glyph.{blank, is_hidden}
+use Rattle.tty.specs.declared.colors.Colors.{Colors}
 use Rattle.tty.specs.Pictures.{PictureParts, IsSized}
 use Rattle.tty.specs.Painting.{painted_at, screen_cells}
 use Rattle.tty.specs.Drawn.{IsShownAfter}
 
--- What is written over any known picture, or on an unknown tty, makes the tty show the new picture.
+-- What is written over any known picture, or on an unknown tty, makes the tty show the new picture, in any colours.
 abbrev pub AreShown : Type 0
-AreShown = (known : Option PictureParts) (picture : PictureParts) → IfSome known IsSized → IsSized picture
-    → IsShownAfter known picture
+AreShown = (colors : Colors) (known : Option PictureParts) (picture : PictureParts) → IfSome known IsSized
+    → IsSized picture → IsShownAfter colors known picture
 
 -- Each cell of a hidden field is a blank.
 abbrev pub AreBlank : Type 0

@@ -1,4 +1,4 @@
--- How the cells of a screen look (our profile: the colours in which c3270 shows a host that names none).
+-- How the cells of a screen look (our profile: as c3270 shows a host that names no colours).
 use Rattle.std.specs.Prelude.{ℕ, ◌==◌, Bool, Option, Some, None, if◌then◌else◌}
 use Rattle.codes3270.specs.declared.attribute.Cell.{Cell}
 use Rattle.codes3270.specs.declared.attribute.Cell.TheVariants.{Char, Attr}
@@ -6,7 +6,7 @@ use Rattle.codes3270.specs.declared.attribute.Attr.{Attr as Attribute}
 use Rattle.codes3270.specs.declared.attribute.Display.{Display}
 use Rattle.codes3270.specs.declared.attribute.Display.TheVariants.{Normal, Detectable, Bright, Hidden}
 use Rattle.tty.specs.declared.look.Look.{Look}
-use Rattle.tty.specs.declared.look.Look.TheVariants.{Plain, UnprotectedNormal, UnprotectedBright, ProtectedNormal, ProtectedBright}
+use Rattle.tty.specs.declared.look.Look.TheVariants.{Plain, UnprotectedNormal, UnprotectedBright, ProtectedNormal, ProtectedBright, Erased}
 
 -- the look of the characters of a protected field
 abbrev pub protected_look : Display → Look
@@ -40,6 +40,7 @@ number_of UnprotectedNormal = 1
 number_of UnprotectedBright = 2
 number_of ProtectedNormal = 3
 number_of ProtectedBright = 4
+number_of Erased = 5
 
 abbrev pub same_look : Look → Look → Bool
 same_look one other = number_of one == number_of other

@@ -2,7 +2,7 @@
 use Rattle.std.specs.Prelude.{◌≡◌, ℕ, ◌+◌, ◌*◌, ◌<◌, ◌==◌, ◌&&◌, ◌||◌, Bool, true, List, length, if◌then◌else◌, nat_lt, nat_le}
 use Rattle.std.specs.List.{list_all}
 use Rattle.tty.specs.declared.place.Place.{Place}
-use Rattle.tty.specs.declared.look.Look.TheVariants.{Plain}
+use Rattle.tty.specs.declared.look.Look.TheVariants.{Plain, Erased}
 use Rattle.tty.specs.declared.picture.PictureCell.{PictureCell}
 use Rattle.tty.specs.Looks.{same_look}
 
@@ -30,12 +30,13 @@ pub record IsSized (picture : PictureParts) : Type 0 where
   pub few_columns : picture.columns < 1000
   pub graphic : list_all has_graphic picture.cells ≡ true
 
--- a cell with a character in the tty's own colour
+-- a cell with a character outside of any field
 abbrev pub plain : ℕ → PictureCell
 plain glyph = record { glyph = glyph; look = Plain }
 
-abbrev pub blank_cell : PictureCell
-blank_cell = plain 0x20
+-- the cell that an erased tty shows
+abbrev pub erased_cell : PictureCell
+erased_cell = record { glyph = 0x20; look = Erased }
 
 abbrev pub same_cell : PictureCell → PictureCell → Bool
 same_cell one other = one.glyph == other.glyph && same_look one.look other.look

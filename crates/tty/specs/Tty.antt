@@ -2,16 +2,18 @@
 use Rattle.std.specs.Prelude.{ℕ, ◌+◌, ◌==◌, ◌&&◌, ◌||◌, not, Bool, true, false, List, [], ◌∷◌, if◌then◌else◌, nat_lt}
 use Rattle.tty.specs.declared.place.Place.{Place}
 
+-- a colour: the tty's own, or one of its palette by name, or by its number in the palette of 256 (ISO 8613-6, 13.1.8)
 pub data Colour : Type 0 where
   Default : Colour
   Red : Colour
   Green : Colour
   Blue : Colour
-  White : Colour
+  Indexed : ℕ → Colour
 
 -- the graphic rendition of a character
 pub record Rendition : Type 0 where
-  pub colour : Colour
+  pub foreground : Colour
+  pub background : Colour
   pub bold : Bool
   pub underlined : Bool
 
@@ -40,24 +42,34 @@ pub data Control : Type 0 where
   Bell : Control
 
 abbrev pub default_rendition : Rendition
-default_rendition = record { colour = Colour.Default; bold = false; underlined = false }
+default_rendition = record {
+  foreground = Colour.Default;
+  background = Colour.Default;
+  bold = false;
+  underlined = false;
+}
 
--- SGR with one parameter: 0 default, 1 bold, 4 underlined, 31 red, 32 green, 34 blue, 37 white; others are not used
+-- SGR with one parameter: 0 default, 1 bold, 4 underlined, 31 red, 32 green, 34 blue; others are not used
 abbrev pub selected_by : ℕ → Rendition → Rendition
 selected_by parameter now =
     if parameter == 0 then default_rendition
     else if parameter == 1 then record now { bold = true }
     else if parameter == 4 then record now { underlined = true }
-    else if parameter == 31 then record now { colour = Colour.Red }
-    else if parameter == 32 then record now { colour = Colour.Green }
-    else if parameter == 34 then record now { colour = Colour.Blue }
-    else if parameter == 37 then record now { colour = Colour.White }
+    else if parameter == 31 then record now { foreground = Colour.Red }
+    else if parameter == 32 then record now { foreground = Colour.Green }
+    else if parameter == 34 then record now { foreground = Colour.Blue }
     else now
 
--- the rendition after the parameters of an SGR, which act one after another
+-- The rendition after the parameters of an SGR, which act one after another. 38, 5 and a number are the foreground by
+-- that number of the palette, 48, 5 and a number the background.
 abbrev pub selected : List ℕ → Rendition → Rendition
 selected [] now = now
-selected (parameter ∷ more) now = selected more (selected_by parameter now)
+selected (one ∷ []) now = selected_by one now
+selected (one ∷ two ∷ []) now = selected_by two (selected_by one now)
+selected (one ∷ two ∷ three ∷ more) now =
+    if one == 38 && two == 5 then selected more (record now { foreground = Colour.Indexed three })
+    else if one == 48 && two == 5 then selected more (record now { background = Colour.Indexed three })
+    else selected (two ∷ three ∷ more) (selected_by one now)
 
 abbrev pub is_inside : Tty → Place → Bool
 is_inside tty place = nat_lt place.row tty.rows && nat_lt place.column tty.columns

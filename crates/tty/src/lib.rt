@@ -24,7 +24,7 @@
 //! cells that changed are written. [`Drawing::forget`] makes the next call draw all.
 //!
 //! ```text
-//! let mut drawing = Drawing::new();
+//! let mut drawing = Drawing::new(Colors::Dark);
 //! check_room(screen.model().alternate(), rows, columns)?;
 //! let picture = Picture::new(alloc, &screen, keyboard, &status)?;
 //! drawing.draw(picture, &mut out)?;
@@ -38,6 +38,7 @@
 //! row, and `Drawn` when a tty shows a picture. `Changes` is the list of what is written.
 #![tactic(auto)]
 
+mod colors;
 mod drawing;
 mod key_forms;
 mod key_reader;
@@ -51,6 +52,7 @@ mod place;
 mod room;
 mod status;
 
+pub use colors::Colors;
 pub use drawing::Drawing;
 pub use key_reader::KeyReader;
 pub use keystroke::{Keystroke, PushResult};

@@ -1,15 +1,14 @@
 //! The colours and renditions of a screen's cells.
 ghost use Rattle.std.specs.Prelude.{◌≡◌};
 ghost use Rattle.tty.specs.Looks.{number_of, look_under, look_of, protected_look, unprotected_look};
-ghost use Rattle.tty.specs.Spelling.{spelt_look};
 
 use codes3270::{Attr, Cell, Display};
 
-/// How a cell looks on the tty (our profile): the colours in which c3270 shows a host that names none. Unprotected
-/// cells are underlined, so that an empty field can be seen.
+/// How a cell looks on the tty (our profile): as c3270 shows a host that names no colours. Unprotected cells are
+/// underlined, so that an empty field can be seen. [`Colors`](crate::Colors) says which colour each look has.
 #[derive(Clone, Copy, PartialEq, Eq)]
 pub enum Look {
-    /// The tty's own colour: for attributes, cells outside of any field, and the status row.
+    /// For attributes, cells outside of any field, and the status row.
     Plain,
     /// Unprotected at normal intensity, or hidden: green, underlined.
     UnprotectedNormal,
@@ -17,8 +16,10 @@ pub enum Look {
     UnprotectedBright,
     /// Protected at normal intensity, or hidden: blue.
     ProtectedNormal,
-    /// Protected at high intensity: bold white.
+    /// Protected at high intensity: bold, white or black.
     ProtectedBright,
+    /// Not drawn since the tty was erased: no cell of a screen looks so.
+    Erased,
 }
 
 impl Look {
@@ -32,19 +33,7 @@ impl Look {
             Look::UnprotectedBright => 2,
             Look::ProtectedNormal => 3,
             Look::ProtectedBright => 4,
-        }
-    }
-
-    /// The SGR that makes the characters after it look like this (ECMA-48, 8.3.117).
-    pub(crate) fn sgr(self) -> &'static [u8]
-        ensures { result.now ≡ spelt_look self }
-    {
-        match self {
-            Look::Plain => b"\x1b[0m",
-            Look::UnprotectedNormal => b"\x1b[0;4;32m",
-            Look::UnprotectedBright => b"\x1b[0;4;31m",
-            Look::ProtectedNormal => b"\x1b[0;34m",
-            Look::ProtectedBright => b"\x1b[0;1;37m",
+            Look::Erased => 5,
         }
     }
 }

@@ -6,6 +6,7 @@ ghost use Rattle.tty.specs.Spelling.{encoded, spelt_look, all_spelt};
 ghost use Rattle.tty.specs.Pictures.{origin};
 ghost use Rattle.tty.specs.Changes.{written, change, changes, run_after};
 
+use crate::colors::Colors;
 use crate::look::Look;
 use crate::picture::{PictureCell, three_digits};
 use crate::place::{Place, next_place};
@@ -38,10 +39,10 @@ pub(crate) fn put_place(out: &mut Vec<u8>, place: Place) -> Result<(), AllocErro
 }
 
 /// Appends the SGR that selects a look.
-fn put_look(out: &mut Vec<u8>, look: Look) -> Result<(), AllocError>
-    ensures { AppendsSome out.old out.new result (spelt_look look) }
+fn put_look(out: &mut Vec<u8>, colors: Colors, look: Look) -> Result<(), AllocError>
+    ensures { AppendsSome out.old out.new result (spelt_look colors look) }
 {
-    out.extend_from_slice(look.sgr())
+    out.extend_from_slice(colors.sgr(look))
 }
 
 /// Appends a graphic character in UTF-8.
@@ -53,42 +54,49 @@ fn put_glyph(out: &mut Vec<u8>, glyph: char) -> Result<(), AllocError>
 }
 
 /// Appends a cell's look and its character.
-fn put_looking(out: &mut Vec<u8>, cell: PictureCell) -> Result<(), AllocError>
-    ensures { AppendsSome out.old out.new result (spelt_look cell.look ++ encoded (Control.Graphic cell.glyph)) }
+fn put_looking(out: &mut Vec<u8>, colors: Colors, cell: PictureCell) -> Result<(), AllocError>
+    ensures { AppendsSome out.old out.new result (spelt_look colors cell.look ++ encoded (Control.Graphic cell.glyph)) }
 {
-    put_look(out, cell.look)?;
+    put_look(out, colors, cell.look)?;
     put_glyph(out, cell.glyph)
 }
 
 /// Appends the first cell of a run: its place, its look and its character.
-fn put_first(out: &mut Vec<u8>, place: Place, cell: PictureCell) -> Result<(), AllocError>
+fn put_first(
+    out: &mut Vec<u8>,
+    colors: Colors,
+    place: Place,
+    cell: PictureCell,
+) -> Result<(), AllocError>
     requires row { place.row < usize.MAX }
     requires column { place.column < usize.MAX }
-    ensures { AppendsSome out.old out.new result (all_spelt (written place None cell)) }
+    ensures { AppendsSome out.old out.new result (all_spelt (written colors place None cell)) }
 {
     put_place(out, place)?;
-    put_looking(out, cell)
+    put_looking(out, colors, cell)
 }
 
 /// Appends a further cell of a run whose last cell has this look.
 fn put_further(
     out: &mut Vec<u8>,
+    colors: Colors,
     place: Place,
     look: Look,
     cell: PictureCell,
 ) -> Result<(), AllocError>
-    ensures { AppendsSome out.old out.new result (all_spelt (written place (Some look) cell)) }
+    ensures { AppendsSome out.old out.new result (all_spelt (written colors place (Some look) cell)) }
 {
     if look.number() == cell.look.number() {
         put_glyph(out, cell.glyph)
     } else {
-        put_looking(out, cell)
+        put_looking(out, colors, cell)
     }
 }
 
 /// Appends a cell, if it changed: to the run with the look `run`, or, if there is none, as the first of one.
 fn put_change(
     out: &mut Vec<u8>,
+    colors: Colors,
     place: Place,
     run: Option<Look>,
     old: PictureCell,
@@ -96,14 +104,14 @@ fn put_change(
 ) -> Result<(), AllocError>
     requires row { place.row < usize.MAX }
     requires column { place.column < usize.MAX }
-    ensures { AppendsSome out.old out.new result (all_spelt (change place run old new)) }
+    ensures { AppendsSome out.old out.new result (all_spelt (change colors place run old new)) }
 {
     if old.is_same(new) {
         return Ok(());
     }
     match run {
-        None => put_first(out, place, new),
-        Some(look) => put_further(out, place, look, new),
+        None => put_first(out, colors, place, new),
+        Some(look) => put_further(out, colors, place, look, new),
     }
 }
 
@@ -121,20 +129,21 @@ fn run_after(columns: usize, place: Place, old: PictureCell, new: PictureCell) -
     }
 }
 
-/// Appends the cells that changed. A cell beyond the end of `olds` was blank.
+/// Appends the cells that changed. A cell beyond the end of `olds` was erased.
 pub(crate) fn put_changes(
     out: &mut Vec<u8>,
+    colors: Colors,
     columns: usize,
     olds: &[PictureCell],
     news: &[PictureCell],
 ) -> Result<(), AllocError>
-    ensures { AppendsSome out.old out.new result (all_spelt (changes columns origin None olds.now news.now)) }
+    ensures { AppendsSome out.old out.new result (all_spelt (changes colors columns origin None olds.now news.now)) }
 {
     let mut place = Place { row: 0, column: 0 };
     let mut run = None;
     for (index, new) in news.iter().enumerate() {
         let old = PictureCell::of(olds, index);
-        put_change(out, place, run, old, *new)?;
+        put_change(out, colors, place, run, old, *new)?;
         run = run_after(columns, place, old, *new);
         place = next_place(columns, place);
     }

@@ -1,7 +1,7 @@
 //! Pictures: what an operator sees.
 ghost use Rattle.std.specs.Prelude.{◌≡◌, ◌<◌, ◌≤◌, ◌*◌, ◌+◌, ◌-◌, ◌++◌, [], map, length, take, get_or, Bool, IfOk, OnOk, slice_index_or};
 ghost use Rattle.codes3270.specs.Size.{cells_in};
-ghost use Rattle.tty.specs.Pictures.{IsSized, blank_cell, same_cell, plain};
+ghost use Rattle.tty.specs.Pictures.{IsSized, erased_cell, same_cell, plain};
 ghost use Rattle.tty.specs.Changes.{same_size};
 ghost use Rattle.tty.specs.Painting.{notice_of, notice_side, page_cells, page_of, picture_of, painted_at, place_of, screen_cells, status_rows, with_status};
 ghost use Rattle.tty.specs.StatusRow.{in_columns, letter_at, three_digits, position_text, status_cells};
@@ -48,7 +48,7 @@ impl Model for Picture {
         (record { rows = p.rows; columns = p.columns; cells = p.cells.items; cursor = p.cursor }) };
 }
 
-/// A cell with a character in the tty's own colour.
+/// A cell with a character outside of any field.
 fn plain(glyph: char) -> PictureCell
     ensures { result ≡ plain glyph }
 {
@@ -60,17 +60,20 @@ fn plain(glyph: char) -> PictureCell
 
 impl PictureCell {
     /// The cell that an erased tty shows.
-    pub(crate) fn blank() -> PictureCell
-        ensures { result ≡ blank_cell }
+    pub(crate) fn erased() -> PictureCell
+        ensures { result ≡ erased_cell }
     {
-        plain(' ')
+        PictureCell {
+            glyph: ' ',
+            look: Look::Erased,
+        }
     }
 
-    /// The cell at an index; blank beyond the end.
+    /// The cell at an index; erased beyond the end.
     pub(crate) fn of(cells: &[PictureCell], index: usize) -> PictureCell
-        ensures { result ≡ slice_index_or cells.now index blank_cell }
+        ensures { result ≡ slice_index_or cells.now index erased_cell }
     {
-        cells.get(index).copied().unwrap_or(PictureCell::blank())
+        cells.get(index).copied().unwrap_or(PictureCell::erased())
     }
 
     /// Whether both cells have the same character and the same look.

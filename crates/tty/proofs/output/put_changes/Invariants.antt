@@ -10,6 +10,6 @@ invariant-loop-index l = record {
   row : l.place.row ≤ l.index;
   column : l.place.column ≤ l.index;
   appending :
-      IsAppending l.fn.out l.out (all_spelt (changes l.columns l.place l.run (drop l.index l.olds) (drop l.index l.news)))
-      (all_spelt (changes l.columns origin None l.olds l.news));
+      IsAppending l.fn.out l.out (all_spelt (changes l.colors l.columns l.place l.run (drop l.index l.olds) (drop l.index l.news)))
+      (all_spelt (changes l.colors l.columns origin None l.olds l.news));
 }
