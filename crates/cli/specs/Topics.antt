@@ -93,7 +93,8 @@ options_of topic.Term = needed (codes "port") kind.Port ∷ optional (codes "lu"
     ∷ optional (codes "model") kind.Model ∷ []
 options_of topic.Operate =
     needed (codes "port") kind.ServicePort ∷ optional (codes "host") kind.Address ∷ optional (codes "lu") kind.LuName
-    ∷ optional (codes "model") kind.Model ∷ optional (codes "raw") kind.TtySize ∷ []
+    ∷ optional (codes "model") kind.Model ∷ optional (codes "colors") kind.Colors
+    ∷ optional (codes "raw") kind.TtySize ∷ []
 options_of topic.Web =
     needed (codes "port") kind.ServicePort ∷ needed (codes "connect") kind.Host
     ∷ optional (codes "listen") kind.Address ∷ optional (codes "origin") kind.Url

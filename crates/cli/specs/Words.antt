@@ -16,7 +16,9 @@ use Rattle.codes3270.specs.declared.size.Model.{Model}
 use Rattle.host_core.specs.declared.terminals.Terminals.{Terminals}
 use Rattle.host_core.specs.declared.terminals.Terminals.TheVariants.{Any, Verified, Waiting}
 use Rattle.tn3270e_msg.specs.Lu.{lu_of}
-use Rattle.jobs.specs.OptionValues.{address_of, endpoint_of, is_same_port, model_of, port_of, reply_time_of, seconds_of, service_port_of, session_count_of, this_machine, tty_size_of, turns_of, usual_drain, usual_idle, usual_keep, usual_keepalive, usual_model, usual_negotiate, usual_reply_time, usual_sessions, usual_turns}
+use Rattle.tty.specs.Looks.{colors_named}
+use Rattle.tty.specs.declared.colors.Colors.{Colors}
+use Rattle.jobs.specs.OptionValues.{address_of, endpoint_of, is_same_port, model_of, port_of, reply_time_of, seconds_of, service_port_of, session_count_of, this_machine, tty_size_of, turns_of, usual_drain, usual_idle, usual_keep, usual_keepalive, usual_colors, usual_model, usual_negotiate, usual_reply_time, usual_sessions, usual_turns}
 use Rattle.cli.specs.Topics.{OptionRow, is_operand, jobs, name_of, options_of, takes_value, topic_named}
 use Rattle.jobs.specs.declared.job.Job.{Job}
 use Rattle.jobs.specs.declared.job.Job.TheVariants as job
@@ -75,6 +77,9 @@ given_lu options = option_map_or (λ word. option_map Some (lu_of word)) (first_
 
 abbrev pub given_model : List Row → Option Model
 given_model options = option_map_or model_of (first_of (codes "model") options) (Some usual_model)
+
+abbrev pub given_colors : List Row → Option Colors
+given_colors options = option_map_or colors_named (first_of (codes "colors") options) (Some usual_colors)
 
 abbrev pub given_service_port : List Row → Option ℕ
 given_service_port options = option_and_then service_port_of (first_of (codes "port") options)
@@ -145,13 +150,14 @@ sound_service options = option_and_then
 abbrev pub given_live_options : List Row → Option OperateOptions
 given_live_options options =
     option_and_then (λ host. option_and_then
-    (λ port. option_and_then (λ lu. option_and_then (λ model. option_map (λ tty. record {
+    (λ port. option_and_then (λ lu. option_and_then (λ model. option_and_then (λ tty. option_map (λ colors. record {
       host = host;
       port = port;
       lu = lu;
       model = model;
       tty = tty;
-    }) (given_tty options)) (given_model options)) (given_lu options)) (given_service_port options))
+      colors = colors;
+    }) (given_colors options)) (given_tty options)) (given_model options)) (given_lu options)) (given_service_port options))
     (given_address (codes "host") options)
 
 abbrev pub given_sessions : List Row → Option ℕ

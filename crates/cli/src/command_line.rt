@@ -7,7 +7,7 @@ ghost use Rattle.clap.specs.Values.{kind_of};
 ghost use Rattle.clap.specs.Walk.{first_of, rows_of};
 ghost use Rattle.jobs.specs.OptionValues.{endpoint_of};
 ghost use Rattle.cli.specs.Topics.{row_of};
-ghost use Rattle.cli.specs.Words.{HasNoJob, IsJobOf, program, job_by, job_by_kind, job_named, job_of, given_address, given_application, given_command, given_control, given_limits, given_live_options, given_lu, given_metrics, given_model, given_port, given_reply_time, given_script_terminals, given_seconds, given_service, given_service_port, given_sessions, given_terminals, given_topic, given_tty, given_turns, given_web, ends_by_dashes, is_given, job_shape, job_taken, option_rule, sound_service, topic_of};
+ghost use Rattle.cli.specs.Words.{HasNoJob, IsJobOf, program, job_by, job_by_kind, job_named, job_of, given_address, given_colors, given_application, given_command, given_control, given_limits, given_live_options, given_lu, given_metrics, given_model, given_port, given_reply_time, given_script_terminals, given_seconds, given_service, given_service_port, given_sessions, given_terminals, given_topic, given_tty, given_turns, given_web, ends_by_dashes, is_given, job_shape, job_taken, option_rule, sound_service, topic_of};
 ghost use Rattle.cli.specs.ClapCommands.{AddsArguments, AddsJob, AddsJobs, IsArgument, IsCommand, IsJob, IsMatch, MayFail};
 
 use crate::help::VERSION;
@@ -25,6 +25,7 @@ use jobs::{
 use std::alloc::{AllocError, Global};
 use std::net::{IpAddr, Ipv4Addr};
 use tn3270e_msg::Lu;
+use tty::Colors;
 
 // ---- the command line
 
@@ -152,6 +153,16 @@ fn model_in(options: &ArgMatches<'_>) -> Option<Model>
     match given(options, "model") {
         Some(word) => model_of(word),
         None => Some(Model::M2),
+    }
+}
+
+/// The value of `--colors`; dark if it isn't given.
+fn colors_in(options: &ArgMatches<'_>) -> Option<Colors>
+    ensures { result ≡ given_colors (rows_of (found_of options.now)) }
+{
+    match given(options, "colors") {
+        Some(word) => Colors::named(word),
+        None => Some(Colors::Dark),
     }
 }
 
@@ -285,6 +296,7 @@ fn live_options_in(options: &ArgMatches<'_>) -> Option<OperateOptions>
         lu: lu_in(options)?,
         model: model_in(options)?,
         tty: tty_in(options)?,
+        colors: colors_in(options)?,
     })
 }
 

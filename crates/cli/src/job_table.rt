@@ -18,6 +18,7 @@ pub(crate) enum ValueKind {
     Model,
     File,
     TtySize,
+    Colors,
     Host,
     Sessions,
     Flag,
@@ -45,6 +46,7 @@ impl ValueKind {
             ValueKind::Url => " URL",
             ValueKind::File => " FILE",
             ValueKind::TtySize => " ROWSxCOLUMNS",
+            ValueKind::Colors => " COLORS",
             ValueKind::Flag | ValueKind::Operand => "",
         }
     }
@@ -139,12 +141,14 @@ static HELP: [JobOption<'static>; 1] = [option!(takes "job")];
 
 static TERM: [JobOption<'static>; 3] = [PORT, LU, MODEL];
 
-static OPERATE: [JobOption<'static>; 5] = [
+static OPERATE: [JobOption<'static>; 6] = [
     option!(needs "port": ServicePort, "the port of the host, 1 to 65535"),
     option!(takes "host": Address,
         "the IPv4 or IPv6 address of the host; localhost is 127.0.0.1 [default: 127.0.0.1]"),
     LU,
     MODEL,
+    option!(takes "colors": Colors,
+        "dark, light, terminal (the tty's own), or mono (bold and underlined alone) [default: dark]"),
     option!(takes "raw": TtySize, "the size of the tty, which is in raw mode: bin/operate says so"),
 ];
 

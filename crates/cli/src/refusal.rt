@@ -17,6 +17,7 @@ use std::alloc::Global;
 use std::fmt;
 use thiserror::Error;
 use tn3270e_msg::Lu;
+use tty::Colors;
 
 /// Prints as the line that says how to get help on a topic.
 #[derive(Clone, Copy)]
@@ -99,6 +100,7 @@ fn is_value(kind: ValueKind, word: &str) -> bool {
         ValueKind::Address => address_of(word).is_some(),
         ValueKind::Model => model_of(word).is_some(),
         ValueKind::TtySize => TtySize::read(word).is_some(),
+        ValueKind::Colors => Colors::named(word).is_some(),
         ValueKind::Host => HostEndpoint::read(word).is_some(),
         ValueKind::Url | ValueKind::File | ValueKind::Flag | ValueKind::Operand => true,
     }
@@ -109,6 +111,7 @@ fn need_of(kind: ValueKind) -> &'static str {
     match kind {
         ValueKind::Host => ": a port is needed, or an IPv4 address, a colon and a port",
         ValueKind::Address => ": an IPv4 or IPv6 address is needed, or localhost",
+        ValueKind::Colors => ": dark, light, terminal or mono is needed",
         _ => "",
     }
 }

@@ -9,6 +9,8 @@ use Rattle.codes3270.specs.declared.size.Model.{Model}
 use Rattle.codes3270.specs.declared.size.Model.TheVariants.{M2, M3, M4, M5}
 use Rattle.jobs.specs.LineParts.{number_of}
 use Rattle.jobs.specs.declared.endpoint.HostEndpoint.{HostEndpoint}
+use Rattle.tty.specs.declared.colors.Colors.{Colors}
+use Rattle.tty.specs.declared.colors.Colors.TheVariants.{Dark}
 use Rattle.jobs.specs.declared.tty_size.TtySize.{TtySize}
 
 -- the number from `low` to `high` that a word has in decimal digits; None if it has none
@@ -104,6 +106,9 @@ usual_turns = 10000
 
 abbrev pub usual_model : Model
 usual_model = M2
+
+abbrev pub usual_colors : Colors
+usual_colors = Dark
 
 abbrev pub usual_reply_time : ℕ
 usual_reply_time = 30

@@ -12,6 +12,7 @@ use host_core::Terminals;
 use std::marker;
 use std::net::IpAddr;
 use tn3270e_msg::Lu;
+use tty::Colors;
 
 /// The 3278 model with a number in decimal digits, 2 to 5; None if the word isn't such a number.
 pub fn model_of(word: &str) -> Option<Model>
@@ -97,6 +98,8 @@ pub struct OperateOptions {
     pub model: Model,
     /// The size of the tty, which is then known to be in raw mode; None if it isn't known that there is such a tty.
     pub tty: Option<TtySize>,
+    /// In which colours screens are drawn.
+    pub colors: Colors,
 }
 
 /// The options of `web`: where it listens, the host, and the bounds of its sessions.

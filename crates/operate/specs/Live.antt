@@ -24,6 +24,7 @@ use Rattle.tty.specs.KeyReading.{after_pause, read_bytes}
 use Rattle.tty.specs.declared.keystroke.Keystroke.{Keystroke}
 use Rattle.tty.specs.declared.keystroke.Keystroke.TheVariants as stroke
 use Rattle.tty.specs.Changes.{drawing_of}
+use Rattle.tty.specs.declared.colors.Colors.{Colors}
 use Rattle.tty.specs.Painting.{notice_of, page_of, picture_of}
 use Rattle.tty.specs.Pictures.{PictureParts}
 use Rattle.tty.specs.Spelling.{all_spelt, encoded}
@@ -39,8 +40,8 @@ use Rattle.operate.specs.declared.live.OperatorRequest.{OperatorRequest}
 use Rattle.operate.specs.declared.live.OperatorRequest.TheVariants as asked
 
 -- An operator's seat: the terminal, the keys that were typed ahead, the refusal that the status row shows, what is
--- shown over the screen, what the operator asks of the program, the size of the tty, and the picture that it shows, if
--- it is known.
+-- shown over the screen, what the operator asks of the program, the size of the tty, the colours in which it is drawn,
+-- and the picture that it shows, if it is known.
 pub record Seat : Type 0 where
   pub terminal : Terminal
   pub typeahead : List Key
@@ -48,6 +49,7 @@ pub record Seat : Type 0 where
   pub overlay : Overlay
   pub asks : OperatorRequest
   pub size : TtySize
+  pub colors : Colors
   pub shown : Option PictureParts
 
 -- a seat, the bytes of an incomplete keystroke, and the capacity of the terminal's output buffer
@@ -57,14 +59,15 @@ pub record Live : Type 0 where
   pub room : ℕ
 
 -- the seat at the start; it isn't known what the tty shows
-abbrev pub first_seat : Model → TtySize → Seat
-first_seat model size = record {
+abbrev pub first_seat : Model → TtySize → Colors → Seat
+first_seat model size colors = record {
   terminal = new_terminal model;
   typeahead = [];
   refusal = None;
   overlay = over.Nothing;
   asks = asked.Nothing;
   size = size;
+  colors = colors;
   shown = None;
 }
 
@@ -251,7 +254,7 @@ pub record Hears (bytes : List ℕ) (old new : Live) : Type 0 where
 
 -- Holds if the bytes are drawn with which the tty shows the current picture.
 pub record Draws (old new : Live) (drawn_old drawn_new : List ℕ) : Type 0 where
-  pub drawn : drawn_new ≡ drawn_old ++ all_spelt (drawing_of old.seat.shown (picture_at old.seat))
+  pub drawn : drawn_new ≡ drawn_old ++ all_spelt (drawing_of old.seat.colors old.seat.shown (picture_at old.seat))
   pub live : new ≡ record old { seat = record old.seat { shown = Some (picture_at old.seat) } }
 
 -- whether some bytes came from the host

@@ -19,7 +19,8 @@ use std::marker;
 use term_core::{TermPhase, Terminal};
 use tn3270e_msg::{Lu, Stop};
 use tty::{
-    Drawing, KeyReader, Keystroke, Picture, Status, StatusPlace, TooSmall, check_room, put_bell,
+    Colors, Drawing, KeyReader, Keystroke, Picture, Status, StatusPlace, TooSmall, check_room,
+    put_bell,
 };
 
 /// What an operator asks of the program.
@@ -79,7 +80,8 @@ impl marker::Model for LiveTerminal {
         overlay = live.overlay;
         asks = live.asked;
         size = live.size;
-        shown = live.drawing;
+        colors = live.drawing.colors;
+        shown = live.drawing.shown;
       };
       kept = live.reader;
       room = live.terminal.room;
@@ -226,17 +228,22 @@ fn lu_place(phase: &TermPhase) -> &[u8]
 }
 
 impl LiveTerminal {
-    /// A terminal of a model without a connection, at a tty of this size, of which it isn't known what it shows. An
-    /// error if memory is refused.
-    pub fn new(alloc: Global, model: Model, size: TtySize) -> Result<LiveTerminal, AllocError>
-        ensures seat { IfOk result (λ live. live.seat ≡ first_seat model size) }
+    /// A terminal of a model without a connection, at a tty of this size, of which it isn't known what it shows, and
+    /// which is drawn in these colours. An error if memory is refused.
+    pub fn new(
+        alloc: Global,
+        model: Model,
+        size: TtySize,
+        colors: Colors,
+    ) -> Result<LiveTerminal, AllocError>
+        ensures seat { IfOk result (λ live. live.seat ≡ first_seat model size colors) }
         ensures kept { IfOk result (λ live. live.kept ≡ []) }
     {
         Ok(LiveTerminal {
             terminal: Terminal::new(alloc, model)?,
             typeahead: Vec::new(alloc),
             reader: KeyReader::new(),
-            drawing: Drawing::new(),
+            drawing: Drawing::new(colors),
             refusal: None,
             overlay: Overlay::Nothing,
             asked: OperatorRequest::Nothing,

@@ -21,7 +21,7 @@ use std::marker;
 use std::net::{Net, SocketAddr};
 use term_core::TermPhase;
 use tn3270e_msg::Lu;
-use tty::check_room;
+use tty::{Colors, check_room};
 
 /// The most events of one poll. A socket without an event is also read.
 const MOST_EVENTS: usize = 8;
@@ -87,16 +87,18 @@ fn is_quiet(came: &[u8], typed: &[u8], stale: bool) -> bool
 }
 
 impl<S: RawRead + RawWrite + Drop, K: Drop, T: Drop> OperatorSession<S, K, T> {
-    /// A terminal of a model without a connection, at a tty of this size. An error if memory is refused.
+    /// A terminal of a model without a connection, at a tty of this size, which is drawn in these colours. An error if
+    /// memory is refused.
     pub fn new(
         alloc: Global,
         model: Model,
         size: TtySize,
+        colors: Colors,
         keys: K,
         tty: T,
     ) -> Result<OperatorSession<S, K, T>, Fault> {
         Ok(OperatorSession {
-            live: LiveTerminal::new(alloc, model, size)?,
+            live: LiveTerminal::new(alloc, model, size, colors)?,
             socket: SocketSlot::unused(),
             keys,
             tty,
@@ -449,7 +451,7 @@ fn operate<N: Net, K: Source + Drop, T: Sink + Drop>(
 ) -> Result<(), Fault> {
     let size = tty_size(options.model, options.tty)?;
     let mut dialer = Dialer::new(net, alloc, options)?;
-    let mut session = OperatorSession::new(alloc, options.model, size, keys, tty)?;
+    let mut session = OperatorSession::new(alloc, options.model, size, options.colors, keys, tty)?;
     take_turns(net, alloc, &mut dialer, &mut session)
 }
 

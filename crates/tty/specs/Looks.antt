@@ -1,10 +1,12 @@
 -- How the cells of a screen look (our profile: as c3270 shows a host that names no colours).
-use Rattle.std.specs.Prelude.{ℕ, ◌==◌, Bool, Option, Some, None, if◌then◌else◌}
+use Rattle.std.specs.Prelude.{ℕ, ◌==◌, Bool, List, Option, Some, None, if◌then◌else◌, bytes_eq, codes}
 use Rattle.codes3270.specs.declared.attribute.Cell.{Cell}
 use Rattle.codes3270.specs.declared.attribute.Cell.TheVariants.{Char, Attr}
 use Rattle.codes3270.specs.declared.attribute.Attr.{Attr as Attribute}
 use Rattle.codes3270.specs.declared.attribute.Display.{Display}
 use Rattle.codes3270.specs.declared.attribute.Display.TheVariants.{Normal, Detectable, Bright, Hidden}
+use Rattle.tty.specs.declared.colors.Colors.{Colors}
+use Rattle.tty.specs.declared.colors.Colors.TheVariants.{Dark, Light, Terminal, Mono}
 use Rattle.tty.specs.declared.look.Look.{Look}
 use Rattle.tty.specs.declared.look.Look.TheVariants.{Plain, UnprotectedNormal, UnprotectedBright, ProtectedNormal, ProtectedBright, Erased}
 
@@ -44,3 +46,12 @@ number_of Erased = 5
 
 abbrev pub same_look : Look → Look → Bool
 same_look one other = number_of one == number_of other
+
+-- the colours with a name
+abbrev pub colors_named : List ℕ → Option Colors
+colors_named name =
+    if bytes_eq name (codes "dark") then Some Dark else
+    if bytes_eq name (codes "light") then Some Light else
+    if bytes_eq name (codes "terminal") then Some Terminal else
+    if bytes_eq name (codes "mono") then Some Mono else
+    None

@@ -1,5 +1,6 @@
 //! The colours in which a tty shows each look.
 ghost use Rattle.std.specs.Prelude.{◌≡◌};
+ghost use Rattle.tty.specs.Looks.{colors_named};
 ghost use Rattle.tty.specs.Spelling.{spelt_look};
 
 use crate::look::Look;
@@ -72,6 +73,19 @@ fn mono(look: Look) -> &'static [u8]
 }
 
 impl Colors {
+    /// The colours with a name: `dark`, `light`, `terminal` or `mono`.
+    pub fn named(name: &str) -> Option<Colors>
+        ensures { result ≡ colors_named name.now }
+    {
+        match name {
+            "dark" => Some(Colors::Dark),
+            "light" => Some(Colors::Light),
+            "terminal" => Some(Colors::Terminal),
+            "mono" => Some(Colors::Mono),
+            _ => None,
+        }
+    }
+
     /// The SGR that makes the characters after it look like this (ECMA-48, 8.3.117).
     pub(crate) fn sgr(self, look: Look) -> &'static [u8]
         ensures { result.now ≡ spelt_look self look }

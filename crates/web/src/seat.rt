@@ -11,6 +11,7 @@ use std::io::ErrorKind;
 use std::net::SocketAddr;
 use term_core::TermPhase;
 use tn3270e_msg::Lu;
+use tty::Colors;
 use web_wire::{Closing, Notice, Token};
 
 /// How often a page is sent a ping, in milliseconds: proxies cut connections that are silent for a minute.
@@ -152,7 +153,14 @@ impl Seat {
             token,
             model,
             wanted,
-            terminal: OperatorSession::new(alloc, model, page_size(model), (), ())?,
+            terminal: OperatorSession::new(
+                alloc,
+                model,
+                page_size(model),
+                Colors::Terminal,
+                (),
+                (),
+            )?,
             dialed: Some((dialed, now)),
             page: None,
             heard: now,
