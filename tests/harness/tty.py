@@ -295,8 +295,8 @@ class Host:
         ready, _, _ = select.select([self.socket], [], [], seconds)
         expect("a host hears", self.socket.recv(1 << 12).hex(" ") if ready else "", "")
 
-    def binds(self):
-        """Grants a terminal PNL01, and shows it the form."""
+    def binds(self, first=FORM):
+        """Grants a terminal PNL01, and shows it the form, or another first screen."""
         self.accepts()
         self.says(DO)
         self.hears(WILL)
@@ -304,14 +304,15 @@ class Host:
         self.hears(device_type(7, None))
         self.says(device_type(4, "PNL01"))
         self.hears(FUNCTIONS_REQUEST)
-        self.says(FUNCTIONS_IS, FORM)
+        self.says(FUNCTIONS_IS, first)
         self.hears(RESPONSE)
 
 
 @contextlib.contextmanager
-def bound():
-    """An operator at the form of a host."""
-    with Host() as host, Operator(host.port) as operator:
-        host.binds()
-        operator.has_status("connected", "PNL01", "001/005")
+def bound(first=FORM, options=()):
+    """An operator, by these options, at the form of a host, or at another first screen."""
+    with Host() as host, Operator(*options, host.port) as operator:
+        host.binds(first)
+        if first == FORM:
+            operator.has_status("connected", "PNL01", "001/005")
         yield operator, host

@@ -64,7 +64,9 @@ def term(job: dict) -> str:
 def operate(job: dict) -> str:
     tty = job["tty"]
     text = f"operate at {job['host']}, {term(job)}"
-    return text + (f", {tty['rows']} rows of {tty['columns']}" if tty else "")
+    text += f", {tty['rows']} rows of {tty['columns']}" if tty else ""
+    colors = job["colors"].lower()
+    return text + ("" if colors == "dark" else f", in {colors}")
 
 
 # The job of a command line, by the variant of `Job` that the probe prints.

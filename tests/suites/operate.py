@@ -4,6 +4,7 @@ A check is the operator: it types bytes, as xterm, tmux and the Linux console se
 at the screen. The host is `serve`, or a socket of the check itself."""
 import os
 import pathlib
+import re
 import signal
 import subprocess
 import tempfile
@@ -11,7 +12,7 @@ import time
 from collections.abc import Iterator
 
 from harness import documents, programs
-from harness.case import Case, Checks, expect, of_function
+from harness.case import Case, Checks, Difference, expect, of_function
 from harness.hosts import (
     DEVICE_IN_USE,
     DO,
@@ -199,14 +200,79 @@ def the_alarm_sounds():
             expect("how often the alarm sounded", operator.screen.bells, bells)
 
 
+# Erase/Write, number 0, which restores the keyboard: protected fields, normal from 0 on and bright
+# from 4 on, and unprotected ones, normal from 8 on and bright from 12 on, which ends at 16; each
+# begins with a character. The cursor is at 9.
+FOUR_LOOKS = bytes.fromhex(
+    "00 00 02 00 00 F5 C3 11 40 40 1D F0 C1 11 40 C4 1D F8 C2 11 40 C8 1D 40 C3 11 40 4C 1D C8 C4"
+    "11 40 50 1D F0 11 40 C9 13 FF EF"
+)
+
+
 @check
 def fields_have_their_looks():
-    """Protected bright fields are white, unprotected ones green and underlined."""
-    with bound() as (operator, _):
+    """In the tty's own colours protected fields are blue, unprotected ones green and underlined."""
+    with bound(options=("--colors", "terminal")) as (operator, _):
         operator.types("A")
         operator.until("a character is typed", lambda screen: screen.line(0) == " HI A")
         looks = operator.screen.looks[0]
         expect("the looks of a row", (looks[1], looks[4], looks[5]), ("0;34", "0;4;32", "0;4;32"))
+
+
+def palette(number: int) -> tuple[int, ...]:
+    """The red, green and blue of a colour from 16 on of the palette of 256 that xterm has: a cube of
+    6 levels, and 24 greys."""
+    if number >= 232:
+        return (8 + 10 * (number - 232),) * 3
+    levels = 0, 95, 135, 175, 215, 255
+    cube = number - 16
+    return levels[cube // 36], levels[cube // 6 % 6], levels[cube % 6]
+
+
+def luminance(number: int) -> float:
+    """The relative luminance of a colour (WCAG 2.1)."""
+
+    def linear(level: float) -> float:
+        return level / 12.92 if level <= 0.04045 else ((level + 0.055) / 1.055) ** 2.4
+
+    red, green, blue = (linear(part / 255) for part in palette(number))
+    return 0.2126 * red + 0.7152 * green + 0.0722 * blue
+
+
+def contrast(look: str) -> float:
+    """The contrast of the foreground and the background that an SGR selects (WCAG 2.1)."""
+    found = re.fullmatch(r"[0-9;]*?38;5;(\d+);48;5;(\d+)", look)
+    if not found:
+        raise Difference("a foreground and a background of the palette", look)
+    light, dark = sorted((luminance(int(it)) for it in found.groups()), reverse=True)
+    return (light + 0.05) / (dark + 0.05)
+
+
+@check
+def colours_have_contrast():
+    """Whatever the tty's own colours are, each colour that is drawn, the status row's too, has a
+    contrast of 4.5 to 1 or more to the background that is drawn behind it, dark and light; each cell
+    of the picture has that background; and the four kinds of fields differ."""
+    for colors, background in (("dark", 16), ("light", 231)):
+        with bound(first=FOUR_LOOKS, options=("--colors", colors)) as (operator, _):
+            operator.until("the fields", lambda screen: screen.line(0) == " A   B   C   D")
+            operator.has_status("connected", "PNL01", "001/010")
+            drawn = {look for row in operator.screen.looks for look in row}
+            for look in drawn:
+                if not contrast(look) >= 4.5:
+                    raise Difference("a contrast of 4.5 or more", f"{contrast(look):.2f}: {look}")
+                expect("the background", look.rsplit(";", 1)[1], str(background))
+            fields = [operator.screen.looks[0][column] for column in (1, 5, 9, 13)]
+            expect("different looks", len(set(fields)), 4)
+
+
+@check
+def a_tty_without_colours():
+    """With --colors mono bright is bold, input is underlined, and no colour is selected."""
+    with bound(first=FOUR_LOOKS, options=("--colors", "mono")) as (operator, _):
+        operator.until("the fields", lambda screen: screen.line(0) == " A   B   C   D")
+        fields = [operator.screen.looks[0][column] for column in (1, 5, 9, 13)]
+        expect("the looks of the fields", fields, ["0", "0;1", "0;4", "0;1;4"])
 
 
 @check

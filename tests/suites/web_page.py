@@ -138,7 +138,7 @@ LOOKS = {
     "0;4;32": "green underlined",
     "0;4;31": "red underlined",
     "0;34": "blue",
-    "0;1;37": "white bold",
+    "0;1": "bold",
 }
 
 

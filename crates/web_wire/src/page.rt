@@ -3,10 +3,10 @@
 //! literal is the page.
 
 /// The SHA-256 of what is in the page's element `script`, in base64.
-pub const SCRIPT_HASH: &str = "YRuazCLElZCgdfZq4plAGwpOxnNerYuwIo2M4cUMCa8=";
+pub const SCRIPT_HASH: &str = "8KvsdydaLKzR+WclGfsQ502bKk46mibKLwQjwhflVSU=";
 
 /// The SHA-256 of what is in the page's element `style`, in base64.
-pub const STYLE_HASH: &str = "gXTTJ/fXXHYSP8KCVhuIdOSYTYdZ2vZFQL2rdOJCQKs=";
+pub const STYLE_HASH: &str = "hxzxF8D1D9zuAw2bfM4X7JyFAWCj4XRw/Y7VOrqDQI8=";
 
 /// The page, in HTML.
 pub const PAGE: &str = "<!DOCTYPE html>
@@ -20,8 +20,8 @@ html, body { margin: 0; background: #101418; color: #d8dee4; }
 #screen { margin: 0; font: 16px/1.25 monospace; width: max-content; cursor: text; }
 #screen div { height: 1.25em; white-space: pre; }
 #screen .red { color: #ff7b72; } #screen .green { color: #56d364; }
-#screen .blue { color: #79c0ff; } #screen .white { color: #ffffff; }
-#screen .bold { font-weight: bold; }
+#screen .blue { color: #79c0ff; }
+#screen .bold { font-weight: bold; color: #ffffff; }
 #screen .underlined { text-decoration: underline; text-underline-offset: 0.15em; }
 #screen .cursor { background: #d8dee4; color: #101418; }
 #typed { position: absolute; bottom: 0; width: 1px; height: 1px; padding: 0; border: 0; opacity: 0; resize: none; }
@@ -72,7 +72,7 @@ function put(number) {
   cursor = { row, column: column + 1 };
 }
 function select(parameter) {
-  const colours = { 31: 'red', 32: 'green', 34: 'blue', 37: 'white' };
+  const colours = { 31: 'red', 32: 'green', 34: 'blue' };
   if (parameter === 0) look = plain();
   else if (parameter === 1) look.bold = 'bold';
   else if (parameter === 4) look.underlined = 'underlined';
