@@ -1,14 +1,13 @@
 //! The host's turn: what it decides, and how it acts on that.
-ghost use Rattle.std.specs.Prelude.{◌≡◌, ◌≤◌, ◌<◌, ℕ, Bool, false, true, Some, OnOk, OnErr, length, ◌≢◌, [], IfOk, IfSome, is_some, not, ◌&&◌};
+ghost use Rattle.std.specs.Prelude.{◌≡◌, ◌≤◌, ◌<◌, ℕ, false, true, Some, OnOk, OnErr, length, ◌≢◌, [], IfOk, IfSome};
 ghost use Rattle.std.specs.List.{list_any};
 ghost use Rattle.std.specs.Vec.{vec_capacity};
 ghost use Rattle.codes3270.specs.Size.{cells_in};
-ghost use Rattle.codes3270.specs.declared.attention.Aid.TheVariants.{Clear};
 ghost use Rattle.panels.specs.Keys.{IsKey};
-ghost use Rattle.panels.specs.Panel.{Panels, HaveNumbersApart};
+ghost use Rattle.panels.specs.Panel.{Panels};
 ghost use Rattle.panels.specs.declared.message.Message.TheVariants.{Fresh};
 ghost use Rattle.panels.specs.declared.next.Next.TheVariants.{Go};
-ghost use Rattle.host_core.specs.Acts.{Act as ActValue, Decision as DecisionValue, acted, after_key, decision_in, done, first_panel, is_in_doubt as in_doubt, is_to_be_read, on_empty, on_key, may_act, once_filled_in, repeated, check_required, learned};
+ghost use Rattle.host_core.specs.Acts.{Act as ActValue, Decision as DecisionValue, acted, after_key, decision_in, first_panel, is_in_doubt as in_doubt, is_to_be_read, on_empty, on_key, may_act, once_filled_in, repeated, check_required, learned};
 ghost use Rattle.shadow.specs.Belief.{IsOfSize};
 ghost use Rattle.host_core.specs.Application.{Application, application_of, panel_at};
 ghost use Rattle.host_core.specs.Choices.{CanBeDone, CanBeShown, act_of, decision_of, values_with};
@@ -18,9 +17,7 @@ ghost use Rattle.host_core.specs.Learning.{HaveFields};
 ghost use Rattle.host_core.specs.Session.{Session as SessionValue, is_agreed};
 ghost use Rattle.host_core.specs.Sound.{IsShownOn};
 ghost use Rattle.host_core.specs.declared.acting.Decision.TheVariants.{Show};
-ghost use Rattle.panels.specs.Values.{value_of, without_fields};
-ghost use Rattle.shadow.specs.Storable.{CanBeStored};
-ghost use Rattle.host_core.specs.Questions.{HasTexts, act_by, answered_in, answered_on, has_its_panel, has_value_of, cursor_asked, is_asking, key_of, named_fields, named_values, panel_asked, panel_for, question_in, texts_asked, ticket_of, values_for};
+ghost use Rattle.host_core.specs.Questions.{HasTexts, act_by, answered_in, answered_on, has_its_panel, cursor_asked, is_asking, named_fields, named_values, panel_asked, panel_for, question_in, texts_asked, ticket_of, values_for};
 
 use crate::acted::Acted;
 use crate::asking::{has_its_panel, has_value_of, key_of, learn_without};

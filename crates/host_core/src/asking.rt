@@ -1,28 +1,19 @@
 //! Questions to the application, and what the host does with an answer.
-ghost use Rattle.std.specs.Prelude.{◌≡◌, ◌≢◌, ◌≤◌, ◌<◌, [], Some, IfOk, OnOk, OnErr, is_some, length, not, ◌&&◌, true};
-ghost use Rattle.std.specs.Vec.{vec_capacity};
+ghost use Rattle.std.specs.Prelude.{◌≡◌, OnOk, OnErr};
 ghost use Rattle.panels.specs.Panel.{HaveNumbersApart};
-ghost use Rattle.panels.specs.Values.{value_of, without_fields, without_values};
+ghost use Rattle.panels.specs.Values.{without_fields, without_values};
 ghost use Rattle.shadow.specs.Storable.{CanBeStored};
 ghost use Rattle.host_core.specs.Acts.{learned};
-ghost use Rattle.host_core.specs.Application.{application_of, panel_at};
-ghost use Rattle.host_core.specs.Choices.{CanBeShown, act_of};
-ghost use Rattle.host_core.specs.Does.{Grow, ValuesMayWantMemory};
-ghost use Rattle.host_core.specs.Representation.{AnswersOn};
+ghost use Rattle.host_core.specs.Application.{application_of};
+ghost use Rattle.host_core.specs.Does.{Grow};
 ghost use Rattle.host_core.specs.Learning.{HaveFields};
-ghost use Rattle.host_core.specs.Questions.{HasTexts, act_by, answered_in, answered_on, has_its_panel, has_value_of, is_asking, key_of, named_fields, question_in, ticket_of, values_for};
-ghost use Rattle.host_core.specs.Sound.{IsShownOn};
+ghost use Rattle.host_core.specs.Questions.{has_its_panel, has_value_of, key_of};
 
-use crate::acted::Acted;
-use crate::acting::{Decision, Shown};
-use crate::learning::{learn_all, texts_known};
-use crate::question::{Answer, Question, Ticket, is_ticket};
-use crate::room::COMMAND_ROOM;
-use crate::sending::panel_in;
-use crate::session::Session;
+use crate::learning::learn_all;
+use crate::question::Answer;
 use crate::turn_reason::TurnReason;
 use codes3270::Aid;
-use panels::{Field, Message, PanelSet, Value, Values};
+use panels::{Field, PanelSet, Value, Values};
 use shadow::Shadow;
 use telnet_wire::Memory;
 

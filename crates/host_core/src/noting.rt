@@ -1,25 +1,14 @@
 //! Notes: short texts in the last row, sent while the operator has the turn (our profile).
 ghost use Rattle.std.specs.Prelude.{◌≡◌, ◌-◌, ◌+◌, ◌<◌, ◌≤◌, ◌++◌, take, replicate, length, All, true, vec_len};
 ghost use Rattle.std.specs.Vec.{vec_capacity};
-ghost use Rattle.codes3270.specs.Size.{cells_in, most_columns};
+ghost use Rattle.codes3270.specs.Size.{most_columns};
 ghost use Rattle.codes3270.specs.Storable.{is_storable};
-ghost use Rattle.shadow.specs.Belief.{IsOfSize};
 ghost use Rattle.host_core.specs.Application.{IsValidSize, message_place};
-ghost use Rattle.host_core.specs.Representation.{DoesOn, IsSentOn};
-ghost use Rattle.host_core.specs.Notes.{IsNoteText, may_note, note_command, noted, noted_as};
-ghost use Rattle.host_core.specs.Rooms.{HasRoomFor, note_room};
+ghost use Rattle.host_core.specs.Notes.{IsNoteText, note_command};
 ghost use Rattle.host_core.specs.Says.{written};
-ghost use Rattle.host_core.specs.Session.{is_agreed};
 
-use crate::acted::Acted;
-use crate::pending::Pending;
-use crate::room::NOTE_ROOM;
-use crate::sending::{begin_record, send_record};
-use crate::session::Session;
-use crate::turn::Turn;
 use codes3270::{Addr, MOST_COLUMNS, Size, Wcc};
 use datastream::{CommandCode, CommandWriter};
-use tn3270e_msg::{ALWAYS_RESPONSE, next_seq};
 
 /// The number of characters that the last row of a screen of this size has after its attribute.
 fn room_in(size: Size) -> usize

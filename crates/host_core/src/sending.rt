@@ -1,38 +1,20 @@
 //! The commands that are sent in the host's turn.
-ghost use Rattle.std.specs.Prelude.{◌≡◌, ◌<◌, ◌≤◌, ◌+◌, ◌*◌, ◌++◌, ◌∷◌, [], ℕ, true, length, replicate, vec_len};
+ghost use Rattle.std.specs.Prelude.{◌≡◌, ◌<◌, ◌≤◌, ◌+◌, ◌*◌, ◌++◌, ◌∷◌, [], ℕ, length, vec_len};
 ghost use Rattle.std.specs.Vec.{vec_capacity};
 ghost use Rattle.codes3270.specs.declared.attention.Aid.{Aid as AidValue};
-ghost use Rattle.codes3270.specs.Size.{cells_in};
-ghost use Rattle.datastream.specs.Wanted.{IsScreen};
-ghost use Rattle.datastream.specs.declared.wanted.Want.TheVariants.{Char};
-ghost use Rattle.shadow.specs.Belief.{IsOfSize};
-ghost use Rattle.shadow.specs.Fits.{is_paintable};
 ghost use Rattle.panels.specs.Keys.{IsKey};
-ghost use Rattle.panels.specs.Panel.{IsLaidOut, size_of, target_of};
+ghost use Rattle.panels.specs.Panel.{IsLaidOut, target_of};
 ghost use Rattle.telnet_wire.specs.Items.{Record, sent_bytes};
 ghost use Rattle.tn3270e_msg.specs.Header.{always_response, spelling};
-ghost use Rattle.host_core.specs.Acts.{Act as ActValue, done, painted, wanted_by, when_shown};
-ghost use Rattle.host_core.specs.Application.{Application, application_of, panel_at};
-ghost use Rattle.host_core.specs.Choices.{CanBeShown, act_of};
-ghost use Rattle.host_core.specs.Representation.{IsSentOn};
-ghost use Rattle.host_core.specs.Rooms.{HasRoomFor, command_room, read_buffer_room, record_room};
+ghost use Rattle.host_core.specs.Application.{panel_at};
+ghost use Rattle.host_core.specs.Rooms.{HasRoomFor, record_room};
 ghost use Rattle.host_core.specs.Says.{command_header, read_buffer_bytes};
-ghost use Rattle.host_core.specs.Session.{model_in};
-ghost use Rattle.host_core.specs.Sound.{IsShownOn};
 
-use crate::acting::Shown;
-use crate::laws::panels_are_shown;
-use crate::pending::Pending;
-use crate::session::Session;
-use crate::turn::Turn;
-use crate::unheard::Unheard;
 use codes3270::Wcc;
-use datastream::{CommandCode, CommandWriter, Want, Wanted};
-use panels::{Panel, PanelSet, Values};
-use shadow::Shadow;
-use shadow::laws::{what_is_in_doubt_is_allowed, what_is_wanted_is_painted};
+use datastream::{CommandCode, CommandWriter};
+use panels::{Panel, PanelSet};
 use telnet_wire::put_record;
-use tn3270e_msg::{ALWAYS_RESPONSE, DataType, ERROR_RESPONSE, Header, header_bytes, next_seq};
+use tn3270e_msg::{DataType, Header, header_bytes};
 
 /// The panel with this number, 0-based.
 pub(crate) fn panel_in(panels: &PanelSet, number: usize) -> &Panel

@@ -1,26 +1,20 @@
 //! An open connection as the host has it, apart from its stream.
-ghost use Rattle.std.specs.Prelude.{◌≡◌, IfOk, ◌-◌, ◌+◌, ◌<◌, ◌≤◌, ◌++◌, take, replicate, length, All, true, vec_len, ◌*◌, ◌∷◌, [], ℕ};
-ghost use Rattle.host_core.specs.Application.{application_of, IsValidSize, message_place, Application, panel_at};
+ghost use Rattle.std.specs.Prelude.{◌≡◌, IfOk, ◌<◌, ◌≤◌, replicate, length, true};
+ghost use Rattle.host_core.specs.Application.{application_of, Application, panel_at};
 ghost use Rattle.host_core.specs.Session.{agreed_lu, model_in, new_conn, is_agreed};
 ghost use Rattle.host_core.specs.Sound.{IsShownOn};
 ghost use Rattle.tn3270e_msg.specs.HostTable.{model_asked};
 ghost use Rattle.std.specs.Vec.{vec_capacity};
-ghost use Rattle.codes3270.specs.Size.{cells_in, most_columns};
-ghost use Rattle.codes3270.specs.Storable.{is_storable};
+ghost use Rattle.codes3270.specs.Size.{cells_in};
 ghost use Rattle.shadow.specs.Belief.{IsOfSize};
 ghost use Rattle.host_core.specs.Representation.{DoesOn, IsSentOn};
-ghost use Rattle.host_core.specs.Notes.{IsNoteText, may_note, note_command, noted, noted_as};
-ghost use Rattle.host_core.specs.Rooms.{HasRoomFor, note_room, command_room, record_room};
-ghost use Rattle.host_core.specs.Says.{written, command_header, read_buffer_bytes};
-ghost use Rattle.codes3270.specs.declared.attention.Aid.{Aid as AidValue};
+ghost use Rattle.host_core.specs.Notes.{IsNoteText, may_note, noted, noted_as};
+ghost use Rattle.host_core.specs.Rooms.{HasRoomFor, note_room, command_room};
 ghost use Rattle.datastream.specs.Wanted.{IsScreen};
 ghost use Rattle.datastream.specs.declared.wanted.Want.TheVariants.{Char};
 ghost use Rattle.shadow.specs.Fits.{is_paintable};
-ghost use Rattle.panels.specs.Keys.{IsKey};
-ghost use Rattle.panels.specs.Panel.{IsLaidOut, size_of, target_of};
-ghost use Rattle.telnet_wire.specs.Items.{Record, sent_bytes};
-ghost use Rattle.tn3270e_msg.specs.Header.{always_response, spelling};
-ghost use Rattle.host_core.specs.Acts.{Act as ActValue, done, painted, values_shown, wanted_by, when_shown};
+ghost use Rattle.panels.specs.Panel.{size_of};
+ghost use Rattle.host_core.specs.Acts.{Act as ActValue, done, values_shown, wanted_by, when_shown};
 ghost use Rattle.host_core.specs.Choices.{CanBeShown, act_of};
 
 use crate::acted::Acted;
@@ -35,17 +29,15 @@ use crate::terminals::Terminals;
 use crate::turn::Turn;
 use crate::turn_reason::TurnReason;
 use crate::unheard::Unheard;
-use codes3270::{Addr, MOST_COLUMNS, Model as TerminalModel, Size, Wcc};
-use datastream::{CommandCode, CommandWriter, Want, Wanted};
-use panels::{Message, Panel, PanelSet, Values};
+use codes3270::{Addr, Model as TerminalModel, Size};
+use datastream::{Want, Wanted};
+use panels::{Message, PanelSet, Values};
 use shadow::Shadow;
 use shadow::laws::{what_is_in_doubt_is_allowed, what_is_wanted_is_painted};
 use std::alloc::Global;
 use std::marker::Model;
-use telnet_wire::{Memory, put_record};
-use tn3270e_msg::{
-    ALWAYS_RESPONSE, DataType, ERROR_RESPONSE, Header, HostTalk, Lu, header_bytes, next_seq,
-};
+use telnet_wire::Memory;
+use tn3270e_msg::{ALWAYS_RESPONSE, ERROR_RESPONSE, HostTalk, Lu, next_seq};
 
 /// The negotiation, the size of the terminal's screen, whose turn it is, the command that waits for its answer, what
 /// is believed of the screen, and what is shown there.
