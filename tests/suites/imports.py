@@ -36,8 +36,8 @@ IMPORT = re.compile(r"(?:(ghost|pub(?:\(\w+\))?)\s+)?\buse\s+([^;]*);")
 BLOCK = re.compile(r"^(?:pub(?:\(\w+\))? )?(?:impl|trait|final trait)\b[^;{]*\{", re.MULTILINE)
 CLAUSE = re.compile(r"\b(?:requires|ensures)\b(?:\s+\w+)?\s*\{")
 GHOST = re.compile(r"\bghost\s+\w+")
-# A word, without a dot before it; a dot and a word; a symbol.
-WORD = re.compile(rf"\.?{NAME}|\.\.|[^\w\s(){{}}\[\],;.]+|\[\]")
+# A label, as `next:` and `next =`; a word, with what says that it is of something else; a symbol.
+WORD = re.compile(rf"{NAME}:(?!:)|(?<!: ){NAME} =(?![=>])|(?:\.|::)?{NAME}|\.\.|[^\w\s(){{}}\[\],;.]+|\[\]")
 
 
 @dataclasses.dataclass(frozen=True)
@@ -130,7 +130,7 @@ def is_used(it: Import, code: set[str], ghost: set[str], is_shadowed: bool) -> b
         return (it.name.strip("◌").split("◌")[0] if "◌" in it.name else it.name) in ghost
     if it.name in code or it.name in ghost and not is_shadowed:
         return True
-    return any(method in code or f".{method}" in code for method in METHODS.get(it.name, ()))
+    return any(f".{it}" in code or f"::{it}" in code for it in METHODS.get(it.name, ()))
 
 
 def unused_in(text: str) -> Iterator[Import]:
