@@ -1,5 +1,5 @@
 //! Finds the content of a reply (RFC 9112, sections 4, 6 and 7).
-ghost use Rattle.std.specs.Prelude.{◌≡◌, ◌<◌, ◌≤◌, [], Bool, drop, length, true, List, MatchOption, IfErr, IfOk, IsTrue, OnErr, IsFalse};
+ghost use Rattle.std.specs.Prelude.{◌≡◌, ◌≤◌, [], Bool, drop, length, true, List, MatchOption, IfErr, IfOk, IsTrue, OnErr, IsFalse};
 ghost use Rattle.httparse.specs.Grammar.{HasNoResponse};
 ghost use Rattle.httparse.specs.declared.spans.HeaderSpan.{HeaderSpan};
 ghost use Rattle.http1.specs.Decoder.{Decodes, HasNoBody};

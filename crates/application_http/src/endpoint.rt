@@ -9,7 +9,7 @@ ghost use Rattle.application_http.specs.Requests.{field_lines, first_line};
 
 use std::alloc::{AllocError, Global};
 use std::marker::Model;
-use std::net::{IpAddr, Ipv4Addr, Ipv6Addr, SocketAddr};
+use std::net::{IpAddr, Ipv4Addr, SocketAddr};
 use url::{Host, ParseError, Url, quirks};
 
 /// The port if the URL has none (RFC 9110, section 4.2.1).

@@ -1,7 +1,6 @@
 //! Reads a reply from its JSON content.
 ghost use Rattle.std.specs.Prelude.{◌≡◌, ◌++◌, ◌<◌, None, length, map, option_map, string_bytes, IfErr, IfOk, OnErr, OnOk};
 ghost use Rattle.serde_json.specs.Data.{member, no_members};
-ghost use Rattle.serde_json.specs.Find.{get};
 ghost use Rattle.serde_json.specs.View.{items_view, members_view, view};
 ghost use Rattle.application_http.specs.Replies.{HasTexts, IsBadContent, IsBadValue, IsStored, IsText, Says, SaysIn, answer_in, answer_of, are_texts, arrays_in, copies_in, field_text, fields_flaw, first_flaw, flag_at, is_field_value, key_flaw, name_of_copy, text_at, texts_in};
 

@@ -1,7 +1,7 @@
 //! Turns an application's reply, with its names and Unicode texts, into an answer for the host, with numbers and bytes.
 ghost use Rattle.std.specs.BTreeMap.{insert_entry};
 ghost use Rattle.std.specs.Ordering.{nat_cmp};
-ghost use Rattle.std.specs.Prelude.{◌≡◌, ◌<◌, IfErr, IfOk, OnErr, OnOk, chars, length, map, option_and_then, option_copied, option_map, string_bytes, take, true, unwrap_or};
+ghost use Rattle.std.specs.Prelude.{◌≡◌, ◌<◌, IfErr, IfOk, OnErr, OnOk, chars, length, map, option_and_then, option_copied, option_map, string_bytes, take, true};
 ghost use Rattle.application_http.specs.Replies.{field_text, name_of_copy};
 ghost use Rattle.panels.specs.Characters.{codes_of};
 ghost use Rattle.panels.specs.MessageText.{message_of};

@@ -34,17 +34,3 @@ most_cells = 3564
 -- the number of cells of the longest row, that of model 5
 abbrev pub most_columns : ℕ
 most_columns = 132
-
--- ---- the numbers of model 2, written as numerals for the prover; by `size_laws` they are the model's
-
--- the number of rows
-abbrev pub rows : ℕ
-rows = 24
-
--- the number of cells of a row
-abbrev pub columns : ℕ
-columns = 80
-
--- the number of cells of the screen
-abbrev pub cell_count : ℕ
-cell_count = 1920

@@ -163,7 +163,7 @@ pub struct Addrs {
 }
 
 impl Model for Addrs {
-    ghost use Rattle.std.specs.Prelude.{ℕ, ◌-◌, ◌≤◌, List};
+    ghost use Rattle.std.specs.Prelude.{ℕ, ◌-◌, List};
     ghost use Rattle.std.specs.List.{range_with_len};
     ghost use Rattle.codes3270.specs.Size.{cells_in};
 

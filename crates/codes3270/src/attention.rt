@@ -1,6 +1,6 @@
 //! Attention identifiers (GA23-0059-07 on attention identification).
-ghost use Rattle.std.specs.Prelude.{◌≡◌, ◌==◌, ◌-◌, ◌<◌, ◌≤◌, ◌+◌, SomeIff, IfSome, length, slice_index, position};
-ghost use Rattle.codes3270.specs.Aid.{IsRealAid, byte_of_aid, aid_of, is_short_aid, pf_codes, pa_codes, key_number};
+ghost use Rattle.std.specs.Prelude.{◌≡◌, ◌==◌, ◌-◌, ◌<◌, ◌≤◌, SomeIff, IfSome, length, slice_index, position};
+ghost use Rattle.codes3270.specs.Aid.{IsRealAid, byte_of_aid, aid_of, is_short_aid, key_number};
 
 use std::marker::Model;
 

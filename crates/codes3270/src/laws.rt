@@ -1,7 +1,7 @@
-//! Laws of codes and sizes. Each is the contract of a function that does nothing. Proofs of
-//! other crates use them; no program calls them, and the root doesn't export them.
-ghost use Rattle.std.specs.Prelude.{◌≡◌, ◌*◌, ◌<◌, ◌≤◌, ◌↔◌, ℕ, Some, ◌/◌, ◌%◌};
-ghost use Rattle.codes3270.specs.Size.{rows, columns, cell_count, model_2, most_cells, cells_in};
+//! Laws of codes, as the contract of a function that does nothing. No program calls it, and the
+//! root doesn't export it.
+ghost use Rattle.std.specs.Prelude.{◌≡◌, ◌<◌, ◌≤◌, ◌↔◌, ℕ, Some, ◌/◌, ◌%◌};
+ghost use Rattle.codes3270.specs.Size.{most_cells};
 ghost use Rattle.codes3270.specs.Address.{address_of};
 ghost use Rattle.codes3270.specs.SixBit.{six_bit_code};
 ghost use Rattle.codes3270.specs.Attribute.{attr_of, attr_byte};
@@ -11,8 +11,6 @@ ghost use Rattle.codes3270.specs.CodePage.{character_of, code_of};
 ghost use Rattle.codes3270.specs.declared.attribute.Attr.{Attr};
 ghost use Rattle.codes3270.specs.declared.write_control.Wcc.{Wcc};
 ghost use Rattle.codes3270.specs.declared.attention.Aid.{Aid};
-
-use crate::{CELL_COUNT, CELLS, COLUMNS, ROWS};
 
 /// Law: each value decodes from its own encoding, the two directions of the code page are inverse,
 /// and the codes of characters are 0x40 to 0xFE.
@@ -24,14 +22,4 @@ pub const fn code_laws()
     ensures aids { (aid : Aid) → IsRealAid aid → aid_of (byte_of_aid aid) ≡ Some aid }
     ensures characters { (code character : ℕ) → (character_of code ≡ Some character) ↔ (code_of character ≡ Some code) }
     ensures range { (code character : ℕ) → code_of character ≡ Some code → (0x40 ≤ code) × (code ≤ 0xFE) }
-{}
-
-/// Law: these constants are the numbers that contracts use, they are those of a model 2, and the rows fill the screen.
-pub const fn size_laws()
-    ensures rows { ROWS ≡ rows }
-    ensures columns { COLUMNS ≡ columns }
-    ensures cells { CELLS ≡ cell_count }
-    ensures length { CELL_COUNT ≡ cell_count }
-    ensures filled { cell_count ≡ rows * columns }
-    ensures model { (rows ≡ model_2.rows) × (columns ≡ model_2.columns) × (cell_count ≡ cells_in model_2) }
 {}

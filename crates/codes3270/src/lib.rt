@@ -22,6 +22,6 @@ pub use address::{Addr, AddrFault, Addrs, addr_from_bytes, addr_to_bytes};
 pub use attention::{Aid, PaNo, PfNo, aid_byte, aid_from_byte};
 pub use attribute::{Attr, Cell, Display, attr_code};
 pub use code_page::{from_latin1, to_latin1};
-pub use size::{CELL_COUNT, CELLS, COLUMNS, MOST_CELLS, MOST_COLUMNS, Model, ROWS, Size};
+pub use size::{MOST_CELLS, MOST_COLUMNS, Model, Size};
 pub use storable_codes::storable;
 pub use write_control::Wcc;

@@ -1,6 +1,6 @@
 //! The models of the 3278, and the sizes of their screens (GA23-0059-07 on screen sizes).
-ghost use Rattle.std.specs.Prelude.{◌≡◌, ◌<◌, ◌≤◌, ◌*◌};
-ghost use Rattle.codes3270.specs.Size.{alternate_of, cells_in, model_2, most_cells, most_columns, rows};
+ghost use Rattle.std.specs.Prelude.{◌≡◌, ◌<◌, ◌≤◌};
+ghost use Rattle.codes3270.specs.Size.{alternate_of, cells_in, model_2, most_cells, most_columns};
 
 use std::marker;
 
@@ -9,18 +9,6 @@ pub const MOST_CELLS: usize = 3564;
 
 /// The number of cells of the longest row, that of model 5.
 pub const MOST_COLUMNS: usize = 132;
-
-/// The number of rows of a model 2's screen (24).
-pub const ROWS: u16 = 24;
-
-/// The number of cells of a row of a model 2's screen (80).
-pub const COLUMNS: u16 = 80;
-
-/// The number of cells of a model 2's screen (1920).
-pub const CELLS: u16 = ROWS * COLUMNS;
-
-/// `CELLS` as a length, for lists with an item for each cell.
-pub const CELL_COUNT: usize = CELLS as usize;
 
 /// A model of the 3278, with two sizes of its screen: 24 rows of 80 cells, and its alternate size.
 #[derive(Clone, Copy, Debug, PartialEq, Eq)]

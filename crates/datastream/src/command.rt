@@ -1,5 +1,5 @@
 //! Reading commands.
-ghost use Rattle.std.specs.Prelude.{◌≡◌, ◌↔◌, MatchResult, IfOk, IfErr, All, length, ◌<◌, ◌^◌};
+ghost use Rattle.std.specs.Prelude.{◌≡◌, MatchResult, IfOk, IfErr, All, length, ◌<◌, ◌^◌};
 ghost use Rattle.codes3270.specs.Size.{cells_in};
 ghost use Rattle.datastream.specs.Grammar.{CommandParts, IsCommand, IsNoCommand, IsSpelt, IsProper, AreOrders, HasFault, size_after};
 ghost use Rattle.datastream.specs.Reading.{orders_in};

@@ -1,5 +1,5 @@
 //! Reading the parts of inbound data.
-ghost use Rattle.std.specs.Prelude.{◌≡◌, ◌<◌, ◌≤◌, ⊤, ℕ, List, Err, MatchResult, drop, length};
+ghost use Rattle.std.specs.Prelude.{◌≡◌, ◌<◌, ◌≤◌, ℕ, Err, MatchResult, drop, length};
 ghost use Rattle.std.specs.Iterator.{YieldsFirst, item_count};
 ghost use Rattle.codes3270.specs.Size.{cells_in};
 ghost use Rattle.datastream.specs.declared.inbound_part.Form.TheVariants.{Buffer};

@@ -1,5 +1,5 @@
 //! Reading orders.
-ghost use Rattle.std.specs.Prelude.{◌≡◌, List, drop, length};
+ghost use Rattle.std.specs.Prelude.{◌≡◌, drop, length};
 ghost use Rattle.std.specs.Iterator.{YieldsFirst, item_count};
 ghost use Rattle.codes3270.specs.Size.{cells_in};
 ghost use Rattle.datastream.specs.Grammar.{start_field};

@@ -4,7 +4,7 @@ ghost use Rattle.codes3270.specs.Size.{cells_in, most_cells};
 ghost use Rattle.datastream.specs.CellBits.{word_count, AreBits};
 ghost use Rattle.datastream.specs.CellCodes.{code_in};
 ghost use Rattle.datastream.specs.Screen.{is_char};
-ghost use Rattle.datastream.specs.Wanted.{IsProper, WantedScreen, want_kept};
+ghost use Rattle.datastream.specs.Wanted.{IsProper, want_kept};
 ghost use Rattle.datastream.specs.declared.wanted.Want.TheVariants.{Keep};
 ghost use Rattle.datastream.specs.Wanted.{is_attribute as is_attribute_wanted, is_character as is_character_wanted, byte_of as byte_wanted};
 

@@ -1,5 +1,5 @@
 //! What the host learns of the texts of a panel's fields.
-ghost use Rattle.std.specs.Prelude.{◌≡◌, ◌≢◌, ◌<◌, ◌≤◌, ◌+◌, ◌++◌, ◌∷◌, [], true, false, length, Option, Some, IfOk, IfSome, OnOk, OnErr, option_map, if◌then◌else◌, not, ◌==◌};
+ghost use Rattle.std.specs.Prelude.{◌≡◌, ◌≢◌, ◌<◌, ◌≤◌, ◌+◌, ◌++◌, ◌∷◌, [], true, false, length, Option, IfOk, IfSome, OnOk, OnErr, option_map, if◌then◌else◌, not, ◌==◌};
 ghost use Rattle.std.specs.List.{list_any};
 ghost use Rattle.std.specs.Option.{option_map_or};
 ghost use Rattle.codes3270.specs.Size.{most_cells};

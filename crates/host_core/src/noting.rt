@@ -1,15 +1,15 @@
 //! Notes: short texts in the last row, sent while the operator has the turn (our profile).
 ghost use Rattle.std.specs.Prelude.{◌≡◌, ◌-◌, ◌+◌, ◌<◌, ◌≤◌, ◌++◌, take, replicate, length, All, true, vec_len};
 ghost use Rattle.std.specs.Vec.{vec_capacity};
-ghost use Rattle.codes3270.specs.Size.{cells_in, most_columns};
+ghost use Rattle.codes3270.specs.Size.{most_columns, cells_in};
 ghost use Rattle.codes3270.specs.Storable.{is_storable};
 ghost use Rattle.shadow.specs.Belief.{IsOfSize};
 ghost use Rattle.host_core.specs.Application.{IsValidSize, message_place};
-ghost use Rattle.host_core.specs.Representation.{DoesOn, IsSentOn};
-ghost use Rattle.host_core.specs.Notes.{IsNoteText, may_note, note_command, noted, noted_as};
-ghost use Rattle.host_core.specs.Rooms.{HasRoomFor, note_room};
+ghost use Rattle.host_core.specs.Notes.{IsNoteText, note_command, may_note, noted, noted_as};
 ghost use Rattle.host_core.specs.Says.{written};
 ghost use Rattle.host_core.specs.Session.{is_agreed};
+ghost use Rattle.host_core.specs.Representation.{DoesOn, IsSentOn};
+ghost use Rattle.host_core.specs.Rooms.{HasRoomFor, note_room};
 
 use crate::acted::Acted;
 use crate::pending::Pending;
@@ -113,4 +113,53 @@ pub(crate) fn put_note(bytes: &mut Vec<u8>, text: &[u8], size: Size)
 {
     let mut writer = CommandWriter::new(bytes);
     write_note(&mut writer, text, size);
+}
+
+impl Session {
+    /// Whether a note may be sent: it is the operator's turn, and no command waits for its answer.
+    fn may_note(&self) -> bool
+        ensures may { result ≡ may_note self.now.turn self.now.pending (is_agreed self.now.talk.state) }
+        ensures known { result ≡ true → IsOfSize (cells_in self.now.size) self.now.shadow }
+    {
+        match self.turn {
+            Turn::Host => false,
+            Turn::Terminal => match self.pending {
+                Pending::Nothing => self.agreed(),
+                Pending::Writing(_) | Pending::Reading(_) | Pending::Noting(_) => false,
+            },
+        }
+    }
+
+    /// Sends the command of a note; its response is awaited.
+    fn send_note(&mut self, text: &[u8], out: &mut Vec<u8>)
+        requires text { IsNoteText text.now }
+        requires room { HasRoomFor note_room out.old }
+        requires known { IsOfSize (cells_in self.old.size) self.old.shadow }
+        ensures sent { IsSentOn (noted_as text.now self.old) out.old out.new self.new }
+        ensures capacity { vec_capacity out.old ≤ vec_capacity out.new }
+    {
+        begin_record(&mut self.sent, ALWAYS_RESPONSE, self.next_seq);
+        put_note(&mut self.sent, text, self.size);
+        send_record(self.sent.as_slice(), out);
+        self.pending = Pending::Noting(self.next_seq);
+        self.next_seq = next_seq(self.next_seq);
+    }
+
+    /// Sends a note, cut to the row, if one may be sent.
+    pub(crate) fn note(&mut self, text: &[u8], out: &mut Vec<u8>) -> Acted
+        requires text { IsNoteText text.now }
+        ensures noted { DoesOn (noted text.now self.old) self.old out.old result self.new out.new }
+        ensures panel { self.new.panel ≡ self.old.panel }
+        ensures size { self.new.size ≡ self.old.size }
+        ensures capacity { vec_capacity out.old ≤ vec_capacity out.new }
+    {
+        if !self.may_note() {
+            return Acted::Nothing;
+        }
+        if out.reserve(NOTE_ROOM).is_err() {
+            return Acted::Memory;
+        }
+        self.send_note(text, out);
+        Acted::Sent
+    }
 }

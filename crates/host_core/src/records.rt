@@ -10,7 +10,7 @@ ghost use Rattle.shadow.specs.Belief.{IsOfSize};
 ghost use Rattle.shadow.specs.Exactness.{is_erase};
 ghost use Rattle.shadow.specs.Stores.{is_plain};
 ghost use Rattle.tn3270e_msg.specs.Header.{header_length};
-ghost use Rattle.host_core.specs.Items.{IsNoSecondKey, TakesData, TakesRecord, is_paint_or_read, may_be_second_key, second_key_size, verdict_of};
+ghost use Rattle.host_core.specs.Items.{TakesData, TakesRecord, may_be_second_key, second_key_size, verdict_of};
 ghost use Rattle.host_core.specs.Representation.{IsPlainWrite, command_in, silent, step_of};
 ghost use Rattle.host_core.specs.Parts.{IsWrite, write_of};
 ghost use Rattle.host_core.specs.declared.after_record.AfterRecord.TheVariants.{GoesOn};

@@ -1,5 +1,5 @@
 //! The slot of a connection number: the socket of its connection, if there is one, and its counts.
-ghost use Rattle.std.specs.Prelude.{◌≡◌, ◌<◌, true, false, length};
+ghost use Rattle.std.specs.Prelude.{◌≡◌, ◌<◌, length};
 ghost use Rattle.host_core.specs.Serves.{GotWithin, TookWithin, bytes_got};
 ghost use Rattle.jobs.specs.RawCalls.{is_transient, link_read, link_write};
 ghost use Rattle.jobs.specs.Sockets.{IsValidReadCount, Gives, IsReadOnce, IsTelnetRead, IsWrittenOnce, Raises, Takes, TookSome, begins_with_iac, counted, emptied, is_connected, is_held_back, opened, unused, with_waiting};

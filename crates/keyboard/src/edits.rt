@@ -1,5 +1,5 @@
 //! Typing and erasing at the cursor.
-ghost use Rattle.std.specs.Prelude.{◌≡◌, ◌+◌, ◌%◌, ◌<◌, ◌≤◌, ◌∷◌, ◌++◌, ◌&&◌, not, Ok, Err, None, Some, true, MatchResult, MatchOption, length, take, drop, replicate, slice_index_or};
+ghost use Rattle.std.specs.Prelude.{◌≡◌, ◌+◌, ◌<◌, ◌≤◌, ◌∷◌, ◌++◌, ◌&&◌, not, Ok, Err, None, Some, true, MatchResult, MatchOption, length, take, drop, replicate, slice_index_or};
 ghost use Rattle.codes3270.specs.Size.{cells_in};
 ghost use Rattle.codes3270.specs.Storable.{is_storable};
 ghost use Rattle.codes3270.specs.declared.attribute.Cell.TheVariants.{Char};

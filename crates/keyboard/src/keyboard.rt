@@ -1,5 +1,5 @@
 //! The keyboard, and what each key does.
-ghost use Rattle.std.specs.Prelude.{◌≡◌, ◌<◌, false, length};
+ghost use Rattle.std.specs.Prelude.{◌≡◌, ◌<◌, length};
 ghost use Rattle.codes3270.specs.Size.{cells_in};
 ghost use Rattle.datastream.specs.Meaning.{cleared};
 ghost use Rattle.keyboard.specs.State.{fresh, freed};

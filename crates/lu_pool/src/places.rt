@@ -1,8 +1,7 @@
 //! The index of an entry in a pool.
-ghost use Rattle.std.specs.Prelude.{◌≡◌, ℕ, List, Option, Some, None, Ok, Err, IfOk, IfErr, is_none, position, slice_get, slice_set, ◌<◌, vec_len};
+ghost use Rattle.std.specs.Prelude.{◌≡◌, Some, None, Err, IfOk, IfErr, is_none, position, slice_get, slice_set, ◌<◌, vec_len};
 ghost use Rattle.std.specs.Option.{option_copied};
 ghost use Rattle.std.specs.Str.{bytes_eq};
-ghost use Rattle.tn3270e_msg.specs.Lu.{lu_of};
 ghost use Rattle.lu_pool.specs.declared.entry.Entry.{Entry};
 ghost use Rattle.lu_pool.specs.Pool.{entry, is_held_by};
 ghost use Rattle.lu_pool.specs.Asking.{answer_to, answer_to_lu, IsFreePlace};

@@ -6,7 +6,6 @@ ghost use Rattle.lu_pool.specs.Asking.{answer_to, Grants, Frees};
 ghost use Rattle.lu_pool.specs.Holders.{granted_to, given_back, all_free};
 ghost use Rattle.lu_pool.specs.Pool.{Holds, HoldsNone, OneHolder, OneLu, IsCount, IsPool, entry};
 ghost use Rattle.lu_pool.specs.Reading.{parsed_names, IsReadFrom, IsRight, IsFirstFault, IsTextFault, IsNew};
-ghost use Rattle.lu_pool.specs.declared.fault.PoolFault.{PoolFault};
 
 use crate::entry::Entry;
 use crate::fault::PoolFault;

@@ -1,5 +1,5 @@
 //! A live terminal: the bytes of an operator's tty and of a host come in, and what the tty is to be written goes out.
-ghost use Rattle.std.specs.Prelude.{◌≡◌, ◌++◌, ◌<◌, ◌≤◌, [], None, IfOk, OnErr, OnOk, drop, length};
+ghost use Rattle.std.specs.Prelude.{◌≡◌, ◌<◌, ◌≤◌, [], None, IfOk, OnErr, OnOk, drop, length};
 ghost use Rattle.term_core.specs.Presses.{after_key, answer_to_key};
 ghost use Rattle.term_core.specs.Room.{out_room};
 ghost use Rattle.term_core.specs.State.{phase_of, connected, lost, model_of};
@@ -68,7 +68,7 @@ pub struct LiveTerminal {
 }
 
 impl marker::Model for LiveTerminal {
-    ghost use Rattle.operate.specs.Live.{Live, Seat};
+    ghost use Rattle.operate.specs.Live.{Live};
 
     ghost Value = { Live };
 

@@ -20,7 +20,6 @@ use service::{ServeOptions, open_panels, run_host, run_serve, run_tell};
 use std::env;
 use std::io::{self, ErrorKind, IsTerminal, Stdout};
 use std::process::ExitCode;
-use std::sync::Wait;
 use web::run_web;
 
 /// The name of the standard input in reports.

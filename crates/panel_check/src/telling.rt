@@ -3,7 +3,7 @@ ghost use Rattle.std.specs.Prelude.{◌≡◌, ◌≤◌, ◌⊎◌, ◌↔◌, 
 ghost use Rattle.toml.specs.Parse.{parse_document};
 ghost use Rattle.toml.specs.View.{table_view};
 ghost use Rattle.panel_check.specs.Causes.{IsStated, in_table};
-ghost use Rattle.panel_check.specs.Listed.{AddsOf, AreCausesOf, AreFindingsOf, causes_of};
+ghost use Rattle.panel_check.specs.Listed.{AddsOf, AreCausesOf, AreFindingsOf};
 ghost use Rattle.panel_check.specs.Report.{HasCause, IsReportOn, is_fault};
 
 use crate::lines::{Lines, line_ends};

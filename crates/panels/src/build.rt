@@ -1,5 +1,5 @@
 //! Builds the panels that a faultless draft defines.
-ghost use Rattle.std.specs.Prelude.{◌≡◌, ◌+◌, ◌<◌, Some, None, All, Contains, IfOk, IfSome, bytes_eq, map, option_map, slice_get, length};
+ghost use Rattle.std.specs.Prelude.{◌≡◌, ◌+◌, ◌<◌, Some, All, Contains, IfOk, IfSome, bytes_eq, map, option_map, slice_get, length};
 ghost use Rattle.std.specs.List.{list_any};
 ghost use Rattle.panels.specs.Draft.{draft_size, fields_of, otherwise_of, values_of};
 ghost use Rattle.panels.specs.Keys.{key_names};

@@ -1,24 +1,18 @@
 //! Finds the faults of a draft, table by table.
-ghost use Rattle.std.specs.Prelude.{◌≡◌, ◌↔◌, ◌+◌, ◌<◌, IfOk, IsTrue, OnOk, length, ◌≤ℤ◌, ◌<ℤ◌, ◌-ℤ◌, ◌&&◌, ℕ, Some, true, false, MatchOption, pos, chars, List, Contains, bytes_eq, map, not, option_map};
-ghost use Rattle.panels.specs.Faults.{HasFault, is_part, faults_of, IsOverlapping, Overlaps, item_at, size_at, HasFieldNamed, HasLostCursor, has_key_twice, has_strange_key, asks_twice, HasLostOtherwise, IsNamedAsOne, IsTwiceNamed, IsBasePanelNamed, NamesBasePanel, NamesPanel, NamesField, NamesItem, IsFirstNamed, name_at};
+ghost use Rattle.std.specs.Prelude.{◌≡◌, ◌↔◌, ◌+◌, ◌<◌, IfOk, IsTrue, OnOk, length, ℕ, Some, true, false, MatchOption, List, Contains};
+ghost use Rattle.panels.specs.Faults.{HasFault, is_part, faults_of, IsOverlapping, Overlaps, item_at, HasLostOtherwise, IsNamedAsOne, IsTwiceNamed, IsBasePanelNamed, NamesBasePanel, NamesPanel, NamesField, NamesItem, IsFirstNamed, name_at};
 ghost use Rattle.panels.specs.Listing.{AreFaultsOf};
-ghost use Rattle.panels.specs.Walk.{turn_at, turn_behind, AreFoundTo, IsAdded, nth, is_letter_of};
-ghost use Rattle.panels.specs.Size.{item_rows, message_start};
+ghost use Rattle.panels.specs.Walk.{turn_at, turn_behind, AreFoundTo, IsAdded, nth};
 ghost use Rattle.panels.specs.Draft.{DraftItem};
-ghost use Rattle.panels.specs.Items.{IsExtentOf, is_in_rows, is_on_screen, is_in_place, lacks_code, is_above_message, first_of, is_name as is_name_by};
-ghost use Rattle.std.specs.List.{list_any};
-ghost use Rattle.panels.specs.Keys.{is_asked_name, is_key_name};
-ghost use Rattle.panels.specs.Index.{IsLater};
+ghost use Rattle.panels.specs.Items.{IsExtentOf, is_on_screen};
 ghost use Rattle.panels.specs.declared.fault.Location.TheVariants as part;
 
-use crate::draft::{Draft, ItemDraft, PanelDraft};
+use crate::draft::{Draft, PanelDraft};
 use crate::extent::Extent;
 use crate::fault::TreeFault::*;
 use crate::fault::{LocatedFault, Location, TreeFault};
-use crate::index::NameIndex;
 use crate::names::{is_later, is_name};
-use crate::size::{item_rows, message_start};
-use codes3270::{Size, from_latin1};
+use codes3270::Size;
 use std::alloc::{AllocError, Global};
 
 /// The most panels of a text.

@@ -1,14 +1,14 @@
 //! The names in a panel text, and the panels, fields and keys that have them.
-ghost use Rattle.std.specs.Prelude.{◌≡◌, ◌↔◌, List, ℕ, Some, IsTrue, Contains, MatchOption, bytes_eq, map, not, option_map, pos};
+ghost use Rattle.std.specs.Prelude.{◌≡◌, ◌↔◌, IsTrue, bytes_eq, map, not, option_map, pos};
 ghost use Rattle.std.specs.List.{list_any};
 ghost use Rattle.panels.specs.Items.{is_name as is_name_by};
 ghost use Rattle.panels.specs.Keys.{connect_name, is_asked_name, is_key_name, key_names};
 ghost use Rattle.panels.specs.declared.fault.Location.TheVariants as part;
-ghost use Rattle.panels.specs.Faults.{HasFieldNamed, HasLostCursor, has_key_twice, has_strange_key, asks_twice, HasLostOtherwise, IsBasePanelNamed, NamesBasePanel, NamesPanel, NamesField, name_at};
+ghost use Rattle.panels.specs.Faults.{HasFieldNamed, HasLostCursor, has_key_twice, has_strange_key, asks_twice};
 ghost use Rattle.panels.specs.Index.{IsLater};
 ghost use Rattle.panels.specs.Walk.{is_letter_of};
 
-use crate::draft::{Draft, ItemDraft, PanelDraft};
+use crate::draft::{ItemDraft, PanelDraft};
 use crate::fault::Location;
 use crate::index::NameIndex;
 

@@ -1,7 +1,6 @@
 //! The panels of a text.
-ghost use Rattle.std.specs.Prelude.{◌≡◌, ◌<◌, ℕ, map, length, string_bytes, option_copied, slice_get, option_map, IfSome, Some, ◌⊎◌, IsTrue};
+ghost use Rattle.std.specs.Prelude.{◌≡◌, ◌<◌, ℕ, map, length, string_bytes, option_copied, slice_get, IfSome, Some, IsTrue};
 ghost use Rattle.codes3270.specs.Size.{cells_in};
-ghost use Rattle.codes3270.specs.declared.size.Model.TheVariants.{M2};
 ghost use Rattle.codes3270.specs.declared.attention.Aid.{Aid};
 ghost use Rattle.panels.specs.Keys.{IsKey};
 ghost use Rattle.panels.specs.Names.{field_named, number_named, panel_named};

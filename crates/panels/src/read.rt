@@ -1,5 +1,5 @@
 //! Reading a panel text.
-ghost use Rattle.std.specs.Prelude.{◌≡◌, IfOk, IfErr, OnOk, map, slice_get};
+ghost use Rattle.std.specs.Prelude.{◌≡◌, IfOk, IfErr, OnOk, slice_get};
 ghost use Rattle.toml.specs.View.{table_view};
 ghost use Rattle.panels.specs.Draft.{draft_of};
 ghost use Rattle.panels.specs.Passes.{IsFaultless, IsReasonIn, IsReason};

@@ -20,7 +20,7 @@ use crate::panel::{Content, Field, Panel, TextItem};
 use crate::size::message_start;
 use crate::values::Values;
 use codes3270::Display::{Bright, Hidden, Normal};
-use codes3270::{Attr, Size, from_latin1};
+use codes3270::{Attr, from_latin1};
 use datastream::{Want, Wanted};
 
 /// The cell of an item at a distance from its attribute. Without a content, the cells after the attribute keep theirs.

@@ -1,11 +1,9 @@
 //! The characters that a screen displays.
-ghost use Rattle.std.specs.Prelude.{◌≡◌, ◌<◌};
-ghost use Rattle.codes3270.specs.Size.{cells_in};
-ghost use Rattle.presentation.specs.Glyph.{glyph_at, glyph_of, glyph_of_code, is_hidden, hidden_from, shown, all_glyphs};
+ghost use Rattle.std.specs.Prelude.{◌≡◌};
+ghost use Rattle.presentation.specs.Glyph.{glyph_of, glyph_of_code, is_hidden, hidden_from, shown};
 
-use crate::Screen;
 use crate::screen_cells::ScreenCells;
-use codes3270::{Addr, Attr, Cell, Display};
+use codes3270::{Attr, Cell, Display};
 use std::marker::Model;
 
 /// The displayed character of each code, in ISO 8859-1.

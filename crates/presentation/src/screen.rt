@@ -10,14 +10,13 @@ ghost use Rattle.datastream.specs.InboundFields.{IsSendable, IsStorableCell};
 ghost use Rattle.presentation.specs.Applied.{asked_by};
 ghost use Rattle.presentation.specs.Places.{IsFirstStart, starts_at};
 ghost use Rattle.presentation.specs.Sizes.{HasSize, IsReadFor, applied, blank_of};
-ghost use Rattle.presentation.specs.Glyph.{glyph_at, glyph_of, glyph_of_code, is_hidden, hidden_from, shown, all_glyphs};
+ghost use Rattle.presentation.specs.Glyph.{glyph_at, all_glyphs};
 
 use crate::buffer::{Buffer, with_real_key};
 use crate::glyph::{Glyphs, glyph_of, is_hidden};
 use crate::index::AttributeIndex;
-use crate::screen_cells::ScreenCells;
 use crate::{Applied, cells, index};
-use codes3270::{Addr, Aid, Attr, Cell, Display, Model, Size};
+use codes3270::{Addr, Aid, Cell, Model, Size};
 use datastream::Command;
 use std::marker;
 

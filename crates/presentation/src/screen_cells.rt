@@ -23,8 +23,7 @@ pub(crate) struct ScreenCells {
 }
 
 impl Model for ScreenCells {
-    ghost use Rattle.std.specs.Prelude.{◌≡◌, ◌≤◌, List, length};
-    ghost use Rattle.codes3270.specs.Size.{cells_in, most_cells};
+    ghost use Rattle.std.specs.Prelude.{List};
     ghost use Rattle.codes3270.specs.declared.attribute.Cell.{Cell};
     ghost use Rattle.presentation.specs.Kept.{cells_of, AreCells};
 

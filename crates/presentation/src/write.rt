@@ -6,7 +6,7 @@ ghost use Rattle.codes3270.specs.Storable.{is_storable};
 ghost use Rattle.codes3270.specs.declared.attribute.Cell.TheVariants.{Char};
 ghost use Rattle.datastream.specs.Screen.{is_char};
 ghost use Rattle.datastream.specs.Grammar.{IsProper};
-ghost use Rattle.datastream.specs.declared.order.Order.TheVariants.{Sba, Ic, Ra, Eua, Pt, Char as CharData};
+ghost use Rattle.datastream.specs.declared.order.Order.TheVariants.{Ic, Ra, Eua, Pt, Char as CharData};
 ghost use Rattle.datastream.specs.Meaning.{WriteProgress, filled, stored, executed, all_executed, prepared, restored, cleared, written, unprotected_erased};
 ghost use Rattle.presentation.specs.Applied.{asked_by, asked_by_wcc};
 ghost use Rattle.presentation.specs.Sizes.{HasSize, IsReadFor, applied};

@@ -1,5 +1,5 @@
 //! Runs a world until it is idle: delivers all bytes in transit and lets the host act, until that has no effect.
-ghost use Rattle.std.specs.Prelude.{◌≡◌, ◌<◌, List, None, IfOk, OnErr, OnOk};
+ghost use Rattle.std.specs.Prelude.{◌≡◌, List, None, IfOk, OnErr, OnOk};
 ghost use Rattle.host_core.specs.State.{most_connections};
 ghost use Rattle.world3270.specs.model.ByteRuns.{refused_at};
 ghost use Rattle.world3270.specs.model.ByteSteps.{Steps};

@@ -1,5 +1,4 @@
 //! `script` and `show`: read the whole input, print a page, and open no socket.
-ghost use Rattle.std.specs.Prelude.{◌≡◌};
 ghost use Rattle.jobs.specs.Runs.{InPieces, ending_of};
 ghost use Rattle.scripts.specs.PageJobRuns.{EndsPrinting, HasCause, IsEnd};
 ghost use Rattle.scripts.specs.declared.page_job.PageJob.TheVariants.{Script, Show};

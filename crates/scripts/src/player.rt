@@ -1,5 +1,5 @@
 //! Plays the lines of a script in a world, and adds their output to a text.
-ghost use Rattle.std.specs.Prelude.{◌≡◌, ◌<◌, ◌++◌, ℕ, List, None, Some, IfOk, OnOk, chars, length, string_bytes, true};
+ghost use Rattle.std.specs.Prelude.{◌≡◌, ◌++◌, ℕ, List, None, IfOk, OnOk, chars, length, string_bytes, true};
 ghost use Rattle.world3270.specs.model.ByteRuns.{refused_at};
 ghost use Rattle.world3270.specs.model.ByteSteps.{Steps};
 ghost use Rattle.scripts.specs.Happenings.{AreTyped, Happening, TakePlace, answer_text, answers_text, is_refused};

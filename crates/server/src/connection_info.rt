@@ -1,5 +1,5 @@
 //! What a server records about each connection of its host.
-ghost use Rattle.std.specs.Prelude.{◌≡◌, ◌<◌, IfOk, None, Some, length, replicate, slice_index_or, slice_set};
+ghost use Rattle.std.specs.Prelude.{◌≡◌, ◌<◌, IfOk, None, Some, replicate, slice_index_or, slice_set};
 ghost use Rattle.host_core.specs.State.{most_connections};
 ghost use Rattle.server.specs.ConnectionInfos.{new_info, session_end, usage_of, with_event};
 

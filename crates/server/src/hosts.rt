@@ -1,5 +1,5 @@
 //! The host of the newest panels, and the earlier hosts whose sessions go on.
-ghost use Rattle.std.specs.Prelude.{◌≡◌, ◌≢◌, ◌≤◌, ◌<◌, ℕ, List, Option, Err, IfOk, IfSome, OnOk, OnErr, IfNone, None, length, replicate};
+ghost use Rattle.std.specs.Prelude.{◌≡◌, ◌≢◌, ◌<◌, ℕ, Err, IfOk, IfSome, OnOk, OnErr, IfNone, None, length, replicate};
 ghost use Rattle.host_core.specs.Application.{application_of};
 ghost use Rattle.host_core.specs.Does.{Does, DoesAnswer, noted_by};
 ghost use Rattle.host_core.specs.KeepAlive.{kept_alive, kept_alive_answer};
@@ -7,7 +7,7 @@ ghost use Rattle.host_core.specs.Notes.{IsNoteText};
 ghost use Rattle.host_core.specs.Questions.{answered_by};
 ghost use Rattle.host_core.specs.Reports.{events_of, oldest, without_oldest};
 ghost use Rattle.host_core.specs.Serves.{Serves};
-ghost use Rattle.host_core.specs.State.{connection_at, most_connections, phase_of, reports_at, session_at, state_at, with_connection, with_reports};
+ghost use Rattle.host_core.specs.State.{connection_at, most_connections, phase_of, reports_at, session_at, with_connection, with_reports};
 ghost use Rattle.host_core.specs.declared.phase.Phase.TheVariants as phase;
 ghost use Rattle.server.specs.Apart.{IsApart, KeepsFor, NobodyHolds, NobodyShares, NobodyTalks, Reserves, service_at};
 ghost use Rattle.server.specs.Hosts.{AreOwned, IsFreePlace, closed, handed_below, host_at, lu_in, is_owned, is_place, most_earlier, only, opened, owner_after, put_at, reloaded, reserved_below, reserved_for, with_host};

@@ -1,5 +1,5 @@
 //! The notes that wait for their sessions.
-ghost use Rattle.std.specs.Prelude.{◌≡◌, ◌<◌, IfOk, None, Some, is_some, replicate};
+ghost use Rattle.std.specs.Prelude.{◌≡◌, ◌<◌, IfOk, None, replicate};
 ghost use Rattle.host_core.specs.State.{most_connections};
 ghost use Rattle.server.specs.Control.{DeliversAt, DeliversBelow, Tries, after_try, delivery_of, has_recipient_below, has_session, is_for, is_sent, queued_below, recipient_at, session_if_for, with_waiting};
 

@@ -1,5 +1,5 @@
 //! A listener for connections from a proxy: each is held until its header of the PROXY protocol is complete.
-ghost use Rattle.std.specs.Prelude.{◌≡◌, ◌<◌, [], length, slice_set};
+ghost use Rattle.std.specs.Prelude.{◌≡◌, ◌<◌, length};
 ghost use Rattle.service_wire.specs.HeaderReader.{IsMissing};
 ghost use Rattle.server.specs.ProxyListener.{HandsNext, Holds, Leaves, Looks, ReadsOn, ReadsPart, ServesAt, ServesHeld, TakesIn, VisitsAt, arrival_of, is_late, newly_held, outcome_of, progress_of};
 

@@ -3,7 +3,7 @@ ghost use Rattle.std.specs.Prelude.{◌≡◌, IfErr};
 ghost use Rattle.jobs.specs.declared.fault.Fault.TheVariants as fault;
 
 use crate::accepting::{Accepted, Arrival, Listener};
-use crate::proxy_listener::{ConnectionAwaitingHeader, MOST_HELD, ProxyListener};
+use crate::proxy_listener::{MOST_HELD, ProxyListener};
 use host_core::MOST_CONNECTIONS;
 use jobs::Fault;
 use mio::event::Source;

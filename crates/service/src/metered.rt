@@ -1,6 +1,4 @@
 //! Counts what a server does, and serves the counts at the metrics port.
-ghost use Rattle.std.specs.Prelude.{◌<◌};
-ghost use Rattle.host_core.specs.State.{most_connections};
 
 use crate::metrics_port::{MetricsPort, Served, listen};
 use applications::{ApplicationFault, Replaced};

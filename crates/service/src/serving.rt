@@ -1,7 +1,7 @@
 //! The jobs `host` and `serve`: serve the panels of the input to the terminals that connect.
 ghost use Rattle.std.specs.Iterator.{IsFinite};
 ghost use Rattle.std.specs.Prelude.{◌≡◌};
-ghost use Rattle.service.specs.Serving.{is_closed, is_over};
+ghost use Rattle.service.specs.Serving.{is_closed};
 
 use crate::application::Application;
 use crate::control_socket::{self, Commanding, ControlSocket};

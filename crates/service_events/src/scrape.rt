@@ -2,7 +2,6 @@
 ghost use Rattle.std.specs.Prelude.{◌≡◌, ◌≤◌, ◌==◌, [], ℕ, List, Some, IfOk, OnErr, OnOk, length, option_map, position};
 ghost use Rattle.httparse.specs.Grammar.{RequestHead as Head, ReadsRequest};
 ghost use Rattle.service_events.specs.Scrapes.{IsAnswerTo, before, is_late, is_local, most_fields, resource_of, status_for_resource, status_of, status_of_parts, with_more};
-ghost use Rattle.web_wire.specs.Heads.{only_value};
 
 use httparse::spans::{EMPTY_HEADER_SPAN, parse_request};
 use httparse::{Error, Status};

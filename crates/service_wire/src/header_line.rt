@@ -1,5 +1,5 @@
 //! Version 1: a header is a line of text (section 2.1).
-ghost use Rattle.std.specs.Prelude.{◌≡◌, ◌==◌, ◌∷◌, [], ◌++◌, ℕ, ◌+◌, ◌<◌, ◌≢◌, Option, MatchOption, IfOk, IfErr, IfSome, IfNone, length, drop, option_copied, slice_index};
+ghost use Rattle.std.specs.Prelude.{◌≡◌, ◌∷◌, [], ◌++◌, ℕ, ◌<◌, ◌≢◌, Option, MatchOption, IfOk, IfErr, IfSome, IfNone, length, drop, option_copied, slice_index};
 ghost use Rattle.std.specs.Bool.{Decides};
 ghost use Rattle.std.specs.Net.Grammar.{IsIpv4Text, IsIpv6Text};
 ghost use Rattle.std.specs.declared.net.socket_addr.SocketAddr.{SocketAddr};

@@ -1,5 +1,5 @@
 //! A line that is received in pieces.
-ghost use Rattle.std.specs.Prelude.{◌≡◌, ◌-◌, ◌≤◌, ◌<◌, IfErr, IfOk, MatchOption, Some, [], option_map};
+ghost use Rattle.std.specs.Prelude.{◌≡◌, IfErr, IfOk, MatchOption, Some, [], option_map};
 ghost use Rattle.service_wire.specs.Lines.{IsNoLine, IsOpen, line_in, received};
 
 use crate::fronts::{front_of, place_of};

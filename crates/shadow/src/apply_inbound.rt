@@ -20,7 +20,7 @@ use crate::field_update::{Change, FieldUpdate, fill_between, fill_front, update_
 use crate::mdt_state::MdtState;
 use crate::queries::{all_known, are_null, denies, is_attribute};
 use crate::returned_cursor::ReturnedCursor;
-use codes3270::{Addr, Attr};
+use codes3270::Addr;
 use datastream::{Inbound, ReturnedFields};
 
 /// How the belief of an unprotected field changes if its text isn't returned and nothing shows that input was erased.

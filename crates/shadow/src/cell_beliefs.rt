@@ -1,5 +1,5 @@
 //! What is believed of each cell of a screen of any size, kept as bits and bytes.
-ghost use Rattle.std.specs.Prelude.{◌≡◌, ◌<◌, ◌≤◌, ◌+◌, ◌++◌, ◌∷◌, [], ◌*◌, ◌-◌, ℕ, true, false, Some, not, length, map, replicate, slice_index_or, slice_set, take, drop};
+ghost use Rattle.std.specs.Prelude.{◌≡◌, ◌<◌, ◌≤◌, ◌+◌, ◌++◌, ◌∷◌, [], ◌*◌, ◌-◌, ℕ, true, Some, not, length, map, replicate, slice_index_or, slice_set, take, drop};
 ghost use Rattle.codes3270.specs.Size.{cells_in, most_cells};
 ghost use Rattle.datastream.specs.CellBits.{has_bit};
 ghost use Rattle.datastream.specs.CellCodes.{code_in};

@@ -1,5 +1,5 @@
 //! Whether the fields that a wanted screen keeps (Keep) are believed to be there.
-ghost use Rattle.std.specs.Prelude.{◌≡◌, ◌<◌, ◌≤◌, ◌+◌, ◌&&◌, ◌||◌, ◌*◌, ◌==◌, not, length, drop, IfSome};
+ghost use Rattle.std.specs.Prelude.{◌≡◌, ◌<◌, ◌≤◌, ◌+◌, ◌&&◌, ◌*◌, ◌==◌, length, drop, IfSome};
 ghost use Rattle.std.specs.List.{list_any};
 ghost use Rattle.codes3270.specs.Size.{cells_in, most_cells};
 ghost use Rattle.shadow.specs.Fits.{is_keep, is_attribute, is_field, fits_from, fields_fit};

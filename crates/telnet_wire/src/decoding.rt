@@ -1,5 +1,5 @@
 //! The decoder: bytes in, items out.
-ghost use Rattle.std.specs.Prelude.{◌≡◌, ◌≢◌, ◌<◌, ◌≤◌, ℕ, IfOk, IfErr, List, [], ◌∷◌, ◌++◌, ◌==◌, IsSome, Some, Err, length, min, take};
+ghost use Rattle.std.specs.Prelude.{◌≡◌, ◌≢◌, ◌<◌, ◌≤◌, ℕ, IfOk, IfErr, List, [], ◌==◌, IsSome, Some, Err, length, min, take};
 ghost use Rattle.std.specs.List.{AllByRecursion, position_or_len};
 ghost use Rattle.telnet_wire.specs.Items.{item_of};
 ghost use Rattle.telnet_wire.specs.DecoderValue.{DecoderValue, fresh, broken, Takes, TakesAll, Refuses, step_of};

@@ -1,9 +1,8 @@
 //! Feeding bytes from the host to a terminal that is attached to a connection.
-ghost use Rattle.std.specs.Prelude.{◌≡◌, ◌<◌, ◌≤◌, ◌++◌, ℕ, false, length, take, None, Vec};
+ghost use Rattle.std.specs.Prelude.{◌≡◌, ◌<◌, ◌≤◌, ℕ, false, length, take, None, Vec};
 ghost use Rattle.std.specs.declared.alloc.Global.{Global};
 ghost use Rattle.std.specs.Vec.{vec_capacity};
-ghost use Rattle.telnet_wire.specs.Items.{item_of, sent_bytes};
-ghost use Rattle.tn3270e_msg.specs.Talk.{items_sent, IsOwnedMessage, closing};
+ghost use Rattle.telnet_wire.specs.Items.{item_of};
 ghost use Rattle.term_core.specs.Room.{HasRoom};
 ghost use Rattle.tn3270e_msg.specs.TermTable.{Term, is_agreed};
 ghost use Rattle.term_core.specs.Bytes.{TakesByte, TakesBytes};

@@ -1,5 +1,5 @@
 //! The display station: the screen and the keyboard, and what records and keys do to them.
-ghost use Rattle.std.specs.Prelude.{◌≡◌, ◌≤◌, ◌+◌, ◌++◌, ◌∷◌, [], Bool, false, None, Some, IfOk, MatchResult, length, vec_len};
+ghost use Rattle.std.specs.Prelude.{◌≡◌, ◌≤◌, ◌+◌, ◌++◌, ◌∷◌, [], Bool, false, Some, IfOk, MatchResult, length, vec_len};
 ghost use Rattle.std.specs.Vec.{vec_capacity};
 ghost use Rattle.datastream.specs.Grammar.{is_write};
 ghost use Rattle.codes3270.specs.Size.{alternate_of};

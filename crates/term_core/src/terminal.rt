@@ -1,6 +1,5 @@
 //! The terminal: a Telnet decoder, a negotiation, a display station, and the bytes that it has to send.
 ghost use Rattle.std.specs.Prelude.{◌≡◌, ◌<◌, ◌≤◌, [], length, drop, IfOk, OnOk, OnErr};
-ghost use Rattle.telnet_wire.specs.DecoderValue.{fresh};
 ghost use Rattle.term_core.specs.State.{new_terminal, connected, lost, model_of, phase_of, silenced};
 ghost use Rattle.term_core.specs.Feeds.{Feeds};
 ghost use Rattle.term_core.specs.Presses.{LacksKeyRoom, after_key, answer_to_key};

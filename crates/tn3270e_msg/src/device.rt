@@ -1,6 +1,6 @@
 //! The device types that a host serves (RFC 1647, section 7.1).
 ghost use Rattle.std.specs.Prelude.{◌≡◌};
-ghost use Rattle.tn3270e_msg.specs.Device.{device_for, device_of, device_text, devices, has_text, model_of};
+ghost use Rattle.tn3270e_msg.specs.Device.{device_for, device_of, device_text, has_text, model_of};
 
 use codes3270::Model;
 

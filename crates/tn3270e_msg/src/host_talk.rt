@@ -1,14 +1,13 @@
 //! The host's talk: its side of the negotiation, from its offer to agreement (RFC 1647, section 7; the choice
 //! among replies is our profile).
-ghost use Rattle.std.specs.Prelude.{◌≡◌, ◌↔◌, ℕ, List, IsTrue};
+ghost use Rattle.std.specs.Prelude.{◌≡◌, ◌↔◌, IsTrue};
 ghost use Rattle.telnet_wire.specs.Items.{item_of};
 ghost use Rattle.telnet_wire.specs.Token.{spelling};
 ghost use Rattle.telnet_wire.specs.Writing.{Appends};
 ghost use Rattle.tn3270e_msg.specs.Talk.{message_says, RequestsFunctions};
 ghost use Rattle.tn3270e_msg.specs.Hearing.{heard_says};
 ghost use Rattle.tn3270e_msg.specs.Lent.{name_of, message_of};
-ghost use Rattle.tn3270e_msg.specs.Device.{device_of};
-ghost use Rattle.tn3270e_msg.specs.HostTable.{host_transition, request_transition, answer_transition, host_start, HostTakes, HostAnswered, IsAsking, granted, device_granted, model_asked, agreed_lu, is_agreed, offer_token};
+ghost use Rattle.tn3270e_msg.specs.HostTable.{host_transition, request_transition, host_start, HostTakes, HostAnswered, IsAsking, granted, device_granted, model_asked, agreed_lu, is_agreed, offer_token};
 ghost use Rattle.tn3270e_msg.specs.declared.host_talk.HostState.TheVariants.{Named, Countered};
 
 use crate::cause::Cause;

@@ -1,5 +1,5 @@
 //! Names of logical units (our profile).
-ghost use Rattle.std.specs.Prelude.{◌≡◌, ◌≤◌, List, IsTrue, IfSome, Some, length};
+ghost use Rattle.std.specs.Prelude.{◌≡◌, ◌≤◌, IsTrue, IfSome, Some, length};
 ghost use Rattle.tn3270e_msg.specs.Lu.{is_lu, lu_of, is_lu_letter};
 
 use std::fmt;

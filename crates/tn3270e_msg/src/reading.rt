@@ -1,7 +1,5 @@
 //! Reading messages from bytes.
-ghost use Rattle.std.specs.Prelude.{◌≡◌, ◌∷◌, ◌++◌, ◌↔◌, ℕ, List, Option, IfOk, IfErr, IsOkAnd, IfSome, IfNone, IsTrue, Err};
-ghost use Rattle.std.specs.List.{list_all};
-ghost use Rattle.std.specs.Char.{is_ascii_graphic};
+ghost use Rattle.std.specs.Prelude.{◌≡◌, ◌∷◌, Option, IfOk, IfErr, IsOkAnd, IfSome, IfNone, Err};
 ghost use Rattle.tn3270e_msg.specs.declared.message.SubFault.{SubFault};
 ghost use Rattle.tn3270e_msg.specs.Text.{is_text, IsFront, IsEnd};
 ghost use Rattle.tn3270e_msg.specs.Message.{Message, Name as NameOf, IsName, Says, HasFault, name_part};

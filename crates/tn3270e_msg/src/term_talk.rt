@@ -6,7 +6,6 @@ ghost use Rattle.telnet_wire.specs.Items.{item_of};
 ghost use Rattle.tn3270e_msg.specs.Talk.{message_says, IsFunctions, RequestsFunctions, IsLuIfSome};
 ghost use Rattle.tn3270e_msg.specs.Hearing.{heard_says};
 ghost use Rattle.tn3270e_msg.specs.Lent.{message_of};
-ghost use Rattle.tn3270e_msg.specs.Lu.{lu_of};
 ghost use Rattle.tn3270e_msg.specs.Device.{device_for, has_text};
 ghost use Rattle.tn3270e_msg.specs.TermTable.{term_transition, grant_transition, term_start, TermTakes, bound, agreed_lu, is_agreed, reason_refused};
 ghost use Rattle.tn3270e_msg.specs.declared.term_talk.TermState.TheVariants.{FunctionsAsked};

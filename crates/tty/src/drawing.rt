@@ -1,5 +1,5 @@
 //! What a tty shows, and the bytes that change it.
-ghost use Rattle.std.specs.Prelude.{◌≡◌, ◌≤◌, ◌<◌, [], None, Some, IfSome, OnOk, OnErr, take, vec_len, vec_capacity};
+ghost use Rattle.std.specs.Prelude.{◌≡◌, ◌≤◌, None, Some, IfSome, OnOk, OnErr, take, vec_len, vec_capacity};
 ghost use Rattle.codes3270.specs.Appending.{Appends, AppendsSome};
 ghost use Rattle.tty.specs.Spelling.{all_spelt};
 ghost use Rattle.tty.specs.Pictures.{IsSized};

@@ -1,5 +1,5 @@
 //! The reader: bytes go in, keystrokes come out.
-ghost use Rattle.std.specs.Prelude.{◌≡◌, ◌==◌, ◌≤◌, [], length};
+ghost use Rattle.std.specs.Prelude.{◌≡◌, ◌==◌, [], length};
 ghost use Rattle.tty.specs.KeySequences.{meaning};
 ghost use Rattle.tty.specs.KeyReading.{grown, read_byte, after_pause, keystrokes_of};
 

@@ -1,5 +1,5 @@
 //! Pictures: what an operator sees.
-ghost use Rattle.std.specs.Prelude.{◌≡◌, ◌<◌, ◌≤◌, ◌*◌, ◌+◌, ◌-◌, ◌++◌, [], map, length, take, get_or, Bool, IfOk, OnOk, slice_index_or};
+ghost use Rattle.std.specs.Prelude.{◌≡◌, ◌<◌, ◌≤◌, ◌+◌, ◌-◌, ◌++◌, [], map, length, take, get_or, IfOk, OnOk, slice_index_or};
 ghost use Rattle.codes3270.specs.Size.{cells_in};
 ghost use Rattle.tty.specs.Pictures.{IsSized, erased_cell, same_cell, plain};
 ghost use Rattle.tty.specs.Changes.{same_size};

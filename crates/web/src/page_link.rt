@@ -1,5 +1,5 @@
 //! A page: its socket, and its end of the WebSocket.
-ghost use Rattle.std.specs.Prelude.{◌≡◌, ◌+◌, ◌<◌, ◌≤◌, [], OnErr, OnOk, length};
+ghost use Rattle.std.specs.Prelude.{◌≡◌, ◌+◌, ◌≤◌, [], OnErr, OnOk, length};
 ghost use Rattle.web_wire.specs.Notices.{notice_text};
 ghost use Rattle.web_wire.specs.Sockets.{IsRead, is_over, most_input};
 ghost use Rattle.websocket.specs.Content.{ping, text};

@@ -108,7 +108,6 @@ struct WebServer {
 }
 
 impl Model for WebServer {
-    ghost use Rattle.std.specs.Prelude.{length};
     ghost use Rattle.web.specs.Crowds.{Crowd, IsBounded, crowd_of};
 
     ghost Value = { Crowd };

@@ -1,6 +1,6 @@
 //! The answer to a request, by its head: the part of HTTP/1.1 (RFC 9110, RFC 9112) and of the opening handshake (RFC
 //! 6455, section 4.2) that a page with a terminal needs.
-ghost use Rattle.std.specs.Prelude.{◌≡◌, ◌≤◌, ℕ, List, Some, All, IfSome, IsSome, drop, length, option_map, take};
+ghost use Rattle.std.specs.Prelude.{◌≡◌, ◌≤◌, ℕ, List, All, IfSome, IsSome, drop, length, option_map, take};
 ghost use Rattle.httparse.specs.Grammar.{RequestHead as Head, ReadsRequest};
 ghost use Rattle.httparse.specs.Spans.{IsHeaderWithin, IsRequestWithin, header_bytes, span_bytes};
 ghost use Rattle.websocket.specs.Handshake.{requested_key};

@@ -1,5 +1,5 @@
 //! Collects the head of a client's request.
-ghost use Rattle.std.specs.Prelude.{◌≡◌, ◌≤◌, [], IfOk, OnErr, OnOk, length, take};
+ghost use Rattle.std.specs.Prelude.{◌≡◌, [], IfOk, OnErr, OnOk, take};
 ghost use Rattle.web_wire.specs.Heads.{IsAnswerTo, with_more};
 
 use crate::head::{Answer, MOST_HEAD, answer_to};

@@ -1,6 +1,5 @@
 //! The origins at which a server may be used (RFC 6454; which ones: our profile).
-ghost use Rattle.std.specs.Prelude.{◌≡◌, ◌++◌, ◌∷◌, [], None, IfErr, IfOk, OnErr, OnOk, string_bytes};
-ghost use Rattle.url.specs.Origin.{is_http};
+ghost use Rattle.std.specs.Prelude.{◌≡◌, ◌++◌, ◌∷◌, [], IfErr, IfOk, OnErr, OnOk, string_bytes};
 ghost use Rattle.web_wire.specs.Origins.{IsOrigin, IsRefused, is_allowed_host, is_allowed_origin, is_bare, is_host_of, local_origin, local_origins, origin_text, port_suffix, refusal};
 
 use std::alloc::{AllocError, Global};

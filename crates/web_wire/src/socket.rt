@@ -319,7 +319,6 @@ pub struct PageSocket {
 }
 
 impl Model for PageSocket {
-    ghost use Rattle.web_wire.specs.Steps.{IsOneRead, is_closed};
     ghost use Rattle.web_wire.specs.Sockets.{SocketState, IsSocket, fragments_at};
 
     ghost Value = { SocketState };

@@ -2,8 +2,8 @@
 ghost use Rattle.std.specs.Prelude.{◌≡◌, ◌<◌, ◌≤◌, None, Some, true, false, is_some, length, IfOk, IfSome, map, replicate, take};
 ghost use Rattle.host_core.specs.Feeds.{Feeds, connection_and_pool_at, with_connection_and_pool};
 ghost use Rattle.host_core.specs.State.{most_connections};
-ghost use Rattle.world3270.specs.model.ByteSteps.{Connects, TrackedFeeds, Steps, answer_acted, answer_fed, down_came, free_number, is_enabled, host_gone, host_gone_below, host_gone_if, host_gone_if_there, host_told, is_held, is_link, is_up, lost_transits, terminal_gone, terminal_gone_if, terminal_told, up_came};
-ghost use Rattle.world3270.specs.model.ByteWorld.{alone, down_of, host_out, host_there, is_senders, model_at, transits_at, new_byte_world, new_slot, slot_at, terminal_at, terminal_out, terminal_there, unused_transits, up_of, with_host, with_slot, with_transits};
+ghost use Rattle.world3270.specs.model.ByteSteps.{Connects, TrackedFeeds, Steps, answer_acted, answer_fed, down_came, free_number, is_enabled, host_gone, host_gone_below, host_gone_if, host_gone_if_there, host_told, is_held, lost_transits, terminal_gone, terminal_gone_if, terminal_told, up_came};
+ghost use Rattle.world3270.specs.model.ByteWorld.{alone, down_of, host_out, host_there, is_senders, model_at, transits_at, new_byte_world, new_slot, slot_at, terminal_at, terminal_out, unused_transits, up_of, with_host, with_slot, with_transits};
 ghost use Rattle.world3270.specs.model.InFlight.{out_among};
 ghost use Rattle.world3270.specs.model.Enabled.{is_queued};
 ghost use Rattle.world3270.specs.declared.event.Event.TheVariants as event;

@@ -1,5 +1,5 @@
 //! A terminal, with its connection and the history of its screen.
-ghost use Rattle.std.specs.Prelude.{◌≡◌, ◌<◌, ◌≤◌, drop, length, IfOk, IfSome, OnOk, OnErr, Some, None};
+ghost use Rattle.std.specs.Prelude.{◌≡◌, ◌<◌, ◌≤◌, drop, length, IfOk, IfSome, OnOk, OnErr, None};
 ghost use Rattle.host_core.specs.State.{most_connections, phase_of, state_at, with_opened};
 ghost use Rattle.keyboard.specs.Leaves.{erases};
 ghost use Rattle.term_core.specs.Feeds.{IsAttached};

@@ -3,7 +3,7 @@ ghost use Rattle.std.specs.Prelude.{◌≡◌, ◌<◌, ◌≤◌, ◌+◌, ◌-
 ghost use Rattle.codes3270.specs.Size.{cells_in, most_cells};
 ghost use Rattle.codes3270.specs.Attribute.{attr_of};
 ghost use Rattle.datastream.specs.CellBits.{has_bit, is_within, word_count, AreBits};
-ghost use Rattle.datastream.specs.CellCodes.{Packed, cell_of, code_in};
+ghost use Rattle.datastream.specs.CellCodes.{cell_of, code_in};
 ghost use Rattle.datastream.specs.Screen.{is_char};
 
 use super::cell_bits::CellBits;

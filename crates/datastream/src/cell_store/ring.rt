@@ -1,6 +1,5 @@
 //! Iteration over the cells of a screen, wrapping round at the end.
 ghost use Rattle.std.specs.Prelude.{◌≡◌, ◌<◌, ◌≤◌, ◌+◌, ◌*◌, ◌++◌, length, drop};
-ghost use Rattle.codes3270.specs.Size.{most_cells};
 
 use std::marker::Model;
 

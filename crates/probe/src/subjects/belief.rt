@@ -6,10 +6,9 @@
 //! paint             appends what paints the wanted screen, if what is to be kept is there
 //! at ADDR           the fact of the field whose attribute is there; the cell; the text
 //! ```
-ghost use Rattle.std.specs.Prelude.{◌≡◌, IsTrue};
+ghost use Rattle.std.specs.Prelude.{IsTrue};
 ghost use Rattle.codes3270.specs.Size.{cells_in};
 ghost use Rattle.shadow.specs.Belief.{IsOfSize};
-ghost use Rattle.shadow.specs.Fits.{is_paintable};
 
 use crate::subjects::cells::{cell_at, change, form, put_belief, put_wanted, size_of};
 use crate::talk::{Answer, Subject, Words};

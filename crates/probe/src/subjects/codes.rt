@@ -6,9 +6,8 @@
 //! ```
 use crate::talk::{Answer, Fault, Subject, Words};
 use codes3270::{
-    Addr, Aid, Attr, CELL_COUNT, CELLS, COLUMNS, Cell, MOST_CELLS, MOST_COLUMNS, PaNo, PfNo, ROWS,
-    Size, Wcc, addr_from_bytes, addr_to_bytes, aid_byte, aid_from_byte, attr_code, from_latin1,
-    storable, to_latin1,
+    Addr, Aid, Attr, Cell, MOST_CELLS, MOST_COLUMNS, PaNo, PfNo, Size, Wcc, addr_from_bytes,
+    addr_to_bytes, aid_byte, aid_from_byte, attr_code, from_latin1, storable, to_latin1,
 };
 
 #[derive(Drop)]
@@ -74,7 +73,7 @@ impl Subject for Codes {
         match word {
             "constants" => {
                 put_size(answer, Size::base());
-                answer.line(&(ROWS, COLUMNS, CELLS, CELL_COUNT, MOST_CELLS, MOST_COLUMNS))
+                answer.line(&(MOST_CELLS, MOST_COLUMNS))
             }
             "size" => put_size(answer, words.size()),
             "addresses" => answer.each("each", Addr::all(words.size())),

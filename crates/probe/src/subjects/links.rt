@@ -1,6 +1,6 @@
 //! The connection of a turn, in memory: the results of its reads and its writes.
 ghost use Rattle.std.specs.Prelude.{⊤, ◌≡◌, false, true, slice_index_or};
-ghost use Rattle.host_core.specs.Serves.{ReadCounts, Rises, WriteCounts};
+ghost use Rattle.host_core.specs.Serves.{Rises};
 
 use crate::talk::Words;
 use host_core::{LinkRead, LinkWrite, Links};
