@@ -33,7 +33,7 @@ SKIPPED = re.compile(r'//[^\n]*|b?"(?:\\.|[^"\\])*"|b?\'(?:\\.[^\']*|[^\\])\'', 
 IMPORT = re.compile(r"(?:(ghost|pub(?:\(\w+\))?)\s+)?\buse\s+([^;]*);")
 BLOCK = re.compile(r"^(?:pub(?:\(\w+\))? )?(?:impl|trait)\b[^;{]*\{", re.MULTILINE)
 GHOST = re.compile(r"\b(?:requires|ensures)\b(?:\s+\w+)?\s*\{|\bghost\s+(?!use\b)\w+")
-# A label, as `next:` and `next =`; a word, with a mark before it if it belongs to something; a symbol.
+# A label, as `next:` and `next =`; a word, with a mark if it belongs to something; a symbol.
 WORD = re.compile(
     rf"{NAME}:(?!:)|(?<!: ){NAME} =(?![=>])|(?:\.|::)?{NAME}"
     r"|\.\.|[^\w\s(){}\[\],;.]+|\[\]"
@@ -87,9 +87,9 @@ def without_comments(text: str) -> str:
     return SKIPPED.sub(kept, text)
 
 
-def end_of(text: str, at: int, stops: str, depth: int) -> int:
-    """The first position from `at` on that has one of these letters outside of braces."""
-    while depth or text[at] not in stops:
+def end_of(text: str, at: int, depth: int = 1, stops: str = "") -> int:
+    """The position behind this number of open braces, or from there on of one of the stops."""
+    while depth or stops and text[at] not in stops:
         depth += {"{": 1, "}": -1}.get(text[at], 0)
         at += 1
     return at
@@ -99,8 +99,8 @@ def ghost_ranges(text: str) -> Iterator[tuple[int, int]]:
     """Where a text has clauses and ghost items, in order."""
     at = 0
     while found := GHOST.search(text, at):
-        is_clause = found[0].endswith("{")
-        at = end_of(text, found.end(), "\n;," if is_clause else ";,}", int(is_clause))
+        at = found.end()
+        at = end_of(text, at) if found[0].endswith("{") else end_of(text, at, 0, ";,}")
         yield found.start(), at
 
 
@@ -140,9 +140,7 @@ def unused_in(text: str) -> Iterator[Import]:
     ranges = list(ghost_ranges(rest))
     code = set(WORD.findall(blanked(rest, ranges)))
     ghost = blanked(rest, between(ranges, len(rest)))
-    blocks = [
-        (found.start(), end_of(text, found.end(), "\n", 1)) for found in BLOCK.finditer(text)
-    ]
+    blocks = [(found.start(), end_of(text, found.end())) for found in BLOCK.finditer(text)]
     # What the file's own ghost uses serve: what is outside of blocks, and what these don't import.
     served = set(WORD.findall(blanked(ghost, blocks)))
     own = set()
@@ -152,8 +150,8 @@ def unused_in(text: str) -> Iterator[Import]:
         yield from (it for it in inside if it.symbol not in words)
         served |= words - {it.symbol for it in inside}
         own |= set(inside)
-    ghost_names = {it.name for it in imports if it.is_ghost}
-    yield from (it for it in imports if it not in own and not is_used(it, code, served, ghost_names))
+    named = {it.name for it in imports if it.is_ghost}
+    yield from (it for it in imports if it not in own and not is_used(it, code, served, named))
 
 
 def unused_in_antt(text: str) -> Iterator[Import]:
@@ -215,7 +213,7 @@ fn length(at: cell::Cell) -> fmt::Result
 def finds_each_kind_of_import() -> None:
     names = ["take", "if◌then◌else◌", "ℕ", "Told", "codes", "Comment", "Label", "Read"]
     same(names, [it.name for it in unused_in(SAMPLE)])
-    text = "-- of drop\nuse Rattle.a.{◌+◌, take, drop, f as g}\nuse Rattle.b as b\nx = take (b.f + 1)\n"
+    text = "use Rattle.a.{◌+◌, take, drop, f as g}\nuse Rattle.b as b\nx = take (b.f + 1) -- drop\n"
     same(["drop", "g"], [it.name for it in unused_in_antt(text)])
 
 
