@@ -1,22 +1,22 @@
 """Each name that a file of a crate imports is used there.
 
-A `use` imports for the code, and its names may stand in clauses, too. A `ghost use` imports for
-what is ghost: `requires`, `ensures`, and items, members and fields that begin with `ghost`. In an
-`impl` or trait, it imports for that block. An operator as `◌≡◌` is used by its symbol. A file's
-`pub use` is for others. Comments and strings are no uses, except names in a string's braces.
+In `src`, a `use` imports for the code, and its names may be in clauses, too. A `ghost use` imports
+for what is ghost: `requires`, `ensures`, and items, members and fields that begin with `ghost`; in
+an `impl` or trait, for that block. In `specs` and `proofs` a `use` imports for the file. An
+operator as `◌≡◌` is used by its symbol. A `pub use` is for others, and `Enum::*` is left out.
+Comments and strings are no uses, except the names in a string's braces. Nor is a label of a field.
 
-A trait may be imported for its methods, and is then used by one of `METHODS`. `NEEDED` has the
-imports that the compiler wants though no word of the file names them.
+A trait may be imported for its methods, and is then used by one of `METHODS`.
 
 A crate is a case. It fails with the line and the name of each import that isn't used.
 """
 import dataclasses
 import functools
 import re
-from collections.abc import Iterator
+from collections.abc import Iterable, Iterator
 from pathlib import Path
 
-from harness.case import TOP, Case, Difference, Place
+from harness.case import TOP, Case, Difference, Place, of_function, same
 
 # Traits that are imported for their methods.
 METHODS = {
@@ -27,29 +27,39 @@ METHODS = {
     "Read": ("read",),
     "Write": ("flush", "write_all", "write_char", "write_str"),
 }
-# Imports that no word of their file names: (file, name) and the reason.
-NEEDED: dict[tuple[str, str], str] = {}
 
 NAME = r"[^\W\d]\w*"
 SKIPPED = re.compile(r'//[^\n]*|b?"(?:\\.|[^"\\])*"|b?\'(?:\\.[^\']*|[^\\])\'', re.DOTALL)
 IMPORT = re.compile(r"(?:(ghost|pub(?:\(\w+\))?)\s+)?\buse\s+([^;]*);")
-BLOCK = re.compile(r"^(?:pub(?:\(\w+\))? )?(?:impl|trait|final trait)\b[^;{]*\{", re.MULTILINE)
-CLAUSE = re.compile(r"\b(?:requires|ensures)\b(?:\s+\w+)?\s*\{")
-GHOST = re.compile(r"\bghost\s+\w+")
-# A label, as `next:` and `next =`; a word, with what says that it is of something else; a symbol.
-WORD = re.compile(rf"{NAME}:(?!:)|(?<!: ){NAME} =(?![=>])|(?:\.|::)?{NAME}|\.\.|[^\w\s(){{}}\[\],;.]+|\[\]")
+BLOCK = re.compile(r"^(?:pub(?:\(\w+\))? )?(?:impl|trait)\b[^;{]*\{", re.MULTILINE)
+GHOST = re.compile(r"\b(?:requires|ensures)\b(?:\s+\w+)?\s*\{|\bghost\s+(?!use\b)\w+")
+# A label, as `next:` and `next =`; a word, with a mark if it belongs to something; a symbol.
+WORD = re.compile(
+    rf"{NAME}:(?!:)|(?<!: ){NAME} =(?![=>])|(?:\.|::)?{NAME}"
+    r"|\.\.|[^\w\s(){}\[\],;.]+|\[\]"
+)
+ANTT_COMMENT = re.compile(r"--[^\n]*")
+ANTT_IMPORT = re.compile(
+    r"^(pub )?use [\w-]+(?:\.[\w-]+)*(?:\.\{([^}]*)\}| as (\w+))?", re.MULTILINE
+)
+ANTT_WORD = re.compile(r"[^\s(){}\[\],;.]+|\[\]")
 
 
 @dataclasses.dataclass(frozen=True)
 class Import:
-    """A name that a `use` or `ghost use` brings in, at a position of a file."""
+    """A name that a file imports, at a position of the file."""
 
     name: str
     at: int
     is_ghost: bool
 
+    @property
+    def symbol(self) -> str:
+        """What uses it: of an operator its symbol, the first one if it has two."""
+        return next(part for part in self.name.split("◌") if part)
 
-def blanked(text: str, ranges: Iterator[tuple[int, int]]) -> str:
+
+def blanked(text: str, ranges: Iterable[tuple[int, int]]) -> str:
     """A text with blanks in place of these ranges."""
     parts, done = [], 0
     for start, end in ranges:
@@ -58,139 +68,159 @@ def blanked(text: str, ranges: Iterator[tuple[int, int]]) -> str:
     return "".join(parts) + text[done:]
 
 
+def between(ranges: Iterable[tuple[int, int]], length: int) -> Iterator[tuple[int, int]]:
+    """The ranges between these."""
+    done = 0
+    for start, end in ranges:
+        yield done, start
+        done = end
+    yield done, length
+
+
 def without_comments(text: str) -> str:
     """A text without comments, and with the names in braces alone of its strings."""
 
     def kept(found: re.Match[str]) -> str:
-        inside = [span for it in re.finditer(rf"\{{({NAME})", found[0]) for span in [it.span(1)]]
-        if found[0].startswith("//"):
-            inside = []
-        return "".join(
-            letter if letter == "\n" or any(first <= at < last for first, last in inside) else " "
-            for at, letter in enumerate(found[0])
-        )
+        names = [] if found[0].startswith("//") else re.finditer(rf"\{{({NAME})", found[0])
+        return blanked(found[0], between([it.span(1) for it in names], len(found[0])))
 
     return SKIPPED.sub(kept, text)
 
 
-def closing(text: str, at: int) -> int:
-    """The position after the brace that closes the one before a position."""
-    depth = 1
-    while depth:
+def end_of(text: str, at: int, depth: int = 1, stops: str = "") -> int:
+    """The position behind this number of open braces, or from there on of one of the stops."""
+    while depth or stops and text[at] not in stops:
         depth += {"{": 1, "}": -1}.get(text[at], 0)
         at += 1
     return at
 
 
 def ghost_ranges(text: str) -> Iterator[tuple[int, int]]:
-    """Where a text has clauses and ghost items, without the ghost uses, in order."""
+    """Where a text has clauses and ghost items, in order."""
     at = 0
-    while found := re.compile(f"{CLAUSE.pattern}|{GHOST.pattern}").search(text, at):
+    while found := GHOST.search(text, at):
         at = found.end()
-        if found[0].endswith("{"):
-            at = closing(text, at)
-        elif not found[0].endswith(" use"):
-            depth = 0
-            while depth > 0 or text[at] not in ";,}":
-                depth += {"{": 1, "}": -1}.get(text[at], 0)
-                at += 1
-        else:
-            continue
+        at = end_of(text, at) if found[0].endswith("{") else end_of(text, at, 0, ";,}")
         yield found.start(), at
 
 
-def imports_of(text: str) -> Iterator[Import]:
-    """The names that the uses of a text bring in."""
-    for found in IMPORT.finditer(text):
-        if (found[1] or "").startswith("pub"):
-            continue
-        start = found.start(2)
-        for part in re.finditer(r"[^{},]+", found[2]):
-            word = part[0].strip()
-            after = found[2][part.end():part.end() + 1]
-            if not word or word.endswith("::*") or after == "{":
-                continue
+def names_in(uses: re.Match[str], is_ghost: bool) -> Iterator[Import]:
+    """The names that one `use` brings in; a name behind `as`, the last one of a path."""
+    for part in re.finditer(r"([^{},]+)(\{)?", uses[2]):
+        word = part[1].strip()
+        if word and not part[2] and not word.endswith("::*"):
             name = re.split(r"\s+as\s+", word)[-1]
-            path = re.split(r"::|\.", name) if re.match(r"\w", name) else [name]
-            name = path[-1]
             if name == "self":
-                before = found[2][:part.start()]
-                name = re.findall(rf"({NAME})::\{{", before)[-1]
-            offset = len(part[0]) - len(part[0].lstrip())
-            yield Import(name, start + part.start() + offset, found[1] == "ghost")
+                name = re.findall(rf"({NAME})::\{{", uses[2][: part.start()])[-1]
+            elif re.match(NAME, name):
+                name = re.split(r"::|\.", name)[-1]
+            blanks = len(part[1]) - len(part[1].lstrip())
+            yield Import(name, uses.start(2) + part.start() + blanks, is_ghost)
 
 
-def words(text: str) -> set[str]:
-    return set(WORD.findall(text))
-
-
-def is_used(it: Import, code: set[str], ghost: set[str], is_shadowed: bool) -> bool:
+def is_used(it: Import, code: set[str], ghost: set[str], ghost_names: set[str]) -> bool:
     """Whether an import is among the words of the code, or of what is ghost."""
     if it.is_ghost:
-        return (it.name.strip("◌").split("◌")[0] if "◌" in it.name else it.name) in ghost
-    if it.name in code or it.name in ghost and not is_shadowed:
+        return it.symbol in ghost
+    if it.name in code or it.name in ghost - ghost_names:
         return True
-    return any(f".{it}" in code or f"::{it}" in code for it in METHODS.get(it.name, ()))
+    return any(f".{word}" in code or f"::{word}" in code for word in METHODS.get(it.name, ()))
 
 
 def unused_in(text: str) -> Iterator[Import]:
-    """The imports of a file that it doesn't use."""
+    """The imports of a file of `src` that it doesn't use."""
     text = without_comments(text)
-    uses = [found.span() for found in IMPORT.finditer(text)]
-    rest = blanked(text, iter(uses))
-    spans = list(ghost_ranges(rest))
-    ghost_only = blanked(rest, gaps(spans, len(rest)))
-    code = words(blanked(rest, iter(spans)))
-    imports = list(imports_of(text))
-    blocks = [(found.start(), closing(text, found.end())) for found in BLOCK.finditer(text)]
-    outside = set()
-    done = 0
+    uses = list(IMPORT.finditer(text))
+    imports = [
+        it
+        for found in uses if not (found[1] or "").startswith("pub")
+        for it in names_in(found, found[1] == "ghost")
+    ]
+    rest = blanked(text, [found.span() for found in uses])
+    ranges = list(ghost_ranges(rest))
+    code = set(WORD.findall(blanked(rest, ranges)))
+    ghost = blanked(rest, between(ranges, len(rest)))
+    blocks = [(found.start(), end_of(text, found.end())) for found in BLOCK.finditer(text)]
+    # What the file's own ghost uses serve: what is outside of blocks, and what these don't import.
+    served = set(WORD.findall(blanked(ghost, blocks)))
+    own = set()
     for start, end in blocks:
-        within = words(ghost_only[start:end])
-        own = [it for it in imports if it.is_ghost and start <= it.at < end]
-        yield from (it for it in own if not is_used(it, code, within, False))
-        symbols = {it.name.strip("◌").split("◌")[0] for it in own}
-        outside |= words(ghost_only[done:start]) | (within - symbols)
-        done = end
-    outside |= words(ghost_only[done:])
-    shadowing = {it.name for it in imports if it.is_ghost}
-    for it in imports:
-        if not any(start <= it.at < end for start, end in blocks):
-            if not is_used(it, code, outside, it.name in shadowing):
+        inside = [it for it in imports if it.is_ghost and start <= it.at < end]
+        words = set(WORD.findall(ghost[start:end]))
+        yield from (it for it in inside if it.symbol not in words)
+        served |= words - {it.symbol for it in inside}
+        own |= set(inside)
+    named = {it.name for it in imports if it.is_ghost}
+    yield from (it for it in imports if it not in own and not is_used(it, code, served, named))
+
+
+def unused_in_antt(text: str) -> Iterator[Import]:
+    """The imports of a file of `specs` or `proofs` that it doesn't use."""
+    text = ANTT_COMMENT.sub(lambda found: " " * len(found[0]), text)
+    uses = list(ANTT_IMPORT.finditer(text))
+    words = set(ANTT_WORD.findall(blanked(text, [found.span() for found in uses])))
+    for found in uses:
+        for part in re.split(r",\s*", (found[2] or found[3] or "").strip()):
+            it = Import(re.split(r"\s+as\s+", part)[-1], found.start(), True)
+            if not found[1] and part and it.symbol not in words and it.name not in words:
                 yield it
 
 
-def gaps(spans: list[tuple[int, int]], length: int) -> Iterator[tuple[int, int]]:
-    """What is between these ranges."""
-    done = 0
-    for start, end in spans:
-        yield done, start
-        done = end
-    yield done, length
-
-
-def unused(path: Path) -> Iterator[tuple[int, Import]]:
-    """The imports of a file that it doesn't use, each with its line."""
-    text = path.read_text()
-    for it in unused_in(text):
-        if (str(path.relative_to(TOP)), it.name) not in NEEDED:
-            yield 1 + text[: it.at].count("\n"), it
+def unused(crate: str) -> Iterator[str]:
+    """Each import of a crate that its file doesn't use, with its place."""
+    for folder, suffix, find in [
+        ("src", "rt", unused_in),
+        ("specs", "antt", unused_in_antt),
+        ("proofs", "antt", unused_in_antt),
+    ]:
+        for path in sorted((TOP / "crates" / crate / folder).rglob(f"*.{suffix}")):
+            text = path.read_text()
+            for it in find(text):
+                yield f"{path.relative_to(TOP)}:{1 + text[: it.at].count(chr(10))}: {it.name}"
 
 
 def check_crate(crate: str) -> None:
-    found = [
-        f"{path.relative_to(TOP)}:{line}: {it.name}"
-        for path in sorted((TOP / "crates" / crate / "src").rglob("*.rt"))
-        for line, it in unused(path)
-    ]
-    if found:
+    if found := list(unused(crate)):
         raise Difference("no import that isn't used", "\n".join(found))
 
 
+SAMPLE = """\
+//! About Comment.
+ghost use Rattle.std.specs.Prelude.{◌≡◌, ◌<◌, if◌then◌else◌, [], ℕ, length, Known as Told, codes};
+ghost use Rattle.sample.specs.declared.phase.Phase.TheVariants as phase;
+
+use crate::{Comment, cell::{self, Cell, Label}, label};
+use std::fmt::{self, Write};
+use std::io::Read;
+pub use crate::shown::Shown;
+
+impl Model for Cell {
+    ghost use Rattle.std.specs.Prelude.{ℕ, take};
+
+    ghost Value = { ℕ };
+}
+
+/// A Comment.
+fn length(at: cell::Cell) -> fmt::Result
+    requires { at < length [] }
+    ensures told { result ≡ phase.Label }
+{
+    at.write_str("{label}: Comment and codes", Row { label: Row::Label })
+}
+"""
+
+
+def finds_each_kind_of_import() -> None:
+    names = ["take", "if◌then◌else◌", "ℕ", "Told", "codes", "Comment", "Label", "Read"]
+    same(names, [it.name for it in unused_in(SAMPLE)])
+    text = "use Rattle.a.{◌+◌, take, drop, f as g}\nuse Rattle.b as b\nx = take (b.f + 1) -- drop\n"
+    same(["drop", "g"], [it.name for it in unused_in_antt(text)])
+
+
 def cases() -> Iterator[Case]:
-    for root in sorted(TOP.glob("crates/*/src")):
-        crate = root.parent.name
-        head = next(root.glob("*.rt")).name if not (root / "lib.rt").exists() else "lib.rt"
-        yield Case(
-            crate, Place(f"crates/{crate}/src/{head}", 1), functools.partial(check_crate, crate)
-        )
+    yield of_function(finds_each_kind_of_import)
+    for line, text in enumerate((TOP / "crates.txt").read_text().splitlines(), 1):
+        if found := re.match(r"\w+", text):
+            yield Case(
+                found[0], Place("crates.txt", line), functools.partial(check_crate, found[0])
+            )

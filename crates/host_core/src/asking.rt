@@ -14,7 +14,7 @@ ghost use Rattle.host_core.specs.Representation.{AnswersOn};
 ghost use Rattle.host_core.specs.Sound.{IsShownOn};
 
 use crate::acted::Acted;
-use crate::acting::Shown;
+use crate::acting::{Decision, Shown};
 use crate::learning::{learn_all, texts_known};
 use crate::question::{Answer, Question, Ticket, is_screen_empty, is_ticket};
 use crate::room::COMMAND_ROOM;

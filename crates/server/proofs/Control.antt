@@ -1,5 +1,5 @@
 -- Notes for each number, and open connections, one number more; and that a text of `control` is a note's text.
-use Rattle.std.proofs.Common.{◌≡◌, ◌≢◌, ◌<◌, ◌==◌, ◌||◌, ◌+◌, ◌∙◌, add-one, ap, arith, not, nat_lt, refl, subst, sym, ℕ, Bool, false, true, List, [], ◌∷◌, IsTrue, Option, Result, Ok, Err, is_some, length}
+use Rattle.std.proofs.Common.{◌≡◌, ◌≢◌, ◌==◌, ◌||◌, ◌+◌, ◌∙◌, add-one, ap, arith, not, nat_lt, refl, subst, sym, ℕ, Bool, false, true, List, [], ◌∷◌, IsTrue, Option, Result, Ok, Err, is_some, length}
 use Rattle.std.proofs.lemmas.Bool.{and_parts, eqb-false, eqb-true}
 use Rattle.std.proofs.lemmas.Bool.Decides.{nat_tests}
 use Rattle.std.proofs.lemmas.List.Elements.{All-from_recursion}

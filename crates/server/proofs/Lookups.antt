@@ -1,5 +1,5 @@
 -- The host of a number, once another is put in its place.
-use Rattle.std.proofs.Common.{◌≡◌, ◌∙◌, ◌<◌, ℕ, List, Option, Some, None, length, refl, ap, sym, subst, get_or, set}
+use Rattle.std.proofs.Common.{◌≡◌, ◌∙◌, ◌<◌, ℕ, List, Option, Some, None, length, refl, ap, get_or}
 use Rattle.std.proofs.lemmas.List.{get_or-set_same, set-set, set-get_or}
 use Rattle.host_core.specs.State.{Host}
 use Rattle.server.specs.Apart.{IsApart}

@@ -28,7 +28,6 @@ use Rattle.panels.specs.declared.message.Message.TheVariants.{Fresh, Plain, KeyN
 use Rattle.panels.specs.declared.next.Next.{Next}
 use Rattle.panels.specs.declared.next.Next.TheVariants.{Go, Ask, Again}
 use Rattle.panels.specs.declared.panel.Field.{Field as PanelField}
-use Rattle.panels.specs.declared.panel.Value.{Value as PanelValue}
 use Rattle.shadow.specs.Belief.{Belief, Shadow, fields_of}
 use Rattle.shadow.specs.Fits.{fields_fit, fits, is_keep, is_paintable}
 use Rattle.shadow.specs.Heard.{after_attention}

@@ -1,4 +1,4 @@
-use Rattle.std.proofs.Common.{rules, refl}
+use Rattle.std.proofs.Common.{rules}
 use Rattle.applications.specs.ExchangeTurns.{begins, cannot_begin}
 use Rattle.applications.proofs.exchanges.ask_about.Goals as goal
 

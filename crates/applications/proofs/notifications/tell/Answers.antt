@@ -1,5 +1,5 @@
 use Rattle.std.proofs.Common.{rules, refl}
-use Rattle.applications.specs.ExchangeTurns.{cannot_tell, nothing_ended, tells}
+use Rattle.applications.specs.ExchangeTurns.{cannot_tell, tells}
 use Rattle.applications.proofs.notifications.tell.Goals as goal
 
 pub returns-in-Ok : goal.returns-in-Ok

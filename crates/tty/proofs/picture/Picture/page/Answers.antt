@@ -1,4 +1,4 @@
-use Rattle.std.proofs.Common.{◌≡◌, ◌++◌, ◌∙◌, ℕ, ◌*◌, ◌<◌, List, length, map, ap, sym, arith}
+use Rattle.std.proofs.Common.{◌≡◌, ◌++◌, ◌∙◌, List, length, map, ap, arith}
 use Rattle.std.specs.List.{list_all}
 use Rattle.tty.specs.declared.picture.PictureCell.{PictureCell}
 use Rattle.tty.specs.Painting.{page_cells}
