@@ -9,7 +9,7 @@ mod socket_terminal;
 ghost use Rattle.std.specs.Iterator.{IsFinite};
 
 use crate::selfrun::run_selfrun;
-use cli::{VERSION, WordFault, refuse_words, run_help, run_version, words};
+use cli::{Refusal, VERSION, WordFault, refuse_words, run_help, run_version, words};
 use jobs::{
     CountedReader, CountedWriter, Fault, Job, Operand, OperateOptions, Sink, UntilClosed,
     refuse_file, report_and_exit_code,
@@ -145,7 +145,7 @@ fn do_job<T: Iterator<Item = ()>>(rt: &HostRuntime, turns: T, job: &Job<'_>) -> 
 fn unread(why: ErrorKind) -> WordFault<'static> {
     match why {
         ErrorKind::OutOfMemory => WordFault::Memory,
-        _ => WordFault::NotText,
+        _ => WordFault::Refused(Refusal::NotText),
     }
 }
 
