@@ -55,7 +55,9 @@ pub enum Refusal<'a> {
     },
     /// Nothing follows `--`, which ends the options of the job.
     #[error("error: unexpected word '--'{help}", help = SeeHelp(*.job))]
-    Dashes { job: &'static str },
+    Dashes {
+        job: &'static str,
+    },
     /// `--metrics` of `serve` has the port of `--port`.
     #[error("error: '--metrics' has the port of '--port'{help}", help = SeeHelp("serve"))]
     OnePort,

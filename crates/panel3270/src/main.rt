@@ -15,7 +15,7 @@ use jobs::{
     refuse_file, report_and_exit_code,
 };
 use operate::run_operate;
-use scripts::{run_check, run_script, run_show, run_term};
+use scripts::{run_check, run_script_with, run_show, run_term};
 use service::{ServeOptions, open_panels, run_host, run_serve, run_tell};
 use std::env;
 use std::io::{self, ErrorKind, IsTerminal, Stdout};
@@ -110,7 +110,7 @@ fn do_job<T: Iterator<Item = ()>>(rt: &HostRuntime, turns: T, job: &Job<'_>) -> 
     let mut faults = CountedWriter::new(rt.stderr());
     match job {
         Job::Script { terminals } => {
-            run_script(alloc, *terminals, &mut input, &mut out, &mut faults)
+            run_script_with(alloc, *terminals, &mut input, &mut out, &mut faults)
         }
         Job::Show { model } => run_show(alloc, *model, &mut input, &mut out, &mut faults),
         Job::Selfrun { turns } => run_selfrun(rt, *turns, &mut input, &mut out, &mut faults),
