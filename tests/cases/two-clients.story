@@ -1,65 +1,6 @@
 # A host that serves two clients in memory, a turn at a time: see tests/suites/serving.py. The second client has the LU PNL02 in place of PNL01.
 
-| start = "SIGNON"
-| lus = ["PNL01", "PNL02"]
-| [[panel]]
-| name = "SIGNON"
-| [[panel.text]]
-| row = 1
-| col = 2
-| text = "SIGN ON"
-| [[panel.text]]
-| row = 3
-| col = 2
-| text = "USER"
-| [[panel.text]]
-| row = 4
-| col = 2
-| text = "DEPT"
-| [[panel.field]]
-| name = "user"
-| row = 3
-| col = 8
-| length = 8
-| required = true
-| [[panel.field]]
-| name = "dept"
-| row = 4
-| col = 8
-| length = 4
-| [panel.keys]
-| enter = "WIDE"
-| [[panel]]
-| name = "WIDE"
-| model = 5
-| otherwise = "HELLO"
-| [[panel.text]]
-| row = 1
-| col = 120
-| text = "HELLO"
-| [[panel.text]]
-| row = 1
-| col = 127
-| show = "user"
-| length = 6
-| [[panel.field]]
-| name = "answer"
-| row = 26
-| col = 131
-| length = 2
-| [[panel]]
-| name = "HELLO"
-| [[panel.text]]
-| row = 1
-| col = 2
-| text = "HELLO"
-| [[panel.text]]
-| row = 1
-| col = 9
-| show = "user"
-| length = 8
-| [panel.keys]
-| pf3 = "SIGNON"
+panels worked-run/panels.toml
 
 # DO TN3270E, and WILL (RFC 1647, section 4).
 host FF FD 28

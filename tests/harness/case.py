@@ -51,11 +51,12 @@ class NotHere(Exception):
 @dataclasses.dataclass(frozen=True)
 class Case:
     """A check with a name, the line at which it is written, and the call that raises a `Difference`
-    or `BadCase` if it fails."""
+    or `BadCase` if it fails. One that `needs_proved` is of the proved programs alone."""
 
     name: str
     at: Place
     run: Callable[[], object]
+    needs_proved: bool = False
 
 
 def same(wanted: object, came: object, at: Place | None = None) -> None:
@@ -70,6 +71,12 @@ def expect(what: str, came: object, wanted: object) -> None:
         raise Difference(f"{what}: {wanted!r}", repr(came))
 
 
+def needs_proved(check: Callable[[], object]) -> Callable[[], object]:
+    """A decorator of a check that needs the proved programs."""
+    check.needs_proved = True
+    return check
+
+
 def of_function(check: Callable[[], object], name: str = "") -> Case:
     """The case that a function makes. Its name is the function's, with spaces."""
     file = relative(inspect.getsourcefile(inspect.unwrap(check)) or __file__)
@@ -77,6 +84,7 @@ def of_function(check: Callable[[], object], name: str = "") -> Case:
         name or check.__name__.replace("_", " "),
         Place(file, inspect.unwrap(check).__code__.co_firstlineno),
         check,
+        getattr(check, "needs_proved", False),
     )
 
 

@@ -35,6 +35,11 @@ def built(crate: str, variable: str) -> pathlib.Path:
     return path
 
 
+def are_proved() -> bool:
+    """Whether the programs that run are the proved ones of this repository."""
+    return [probe(), panel3270()] == [quick().PROBE.proved, quick().PANEL3270.proved]
+
+
 @functools.cache
 def probe() -> pathlib.Path:
     return built("probe", "PROBE")

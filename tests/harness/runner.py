@@ -1,5 +1,6 @@
 """Runs suites side by side, each in a process of its own, and says what failed."""
 import argparse
+import collections
 import concurrent.futures
 import contextlib
 import dataclasses
@@ -26,6 +27,8 @@ MOST_SECONDS = 900
 SOAK = "soak"
 # The processes of the parts that run now.
 RUNNING: set[subprocess.Popen[str]] = set()
+# Set in the environment of the parts if the programs that run aren't the proved ones.
+UNPROVED = "TESTS_UNPROVED"
 # A value of one line that is longer is cut before and behind the first difference.
 MOST_SHOWN = 400
 
@@ -50,9 +53,10 @@ class Failure:
 
 @dataclasses.dataclass
 class Outcome:
-    """What came of a part."""
+    """What came of a part. Cases that need the proved programs are left out if others run."""
 
     passed: int = 0
+    left_out: int = 0
     failures: list[Failure] = dataclasses.field(default_factory=list)
     notes: list[str] = dataclasses.field(default_factory=list)
 
@@ -130,7 +134,9 @@ def run_part(part: Part, words: list[str]) -> Outcome:
     installed."""
     outcome = Outcome()
     try:
-        cases = list(chosen(part, words))
+        all_cases = list(chosen(part, words))
+        cases = [it for it in all_cases if not (it.needs_proved and os.environ.get(UNPROVED))]
+        outcome.left_out = len(all_cases) - len(cases)
         getattr(module_of(part.suite), "prepare", lambda _: None)(cases)
         with concurrent.futures.ThreadPoolExecutor(
             getattr(module_of(part.suite), "THREADS", 1)
@@ -145,7 +151,8 @@ def run_part(part: Part, words: list[str]) -> Outcome:
         ]
         outcome.passed = len(results) - len(outcome.failures)
         outcome.passed -= sum(isinstance(it, NotHere) for it in results)
-        if not (words or part.index or outcome.passed or outcome.failures):
+        is_empty = not (outcome.passed or outcome.failures or outcome.left_out)
+        if is_empty and not (words or part.index):
             raise BadCase("has no case")
     except NotHere as missing:
         outcome.notes.append(f"{part.suite}: not run, since {missing}")
@@ -277,7 +284,7 @@ def read_outcome(status: int, out: str, said: str) -> Outcome:
         found = json.loads(out)
     except ValueError:
         raise Difference("its outcome", f"status {status}: {out[-500:]}{said[-2000:]}") from None
-    return Outcome(found["passed"], [Failure(**it) for it in found["failures"]], found["notes"])
+    return Outcome(**{**found, "failures": [Failure(**it) for it in found["failures"]]})
 
 
 def first_difference(wanted: str, came: str) -> int:
@@ -317,22 +324,29 @@ def run_all(suites: list[str], words: list[str], jobs: int) -> int:
     if os.environ.get("TESTS_QUICK"):
         # Each is compiled once, before parts that run side by side ask for it.
         os.environ.update(PROBE=str(programs.probe()), PANEL3270=str(programs.panel3270()))
-    passed, failed = 0, len(failures)
+        if not programs.are_proved():
+            os.environ[UNPROVED] = "1"
+    passed, failed, left_out = 0, len(failures), collections.Counter()
     for it in failures:
         show(it)
     slots: queue.SimpleQueue[int] = queue.SimpleQueue()
     for slot in range(jobs):
         slots.put(slot)
     with concurrent.futures.ThreadPoolExecutor(jobs) as pool:
-        for done in concurrent.futures.as_completed(
-            [pool.submit(run_apart, part, words, slots) for part in parts]
-        ):
+        runs = {pool.submit(run_apart, part, words, slots): part for part in parts}
+        for done in concurrent.futures.as_completed(runs):
             outcome = done.result()
             passed, failed = passed + outcome.passed, failed + len(outcome.failures)
+            left_out[runs[done].suite] += outcome.left_out
             for note in outcome.notes:
                 print(note, flush=True)
             for it in outcome.failures:
                 show(it)
+    if left_out.total():
+        print(
+            f"{left_out.total()} left out, since they need the proved programs: "
+            + ", ".join(f"{suite} {count}" for suite, count in sorted(left_out.items()) if count)
+        )
     print(f"{passed} passed, {failed} failed")
     return 0 if passed and not failed else 1
 
@@ -374,7 +388,10 @@ def main() -> int:
         help="processes side by side",
     )
     parser.add_argument(
-        "--quick", action="store_true", help="compile the programs without a proof, and keep them"
+        "--quick",
+        action="store_true",
+        help="compile the programs without a proof, and keep them; leaves out cases that need the "
+        "proved ones",
     )
     parser.add_argument(
         "--minutes", type=float, default=1, metavar="N", help=f"how long {SOAK} runs (1)"

@@ -18,7 +18,7 @@ class S3270:
     """An s3270 of a model, which doesn't wait for the host by itself, until the check is over."""
 
     def __init__(self, model):
-        words = ["s3270", "-utf8", "-model", f"3278-{model}"]
+        words = ["s3270", "-utf8", "-codepage", "cp037", "-model", f"3278-{model}"]
         words += ["-clear", "aidWait", "-clear", "unlockDelay"]
         pipe = subprocess.PIPE
         self.process = subprocess.Popen(

@@ -8,6 +8,7 @@ import socket
 import stat
 import subprocess
 import tempfile
+import threading
 import time
 
 from harness import programs
@@ -322,6 +323,36 @@ def a_socket_has_one_service():
         kept.write_text("kept")
         expect("a third one", run(words, panels("A"))[0], 4)
         expect("the file", kept.read_text(), "kept")
+
+
+def answers(service, answer):
+    """A service's socket that gives one command this answer."""
+    client, _ = service.accept()
+    with client, client.makefile("rb") as commands:
+        commands.readline()
+        client.sendall(answer)
+
+
+@check
+def an_invalid_answer_is_a_fault():
+    """`tell` refuses a line without a status, one that isn't UTF-8 and one without an end within 8,192
+    bytes, and a connection that ends within the line."""
+    for answer, why in (
+        (b"stopping\n", "the answer has no status"),
+        (b"ok \xff\n", "the line is not UTF-8"),
+        (b"ok ".ljust(MOST_ANSWER, b"x"), "the line is too long"),
+        (b"ok stopping", "the service gave no answer"),
+    ):
+        with tempfile.TemporaryDirectory() as folder, socket.socket(socket.AF_UNIX) as service:
+            name = f"{folder}/control"
+            service.bind(name)
+            service.listen()
+            service.settimeout(PATIENCE)
+            answering = threading.Thread(target=answers, args=(service, answer))
+            answering.start()
+            told = run(["tell", name, "stop"], b"")
+            answering.join()
+            expect(f"tell, answered {answer[:16]}", told, (4, "", f"{name}: {why}\n"))
 
 
 @check

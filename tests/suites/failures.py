@@ -5,7 +5,7 @@ import resource
 import socket
 
 from harness import growths
-from harness.case import Checks, Difference, expect
+from harness.case import Checks, Difference, expect, needs_proved
 from harness.hosts import LOCALHOST, Server, event, free_port, panels, run
 
 check = Checks()
@@ -23,6 +23,7 @@ def is_served(host):
 
 
 @check
+@needs_proved
 def a_host_without_memory_ends():
     """Each growth of memory refused to a host in a session ends it: when it opens the connection,
     takes bytes, acts or logs."""
@@ -51,6 +52,7 @@ SHOWN = "bound PNL01\n" + "\n" * 2 + " " * 7 + "BC\n" + "\n" * 21 + "cursor 169 
 
 
 @check
+@needs_proved
 def a_script_without_memory_ends():
     """Each growth of memory refused to a script's host or terminal ends the run, and nothing is
     printed; it may get over one."""
@@ -93,6 +95,7 @@ def ends_without_memory(words, given, status, printed):
 
 
 @check
+@needs_proved
 def a_run_without_memory_ends():
     """Each growth of memory refused to `show`, `script` or `host` ends the run with status 3, and
     nothing is printed."""

@@ -1,5 +1,6 @@
 """Calls whose growths of memory are refused, one a run: the first, the second, and so on until a
-run meets no refusal: tests/cases/*.growths.
+run meets no refusal: tests/cases/*.growths. Only the proved programs take memory from the C
+library.
 
 tests/harness/refuse.c, which is preloaded, refuses the growth. If the call then answers want of
 memory, what is to be seen must be as before the call, or as after the bytes or events that it took;
@@ -375,7 +376,7 @@ def call_cases(calls: list[Call]) -> Iterator[Case]:
     for call in calls:
         if not (call.subject and call.call and call.wanted):
             raise call.head.bad("needs lines `on`, `!` and `=`")
-        yield Case(call.name, call.head.at, call.run)
+        yield Case(call.name, call.head.at, call.run, needs_proved=True)
 
 
 # ---- Whole cases
@@ -441,7 +442,8 @@ def whole_cases(line: Line, words: str) -> list[Case]:
         raise line.bad("needs dialogues or worlds")
     find, kind = kinds[suite]
     made = [
-        Case(f"whole: {of}", line.at, functools.partial(whole, kind, run)) for of, run in find(name)
+        Case(f"whole: {of}", line.at, functools.partial(whole, kind, run), needs_proved=True)
+        for of, run in find(name)
     ]
     if not made:
         raise line.bad("needs a case of that suite")

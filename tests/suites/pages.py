@@ -7,6 +7,7 @@ A page has a heading for each few runs, and an indented block for each run:
     < TEXT       a line of its standard input
     <x HEX       bytes of it, as they are
     <= NAME      the lines of the page's block that begins with `= NAME`; that block is no run
+    <f FILE      the lines of a file of tests/cases
     > TEXT       a line of its standard output
     ! TEXT       a line of its standard error; TAKEN is that port
     (N times)    the line above is there N times in all
@@ -22,7 +23,7 @@ from collections.abc import Iterator
 from dataclasses import dataclass, field
 
 from harness import programs
-from harness.case import TOP, Case, Difference, Place
+from harness.case import CASES, TOP, Case, Difference, Place
 from harness.data import Line, lines_of
 from harness.hosts import LOCALHOST, free_port
 
@@ -104,7 +105,7 @@ def put(run: Run, line: Line, named: dict[str, list[bytes]]) -> None:
         run.last.extend(run.last[-1:] * (int(again[1]) - 1))
     elif status := re.fullmatch(r"\(status (\d+)\)", line.text):
         run.status = int(status[1])
-    elif mark in ("<", "<x", "<="):
+    elif mark in ("<", "<x", "<=", "<f"):
         run.last = run.given
         run.given += given_by(mark, text, line, named)
     elif mark in (">", "!"):
@@ -120,6 +121,10 @@ def given_by(mark: str, text: str, line: Line, named: dict[str, list[bytes]]) ->
         return [text.encode() + b"\n"]
     if mark == "<x":
         return [line.data(text)]
+    if mark == "<f":
+        if not (CASES / text).is_file():
+            raise line.bad("names no file")
+        return (CASES / text).read_bytes().splitlines(keepends=True)
     if text not in named:
         raise line.bad("names no block")
     return named[text]

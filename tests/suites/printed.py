@@ -206,6 +206,30 @@ def each_says_where_it_listens():
         )
 
 
+def clients(text):
+    """The commands of a document that start x3270, c3270 or s3270: in indented blocks, and in code
+    spans with words."""
+    for line in text.replace("\\\n", " ").splitlines():
+        block = line.startswith("    ")
+        form = r"(?:^|[$|] )([xcs]3270 [^|]*)" if block else r"`([xcs]3270 [^`]*)`"
+        yield from re.findall(form, line.strip())
+
+
+@check
+def each_client_has_the_code_page_of_the_host():
+    """Each command of a document that starts a client names code page 037; the document says once
+    what arrives for `[` otherwise."""
+    found = 0
+    for document in documents.DOCUMENTS:
+        text = documents.read(document)
+        commands = list(clients(text))
+        found += len(commands)
+        without = [it for it in commands if "-codepage cp037" not in it]
+        expect(f"{document}: clients without the code page", without, [])
+        expect(f"{document}: how often it says why", text.count("as `Ý`"), int(bool(commands)))
+    expect("commands of clients", found >= 12, True)
+
+
 @check
 def the_table_of_metrics_has_each():
     """The table has the names of the metrics page, and the page the values of the label `end`, in

@@ -9,6 +9,7 @@ import contextlib
 import dataclasses
 import datetime
 import functools
+import json
 import pathlib
 import re
 import shutil
@@ -16,8 +17,9 @@ import subprocess
 import tempfile
 from collections.abc import Iterator
 
-from harness import hosts, bank, documents
+from harness import applications, hosts, bank, documents
 from harness.case import TOP, BadCase, Case, Difference, NotHere, Place, of_function, same
+from harness.s3270 import S3270
 
 OPERATING, EXAMPLES = "docs/OPERATING.md", TOP / "examples"
 ADDRESS = "127.0.0.1:3270"
@@ -190,6 +192,26 @@ def the_host_logs_the_printed_lines() -> None:
         same(wanted, log(host.logged()))
 
 
+def brackets_arrive_by_code_page_037() -> None:
+    """What is typed at an s3270 that has the code page of the documents arrives at the application,
+    with the characters that s3270's default code page would replace; a reply is shown with them."""
+    text = "a[b]^!|"
+    application = applications.Application()
+    with application.listener, hosts.Server(
+        "serve",
+        "--application",
+        f"http://127.0.0.1:{application.port}/",
+        text=(EXAMPLES / "greeting.toml").read_bytes(),
+    ) as host, S3270(2) as terminal:
+        terminal.does(f"Connect(127.0.0.1:{host.port})", "Wait(InputField)", f'String("{text}")')
+        terminal.does("Enter")
+        question = application.takes()
+        same({"visitor": text}, json.loads(question.body)["fields"])
+        question.sends({"message": text})
+        terminal.does("Wait(Unlock)")
+        same([f" {text}"], terminal.does("Ascii(23,0,1,20)"))
+
+
 def each_host_has_a_session() -> None:
     """A document has a session with each word of HOSTS."""
     same([], sorted(set(HOSTS) - {it.word for it in sessions()}))
@@ -203,4 +225,5 @@ def cases() -> Iterator[Case]:
             session.command.splitlines()[0], session.at, functools.partial(check_session, session)
         )
     yield of_function(the_host_logs_the_printed_lines)
+    yield of_function(brackets_arrive_by_code_page_037)
     yield of_function(each_host_has_a_session)

@@ -6,7 +6,7 @@ its client's bytes: then only that connection is lost, the other is in the same 
 served alone, and both stories run to their ends once another client takes that connection, and is
 granted the same LU. A file has these lines:
 
-    | TEXT                                        a line of the panel text
+    panels FILE                                   the panel text, a file of tests/cases
     host BYTES, client BYTES                      the story, line by line; the second client's LU is
                                                   PNL02 in place of PNL01
     pace NAME: READS WRITES PAUSES N N N             a case: how bytes cross, and the first client's
@@ -19,7 +19,7 @@ import functools
 from collections.abc import Callable, Iterator
 
 from harness.case import CASES, BadCase, Case, Difference, Place, same
-from harness.data import Line, lines_of, panel_text
+from harness.data import Line, lines_of
 from harness.probe import Probe
 from harness.sights import parts_of, plain, spelt
 
@@ -33,7 +33,7 @@ MOST_TURNS = 1500
 class Script:
     """A file."""
 
-    panels: list[str] = dataclasses.field(default_factory=list)
+    panels: bytes = b""
     story: list[tuple[str, bytes]] = dataclasses.field(default_factory=list)
     paces: list[tuple[Line, str, list[str]]] = dataclasses.field(default_factory=list)
     troubles: list[tuple[Line, str, str]] = dataclasses.field(default_factory=list)
@@ -42,8 +42,8 @@ class Script:
         """Takes a line."""
         word, _, words = line.text.partition(" ")
         match word:
-            case "|":
-                self.panels.append(line.text)
+            case "panels" if (CASES / words).is_file():
+                self.panels = (CASES / words).read_bytes()
             case "host" | "client":
                 self.story.append((word, line.data(words)))
             case "pace" if len(words.partition(": ")[2].split()) == 6:
@@ -130,7 +130,7 @@ class Fixture:
 
     def __init__(self, script: Script) -> None:
         self.script, self.probe = script, Probe("host")
-        same(["done"], self.probe.ask(f"new waiting {panel_text(script.panels)}"))
+        same(["done"], self.probe.ask(f"new waiting {spelt(script.panels)}"))
 
     def begin(self, pace: list[str]) -> None:
         """The host restarts, and the connections of two new clients begin."""

@@ -9,8 +9,9 @@ the module of a `pub mod`, and of a type or trait also each public function, con
 `Addr`, `Addr::new`, `Cell::Char`. An item that surface.added names is there in backquotes. A name
 without its type, as `forward` behind `Addr::all`, is a function of the type that was named last, or
 of the crate. A type that it names, and that isn't agreed, comes with all that is below it; an
-agreed enum whose variants aren't agreed comes with these. A crate with the entry `all` has no
-agreed items. Modules `laws` are left out: the page speaks of them once.
+agreed enum whose variants aren't agreed comes with these. An entry that begins with `each:` names
+every item, and no type comes with what is below it. The entry `all` stands for all that isn't
+agreed. Modules `laws` are left out: the page speaks of them once.
 
 A crate is a case. It fails for each item that is in neither, and for each item that one of the two
 names and the crate doesn't have. One more case is that docs/promises prints a table for each crate.
@@ -27,8 +28,8 @@ AGREED = TOP / "tests/surface.agreed"
 ADDED = TOP / "tests/surface.added"
 DECISIONS = TOP / "docs/DECISIONS.md"
 SECTION, NEXT = "## The public surface\n", "## Names that stay\n"
-# What an entry says of a crate without agreed items.
-ALL = "all"
+# What an entry says of a crate whose other items aren't named, and how one begins that names each.
+ALL, EACH = "all", "each:"
 
 ITEM = re.compile(
     r"(?:#\[[^\]]*\]\s*)*pub (?:const fn|fn|struct|enum|trait|const|static|type) (\w+)"
@@ -134,51 +135,43 @@ def agreed():
     return items
 
 
-def added():
-    """Of each crate, the items that it has beside the agreed ones; or None for all."""
-    return {
-        crate: None if entry == ALL else set(named(entry))
-        for crate, entry in entries(ADDED).items()
-    }
-
-
-def named(entry):
-    """The items of an entry. A name without a type belongs to the type named last, or to the
-    crate."""
+def named(entry: str, items: dict) -> Iterator[str]:
+    """The items that an entry names, of a crate with these items. A name without a type is that of a
+    function of the type named last, if it has one, or an item of the crate."""
     of = None
     for span in SPAN.findall(entry):
         found = NAME.fullmatch(span)
         if not found:
             raise BadCase(f"`{span}` is no name of an item", Place("tests/surface.added", 1))
-        if found[1]:
-            of = found[1]
-        elif found[2][0].isupper() and not found[2].isupper():
-            of = found[2]
-        yield f"{found[1]}::{found[2]}" if found[1] else found[2]
-        if of and not found[1] and (found[2].isupper() or not found[2][0].isupper()):
-            yield f"{of}::{found[2]}"
+        if found[1] or found[2][0].isupper() and not found[2].isupper():
+            of = found[1] or found[2]
+            yield span
+        else:
+            yield f"{of}::{span}" if f"{of}::{span}" in items else span
 
 
 def differences(crate: str) -> Iterator[str]:
     """Where a crate, the agreed items and the added ones differ."""
     text = DECISIONS.read_text()
     section = text[text.index(SECTION):text.index(NEXT)]
-    wanted, listed = agreed()[crate], added().get(crate, set())
-    if listed is None:
-        return
+    wanted, entry = agreed()[crate], entries(ADDED).get(crate, "")
     items, variants = exported(crate)
-    known = wanted | listed
+    added = set(named(entry, items))
+    known = wanted | added
     for item, (path, number) in sorted(items.items(), key=lambda it: (str(it[1][0]), it[1][1])):
         of = item.partition("::")[0]
         is_new = of in known - wanted
         is_open = item in variants and of in wanted and not variants & {
             it for it in wanted if it.startswith(f"{of}::")
         }
-        if item not in known and not is_new and not is_open:
+        comes_along = entry == ALL or not entry.startswith(EACH) and (is_new or is_open)
+        if item not in known and not comes_along:
             yield f"{path}:{number}: {item} is in neither"
     for item in sorted(wanted - set(items)):
         if item not in set(named_anywhere(section)):
             yield f"{item} is agreed, and not in the sources, and not in {DECISIONS.name}"
+    for item in sorted(added - set(items)):
+        yield f"{item} is in {ADDED.name}, and not in the sources"
 
 
 def named_anywhere(section):

@@ -33,6 +33,7 @@ from collections.abc import Iterator
 from harness.browser import TEXT, Page
 from harness.case import TOP, Case, Difference, Place, of_function
 from harness.hosts import free_port
+from harness.programs import quick
 
 LONG = True
 PAGES = [
@@ -46,7 +47,7 @@ PROVED = "crates/panel3270/out/panel3270"
 # The ports of the pages.
 HOST, APPLICATION = "3270", "8080"
 LISTENS = "listening on 127.0.0.1:3270"
-COMPILED = "quick: runs the program as compiled without a proof (bin/quick)\n"
+COMPILED = f"quick: {quick().UNPROVED}\n"
 SIGN_ON = "wait\ntype 4711\nkey tab\ntype SECRET\nkey enter\nwait\nshow\n"
 
 

@@ -33,7 +33,8 @@ A page has a line `    stays: FUNCTION`, and for each mistake a heading, a line
                       of it, and the old one stands in that file once. FUNCTION
 is a path below the crate. A line `    beside: the others` says of a mistake in a constant that no
                                        function reads it but its own; for `    answers: none` see
-                                       above.
+                                       above. A line `    one of: the classic mistakes` marks those
+                                       that docs/TESTING.md lists, which the suite forms compares.
 
 It checks over the libraries in crates/*/out, which `rt ci` builds. A crate's page is tried in one
 process.
@@ -77,6 +78,7 @@ class Mistake:
     changes: list[tuple[str, str, str]] = field(default_factory=list)
     is_beside: bool = False
     is_without_answers: bool = False
+    is_classic: bool = False
 
     def is_apart(self, crate: str) -> bool:
         """Whether it changes nothing in its function, but what functions share."""
@@ -181,6 +183,8 @@ def page_of(crate: str) -> Page:
             page.mistakes[-1].is_beside = True
         elif key == "answers":
             page.mistakes[-1].is_without_answers = True
+        elif key == "one of":
+            page.mistakes[-1].is_classic = True
         elif key == "file":
             file = text
         elif key == "old":

@@ -10,25 +10,32 @@ ghost use Rattle.application_http.specs.Requests.{field_lines, first_line};
 use std::alloc::{AllocError, Global};
 use std::marker::Model;
 use std::net::{IpAddr, Ipv4Addr, SocketAddr};
+use thiserror::Error;
 use url::{Host, ParseError, Url, quirks};
 
 /// The port if the URL has none (RFC 9110, section 4.2.1).
 const HTTP_PORT: u16 = 80;
 
 /// Why a text is not the URL of an application.
-#[derive(Clone, Copy)]
+#[derive(Debug, Clone, Copy, PartialEq, Eq, Drop, Error)]
 pub enum EndpointFault {
     /// Memory was refused, or the URL would take 4 GiB. This says nothing else about the text.
+    #[error("no memory")]
     Memory,
     /// The text is not a URL (URL Standard, section 4.4).
+    #[error("not a URL")]
     NotUrl(ParseError),
     /// The scheme is not http.
+    #[error("the URL doesn't begin with http://")]
     NotHttp,
     /// The URL has a user name or a password, which wouldn't be sent.
+    #[error("the URL has a user name or a password")]
     HasUser,
     /// The URL has a fragment, which wouldn't be sent.
+    #[error("the URL has a fragment, behind #")]
     HasFragment,
     /// The host is not localhost, 127.0.0.0/8 or ::1.
+    #[error("the URL's host is not this machine: localhost, 127.x.x.x or [::1]")]
     NotThisMachine,
 }
 

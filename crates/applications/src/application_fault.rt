@@ -4,27 +4,32 @@ ghost use Rattle.applications.specs.Applications.{message_for, failure_text};
 
 use self::ApplicationFault::{Absent, Answer, Left, Reply};
 use crate::application_reply::{AnswerFault, Replaced};
-use application_http::{KeyFault, ReplyFault};
+use application_http::ReplyFault;
 use std::fmt;
+use thiserror::Error;
 
 /// The most characters of a key that the log shows.
 const MOST_SHOWN: usize = 64;
 
-/// Why an application can't be reached.
-#[derive(Clone, Copy)]
+/// Why an application can't be reached. Prints as one word.
+#[derive(Clone, Copy, Debug, PartialEq, Eq, Error)]
 pub enum Absence {
     /// Nothing listens at its address.
+    #[error("refused")]
     Refused,
     /// The connection broke, or was closed before the reply's end.
+    #[error("broken")]
     Broken,
     /// The reply took too long.
+    #[error("timeout")]
     Late,
     /// Memory for the exchange was refused.
+    #[error("no-memory")]
     NoMemory,
 }
 
 /// Why a question has no answer.
-#[derive(Drop)]
+#[derive(Debug, Drop, PartialEq, Eq)]
 pub enum ApplicationFault {
     /// The application can't be reached.
     Absent(Absence),
@@ -37,7 +42,7 @@ pub enum ApplicationFault {
 }
 
 /// The message on the operator's screen after a failure.
-#[derive(Clone, Copy)]
+#[derive(Clone, Copy, Debug, PartialEq, Eq)]
 pub enum FailureMessage {
     /// The application can't be reached.
     NotAvailable,
@@ -90,40 +95,15 @@ impl fmt::Display for Key<'_> {
     }
 }
 
-/// The word for what is wrong with a key.
-fn key_word(what: KeyFault) -> &'static str {
-    match what {
-        KeyFault::UnknownKey => "unknown-key",
-        KeyFault::NotText => "not-text",
-        KeyFault::NotBoolean => "not-boolean",
-        KeyFault::NotObject => "not-object",
-        KeyFault::FieldNotText => "field-not-text",
+/// The key of the reply that is wrong, if one is.
+fn key_of(fault: &ApplicationFault) -> Option<&str> {
+    match fault {
+        Reply(ReplyFault::Key { key, .. }) => Some(key.as_str()),
+        Answer(AnswerFault::UnknownPanel) => Some("panel"),
+        Answer(AnswerFault::UnknownCursor) => Some("cursor"),
+        Answer(AnswerFault::UnknownField(name)) => Some(name.as_str()),
+        Absent(_) | Reply(_) | Answer(AnswerFault::Memory) | Left => None,
     }
-}
-
-/// The word for the reason of a fault, and the key of the reply that is wrong, if one is; None if the operator left.
-fn reason_of(fault: &ApplicationFault) -> Option<(&'static str, Option<&str>)> {
-    let (reason, key) = match fault {
-        Left => return None,
-        Absent(Absence::Refused) => ("refused", None),
-        Absent(Absence::Broken) | Reply(ReplyFault::CutShort) => ("broken", None),
-        Absent(Absence::Late) => ("timeout", None),
-        Absent(Absence::NoMemory) | Reply(ReplyFault::Memory) | Answer(AnswerFault::Memory) => {
-            ("no-memory", None)
-        }
-        Reply(ReplyFault::TooLong) => ("too-long", None),
-        Reply(ReplyFault::NotHttp) => ("not-http", None),
-        Reply(ReplyFault::TooManyFields) => ("too-many-fields", None),
-        Reply(ReplyFault::Status(_)) => ("status", None),
-        Reply(ReplyFault::BadLength) => ("bad-length", None),
-        Reply(ReplyFault::BadChunks) => ("bad-chunks", None),
-        Reply(ReplyFault::NotJson) => ("not-json", None),
-        Reply(ReplyFault::Key { what, key }) => (key_word(*what), Some(key.as_str())),
-        Answer(AnswerFault::UnknownPanel) => ("unknown-panel", Some("panel")),
-        Answer(AnswerFault::UnknownCursor) => ("unknown-field", Some("cursor")),
-        Answer(AnswerFault::UnknownField(name)) => ("unknown-field", Some(name.as_str())),
-    };
-    Some((reason, key))
 }
 
 /// The word for what happened.
@@ -140,14 +120,16 @@ impl fmt::Display for ApplicationFault {
     fn fmt<W: fmt::Write>(&self, f: &mut fmt::Formatter<W>) -> fmt::Result {
         let event = event_word(self);
         write!(f, "event={event}")?;
-        let Some((reason, key)) = reason_of(self) else {
-            return Ok(());
-        };
-        write!(f, " reason={reason}")?;
+        match self {
+            Absent(fault) => write!(f, " reason={fault}")?,
+            Reply(fault) => write!(f, " reason={fault}")?,
+            Answer(fault) => write!(f, " reason={fault}")?,
+            Left => return Ok(()),
+        }
         if let Reply(ReplyFault::Status(status)) = self {
             write!(f, " status={status}")?;
         }
-        match key {
+        match key_of(self) {
             Some(key) => {
                 let key = Key(key);
                 write!(f, " key={key}")
@@ -156,6 +138,8 @@ impl fmt::Display for ApplicationFault {
         }
     }
 }
+
+impl std::error::Error for ApplicationFault {}
 
 /// Prints as the event: the first key of the reply with a replaced character, and the number of replaced characters.
 impl fmt::Display for Replaced<'_> {

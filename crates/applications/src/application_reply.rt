@@ -16,26 +16,31 @@ use codes3270::from_latin1;
 use host_core::Answer;
 use panels::{MessageText, PanelSet, Values};
 use std::alloc::{AllocError, Global};
+use thiserror::Error;
 
 /// The most characters of a field's text: the number of cells of the largest screen, model 5.
 const MOST_CHARACTERS: usize = 3_564;
 
-/// Why the host can't carry out a reply.
-#[derive(Drop)]
+/// Why the host can't carry out a reply. Prints as one word, without the key.
+#[derive(Debug, Drop, PartialEq, Eq, Error)]
 pub enum AnswerFault {
     /// Memory was refused for a part of the reply that must be stored: a text, a field's first value, or a name, of a
     /// copy or of an unknown field.
+    #[error("no-memory")]
     Memory,
     /// There is no panel with this name.
+    #[error("unknown-panel")]
     UnknownPanel,
     /// The reply puts the cursor in a field that the panel doesn't have.
+    #[error("unknown-field")]
     UnknownCursor,
     /// There is no field or value with this name, or none with copies that are named so if the reply has an array.
+    #[error("unknown-field")]
     UnknownField(String),
 }
 
 /// The characters of a reply that are replaced, because code page 037 doesn't have them.
-#[derive(Clone, Copy)]
+#[derive(Clone, Copy, Debug, PartialEq, Eq)]
 pub struct Replaced<'a> {
     /// The first key whose text has such a character: `message`, or the name of a field.
     pub key: &'a str,

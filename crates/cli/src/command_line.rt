@@ -492,9 +492,9 @@ fn matches_of<'a>(alloc: Global, words: &'a [String]) -> Result<ArgMatches<'a>, 
 
 /// The job of the program's arguments; `script` if there are none.
 ///
-/// The error is Memory if memory is refused. Any other error says that clap doesn't accept the arguments, that a port,
-/// a number of turns or seconds, an address, an LU name, a model, a size or a job's name is invalid, that `--metrics`
-/// has the port of `--port`, or that the last word is `--`.
+/// The error is Memory if memory is refused, and otherwise Refused: clap doesn't accept the arguments; a port, a number
+/// of turns or seconds, an address, an LU name, a model, a size or a job's name is invalid; `--metrics` has the port of
+/// `--port`; `serve` has both `--own-terminals` and `--verify`; or the last word is `--`.
 pub fn words<'a>(alloc: Global, words: &'a [String]) -> Result<Job<'a>, WordFault<'a>>
     ensures job { IfOk result (λ job. IsJobOf (map string_bytes words.now) (Some job)) }
     ensures fault { IfErr result (HasNoJob (map string_bytes words.now)) }
@@ -502,7 +502,7 @@ pub fn words<'a>(alloc: Global, words: &'a [String]) -> Result<Job<'a>, WordFaul
     match matches_of(alloc, words) {
         Ok(matches) => match job_taken(words, &matches) {
             Some(job) => Ok(job),
-            None => Err(refusal_of(words, &matches)),
+            None => Err(WordFault::Refused(refusal_of(words, &matches))),
         },
         Err(error) => match job_by_kind(words, error.kind()) {
             Some(job) => Ok(job),

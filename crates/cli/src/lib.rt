@@ -14,4 +14,4 @@ mod refusal;
 
 pub use command_line::words;
 pub use help::{VERSION, run_help, run_version};
-pub use refusal::{WordFault, refuse_words};
+pub use refusal::{Refusal, WordFault, refuse_words};

@@ -19,47 +19,63 @@ use thiserror::Error;
 use tn3270e_msg::Lu;
 use tty::Colors;
 
-/// Prints as the line that says how to get help on a topic.
+/// Prints as the line that says how to get help on the job with this name; on the program if it is empty.
 #[derive(Clone, Copy)]
-struct SeeHelp(HelpTopic);
+struct SeeHelp<'a>(&'a str);
 
-impl fmt::Display for SeeHelp {
+impl fmt::Display for SeeHelp<'_> {
     fn fmt<W: fmt::Write>(&self, f: &mut fmt::Formatter<W>) -> fmt::Result {
         f.write_str("\nFor more information, try 'panel3270 help")?;
-        match name_of(self.0) {
+        match self.0 {
             "" => f.write_str("'."),
             name => write!(f, " {name}'."),
         }
     }
 }
 
-/// Why arguments give no job. Prints as the error, and how to get help.
-#[derive(Debug, Drop, Error)]
-pub enum WordFault<'a> {
-    /// Memory was refused.
-    #[error("no memory")]
-    Memory,
+/// Why the program refuses its arguments. Prints as the error, and how to get help. A `job` is the name of a job, and
+/// empty for the whole program.
+#[derive(Debug, Drop, PartialEq, Error)]
+pub enum Refusal<'a> {
     /// A word isn't UTF-8.
-    #[error("error: a word isn't UTF-8{help}", help = SeeHelp(HelpTopic::Program))]
+    #[error("error: a word isn't UTF-8{help}", help = SeeHelp(""))]
     NotText,
     /// Clap doesn't accept the arguments, and gives this text.
     #[error("{text}", text = .0.as_str().trim_end())]
     NotTaken(String),
     /// `help` is given a word that isn't the name of a job.
-    #[error("error: unknown job '{0}'{help}", help = SeeHelp(HelpTopic::Program))]
+    #[error("error: unknown job '{0}'{help}", help = SeeHelp(""))]
     UnknownJob(&'a str),
-    /// The value of this job's option is invalid. The last text says what is needed, if that helps.
-    #[error("error: invalid value '{2}' for '--{1}'{3}{help}", help = SeeHelp(*.0))]
-    Invalid(HelpTopic, &'static str, &'a str, &'static str),
-    /// Nothing follows `--`, which ends the options of this job.
-    #[error("error: unexpected word '--'{help}", help = SeeHelp(*.0))]
-    Dashes(HelpTopic),
+    /// The value of a job's option is invalid. `need` says what is needed, if that helps.
+    #[error("error: invalid value '{value}' for '--{option}'{need}{help}", help = SeeHelp(*.job))]
+    Invalid {
+        job: &'static str,
+        option: &'static str,
+        value: &'a str,
+        need: &'static str,
+    },
+    /// Nothing follows `--`, which ends the options of the job.
+    #[error("error: unexpected word '--'{help}", help = SeeHelp(*.job))]
+    Dashes {
+        job: &'static str,
+    },
     /// `--metrics` of `serve` has the port of `--port`.
-    #[error("error: '--metrics' has the port of '--port'{help}", help = SeeHelp(HelpTopic::Serve))]
+    #[error("error: '--metrics' has the port of '--port'{help}", help = SeeHelp("serve"))]
     OnePort,
     /// `serve` has both `--own-terminals` and `--verify`.
-    #[error("error: '--verify' excludes '--own-terminals'{help}", help = SeeHelp(HelpTopic::Serve))]
+    #[error("error: '--verify' excludes '--own-terminals'{help}", help = SeeHelp("serve"))]
     OwnVerified,
+}
+
+/// Why arguments give no job.
+#[derive(Debug, Drop, PartialEq, Error)]
+pub enum WordFault<'a> {
+    /// The arguments are refused, for this reason.
+    #[error(transparent)]
+    Refused(Refusal<'a>),
+    /// Memory was refused.
+    #[error("no memory")]
+    Memory,
 }
 
 impl WordFault<'_> {
@@ -68,8 +84,8 @@ impl WordFault<'_> {
         ensures { result ≡ status_of self.now }
     {
         match self {
+            WordFault::Refused(_) => 2,
             WordFault::Memory => 3,
-            _ => 2,
         }
     }
 }
@@ -82,7 +98,7 @@ pub(crate) fn not_taken<'a>(alloc: Global, error: &clap::Error) -> WordFault<'a>
         return WordFault::Memory;
     }
     match format!(in alloc; "{error}") {
-        Ok(text) => WordFault::NotTaken(text),
+        Ok(text) => WordFault::Refused(Refusal::NotTaken(text)),
         Err(_) => WordFault::Memory,
     }
 }
@@ -118,28 +134,35 @@ fn need_of(kind: ValueKind) -> &'static str {
 
 /// Why the options of a job are refused although clap accepts them: the first invalid value, or otherwise two options
 /// that exclude each other.
-fn wrong_options<'a>(topic: HelpTopic, options: &ArgMatches<'a>) -> WordFault<'a> {
+fn wrong_options<'a>(topic: HelpTopic, options: &ArgMatches<'a>) -> Refusal<'a> {
     for option in options_of(topic) {
         if let Some(word) = options.get_str(option.name) {
             if !is_value(option.kind, word) {
-                return WordFault::Invalid(topic, option.name, word, need_of(option.kind));
+                return Refusal::Invalid {
+                    job: name_of(topic),
+                    option: option.name,
+                    value: word,
+                    need: need_of(option.kind),
+                };
             }
         }
     }
     if let Some(name) = options.get_str("job") {
-        return WordFault::UnknownJob(name);
+        return Refusal::UnknownJob(name);
     }
     if is_given(options, "own-terminals") && is_given(options, "verify") {
-        return WordFault::OwnVerified;
+        return Refusal::OwnVerified;
     }
-    WordFault::OnePort
+    Refusal::OnePort
 }
 
 /// Why arguments that were parsed as these matches are refused.
-pub(crate) fn refusal_of<'a>(words: &[String], matches: &ArgMatches<'a>) -> WordFault<'a> {
+pub(crate) fn refusal_of<'a>(words: &[String], matches: &ArgMatches<'a>) -> Refusal<'a> {
     match matches.subcommand() {
         Some((_, options)) if !ends_by_dashes(words) => wrong_options(topic_of(words), options),
-        _ => WordFault::Dashes(topic_of(words)),
+        _ => Refusal::Dashes {
+            job: name_of(topic_of(words)),
+        },
     }
 }
 

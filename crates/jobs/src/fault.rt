@@ -3,67 +3,57 @@ ghost use Rattle.std.specs.Prelude.{◌≡◌};
 ghost use Rattle.jobs.specs.Faults.{status_of};
 
 use crate::live_fault::LiveFault;
+use crate::streams::WriteFailed;
 use application_http::EndpointFault;
 use lu_pool::PoolFault;
 use panels::PanelFault;
 use std::alloc::AllocError;
-use std::fmt;
 use std::io::ErrorKind;
 use std::net::SocketAddr;
+use thiserror::Error;
 
 /// Why a run ends early. Prints as the line on standard error.
-#[derive(Drop)]
+#[derive(Debug, Drop, PartialEq, Eq, Error)]
 pub enum Fault {
     /// The input could not be read, is too long, or isn't UTF-8.
+    #[error("input not read")]
     InputNotRead,
     /// The panel text defines no panels, for this reason.
+    #[error("{0}")]
     Panels(PanelFault),
     /// The panels' LUs are no pool, for this reason.
+    #[error("{0}")]
     Pool(PoolFault),
     /// The line with this 1-based number isn't pairs of hexadecimal digits.
+    #[error("line {0}: not hex")]
     NotHex(usize),
     /// The script's line with this 1-based number is invalid.
+    #[error("line {0}: not understood")]
     NotUnderstood(usize),
     /// Memory was refused.
+    #[error("no memory")]
     NoMemory,
     /// The system can't open, connect or poll a socket.
+    #[error("socket failed")]
     SocketFailed,
     /// The system can't give random bytes.
+    #[error("no random bytes")]
     NotRandom,
     /// The system can't listen at this address, with an error of this kind.
+    #[error("cannot listen on {0}: {reason}", reason = reason_of(*.1))]
     CannotListen(SocketAddr, ErrorKind),
     /// The URL isn't that of an application, for this reason.
+    #[error("--application: {0}")]
     NotAnApplication(EndpointFault),
     /// The run has taken all of its turns.
+    #[error("turns over")]
     TurnsOver,
     /// The output couldn't be written completely.
+    #[error("{failed}", failed = WriteFailed)]
     OutputFailed,
     /// A live terminal ends for this reason, and not by its operator.
+    #[error("{0}")]
     Live(LiveFault),
-}
-
-impl fmt::Display for Fault {
-    fn fmt<W: fmt::Write>(&self, f: &mut fmt::Formatter<W>) -> fmt::Result {
-        let line = match self {
-            Fault::InputNotRead => "input not read",
-            Fault::Panels(fault) => return write!(f, "{fault}"),
-            Fault::Pool(fault) => return write!(f, "{fault}"),
-            Fault::NotHex(line) => return write!(f, "line {line}: not hex"),
-            Fault::NotUnderstood(line) => return write!(f, "line {line}: not understood"),
-            Fault::NoMemory => "no memory",
-            Fault::SocketFailed => "socket failed",
-            Fault::NotRandom => "no random bytes",
-            Fault::CannotListen(address, kind) => {
-                let reason = reason_of(*kind);
-                return write!(f, "cannot listen on {address}: {reason}");
-            }
-            Fault::NotAnApplication(why) => url_reason(*why),
-            Fault::TurnsOver => "turns over",
-            Fault::OutputFailed => "output failed",
-            Fault::Live(fault) => return write!(f, "{fault}"),
-        };
-        f.write_str(line)
-    }
 }
 
 /// Why the system can't listen, in words.
@@ -73,20 +63,6 @@ fn reason_of(kind: ErrorKind) -> &'static str {
         ErrorKind::AddrNotAvailable => "address not available",
         ErrorKind::PermissionDenied => "permission denied",
         _ => "refused by the system",
-    }
-}
-
-/// Why a URL isn't that of an application, in words.
-fn url_reason(why: EndpointFault) -> &'static str {
-    match why {
-        EndpointFault::Memory => "no memory",
-        EndpointFault::NotUrl(_) => "--application: not a URL",
-        EndpointFault::NotHttp => "--application: the URL doesn't begin with http://",
-        EndpointFault::HasUser => "--application: the URL has a user name or a password",
-        EndpointFault::HasFragment => "--application: the URL has a fragment, behind #",
-        EndpointFault::NotThisMachine => {
-            "--application: the URL's host is not this machine: localhost, 127.x.x.x or [::1]"
-        }
     }
 }
 

@@ -3,27 +3,20 @@ ghost use Rattle.std.specs.Prelude.{◌≡◌};
 ghost use Rattle.jobs.specs.FileFaults.{file_refused};
 
 use crate::streams::Sink;
-use std::fmt;
 use std::io::ErrorKind;
+use thiserror::Error;
 
 /// The exit status if a file can't be opened.
 const FILE_REFUSED: u8 = 1;
 
 /// A file that can't be opened. Prints as its name and the reason.
-#[derive(Clone, Copy)]
+#[derive(Clone, Copy, Debug, PartialEq, Eq, Error)]
+#[error("{name}: {reason}", reason = reason_of(*.why))]
 pub struct FileFault<'a> {
     /// The file's name.
     pub name: &'a str,
     /// The kind of the system's error.
     pub why: ErrorKind,
-}
-
-impl fmt::Display for FileFault<'_> {
-    fn fmt<W: fmt::Write>(&self, f: &mut fmt::Formatter<W>) -> fmt::Result {
-        let FileFault { name, why } = *self;
-        let reason = reason_of(why);
-        write!(f, "{name}: {reason}")
-    }
 }
 
 /// Why a file can't be opened, in words.

@@ -2,46 +2,33 @@
 ghost use Rattle.std.specs.Prelude.{◌≡◌};
 ghost use Rattle.jobs.specs.LiveFaults.{live_status};
 
-use std::fmt;
 use std::io::ErrorKind;
 use std::net::SocketAddr;
+use thiserror::Error;
 use tn3270e_msg::{Cause, Reason};
 use tty::TooSmall;
 
 /// Why a live terminal ends. Prints as the line on standard error.
-#[derive(Drop)]
+#[derive(Debug, Drop, PartialEq, Eq, Error)]
 pub enum LiveFault {
     /// The input isn't known to be a tty in raw mode.
+    #[error("operate needs a tty in raw mode: start it by bin/operate PORT [LU]")]
     NotRaw,
     /// The tty is too small for the screens of the model.
+    #[error("{0}")]
     TooSmall(TooSmall),
     /// Connecting to the host at this address failed, with an error of this kind.
+    #[error("cannot connect to {0}: {reason}", reason = connect_reason(*.1))]
     CannotConnect(SocketAddr, ErrorKind),
     /// The host rejected the terminal's request for an LU, for this reason.
+    #[error("the host refused an LU: {0}")]
     LuRefused(Reason),
     /// The terminal closed the connection, for this cause.
+    #[error("the host broke the protocol: {0}")]
     Closed(Cause),
     /// The host ended the connection before the terminal was bound to an LU.
+    #[error("the host ended the connection")]
     HostEnded,
-}
-
-impl fmt::Display for LiveFault {
-    fn fmt<W: fmt::Write>(&self, f: &mut fmt::Formatter<W>) -> fmt::Result {
-        let line = match self {
-            LiveFault::NotRaw => {
-                "operate needs a tty in raw mode: start it by bin/operate PORT [LU]"
-            }
-            LiveFault::TooSmall(fault) => return write!(f, "{fault}"),
-            LiveFault::CannotConnect(address, kind) => {
-                let reason = connect_reason(*kind);
-                return write!(f, "cannot connect to {address}: {reason}");
-            }
-            LiveFault::LuRefused(reason) => return write!(f, "the host refused an LU: {reason}"),
-            LiveFault::Closed(cause) => return write!(f, "the host broke the protocol: {cause}"),
-            LiveFault::HostEnded => "the host ended the connection",
-        };
-        f.write_str(line)
-    }
 }
 
 /// Why connecting failed, in words.

@@ -8,6 +8,7 @@ ghost use Rattle.jobs.specs.RawCalls.{count_taken};
 use crate::raw::{RawRead, RawWrite};
 use std::fmt::Display;
 use std::io::{self, ErrorKind, Write};
+use thiserror::Error;
 
 /// The size of the buffer of each read, in bytes.
 pub const CHUNK: usize = 4096;
@@ -26,7 +27,8 @@ pub enum Answer {
 }
 
 /// A write that failed.
-#[derive(Clone, Copy)]
+#[derive(Clone, Copy, Debug, PartialEq, Eq, Error)]
+#[error("output failed")]
 pub struct WriteFailed;
 
 /// The input of a run.

@@ -6,16 +6,14 @@
 mod selfrun;
 mod socket_terminal;
 
-ghost use Rattle.std.specs.Iterator.{IsFinite};
-
 use crate::selfrun::run_selfrun;
-use cli::{VERSION, WordFault, refuse_words, run_help, run_version, words};
+use cli::{Refusal, VERSION, WordFault, refuse_words, run_help, run_version, words};
 use jobs::{
     CountedReader, CountedWriter, Fault, Job, Operand, OperateOptions, Sink, UntilClosed,
     refuse_file, report_and_exit_code,
 };
 use operate::run_operate;
-use scripts::{run_check, run_script, run_show, run_term};
+use scripts::{run_check, run_script_with, run_show, run_term};
 use service::{ServeOptions, open_panels, run_host, run_serve, run_tell};
 use std::env;
 use std::io::{self, ErrorKind, IsTerminal, Stdout};
@@ -42,12 +40,8 @@ fn end_without<E: Sink>(name: &str, why: ErrorKind, faults: &mut E) -> u8 {
     }
 }
 
-/// Serves the panels of a file, or of the standard input if none is given, a turn for each item of `turns`, and returns
-/// the exit status.
-fn serve<T: Iterator<Item = ()>>(rt: &HostRuntime, turns: T, options: ServeOptions<'_>) -> u8
-    requires can { T.can_next turns }
-    requires ends { IsFinite (T.remaining turns) }
-{
+/// Serves the panels of a file, or of the standard input if none is given, and returns the exit status.
+fn serve(rt: &HostRuntime, options: ServeOptions<'_>) -> u8 {
     let mut faults = CountedWriter::new(rt.stderr());
     let Some(name) = options.file else {
         let stdin = rt.stdin();
@@ -55,12 +49,12 @@ fn serve<T: Iterator<Item = ()>>(rt: &HostRuntime, turns: T, options: ServeOptio
             let _ = faults.write_line(WAITS_FOR_PANELS);
         }
         let mut input = CountedReader::new(stdin);
-        return run_serve(rt, turns, options, VERSION, &mut input, &mut faults);
+        return run_serve(rt, options, VERSION, &mut input, &mut faults);
     };
     match open_panels(rt, name) {
         Ok(file) => {
             let mut input = CountedReader::new(file);
-            run_serve(rt, turns, options, VERSION, &mut input, &mut faults)
+            run_serve(rt, options, VERSION, &mut input, &mut faults)
         }
         Err(error) => end_without(name, error.kind(), &mut faults),
     }
@@ -98,18 +92,15 @@ fn operate(rt: &HostRuntime, options: &OperateOptions) -> u8 {
     run_operate(rt, rt.alloc(), options, input, out, &mut faults)
 }
 
-/// Runs a job, and returns the exit status. `serve` takes a turn for each item of `turns`.
-fn do_job<T: Iterator<Item = ()>>(rt: &HostRuntime, turns: T, job: &Job<'_>) -> u8
-    requires can { T.can_next turns }
-    requires ends { IsFinite (T.remaining turns) }
-{
+/// Runs a job, and returns the exit status.
+fn do_job(rt: &HostRuntime, job: &Job<'_>) -> u8 {
     let alloc = rt.alloc();
     let mut input = CountedReader::new(rt.stdin());
     let mut out = CountedWriter::new(rt.stdout());
     let mut faults = CountedWriter::new(rt.stderr());
     match job {
         Job::Script { terminals } => {
-            run_script(alloc, *terminals, &mut input, &mut out, &mut faults)
+            run_script_with(alloc, *terminals, &mut input, &mut out, &mut faults)
         }
         Job::Show { model } => run_show(alloc, *model, &mut input, &mut out, &mut faults),
         Job::Selfrun { turns } => run_selfrun(rt, *turns, &mut input, &mut out, &mut faults),
@@ -127,14 +118,14 @@ fn do_job<T: Iterator<Item = ()>>(rt: &HostRuntime, turns: T, job: &Job<'_>) -> 
                 control,
                 file: panels.as_ref().map(Operand::as_str),
             };
-            serve(rt, turns, options)
+            serve(rt, options)
         }
         Job::Tell { socket, command } => run_tell(rt, socket, command, &mut out, &mut faults),
         Job::Term { port, lu, model } => {
             run_term(rt, *port, *model, *lu, &mut input, &mut out, &mut faults)
         }
         Job::Operate(options) => operate(rt, options),
-        Job::Web(options) => run_web(rt, alloc, turns, options, &mut faults),
+        Job::Web(options) => run_web(rt, alloc, options, &mut faults),
         Job::Help(topic) => run_help(*topic, &mut open_ended(rt), &mut faults),
         Job::Version => run_version(&mut open_ended(rt), &mut faults),
     }
@@ -144,25 +135,21 @@ fn do_job<T: Iterator<Item = ()>>(rt: &HostRuntime, turns: T, job: &Job<'_>) -> 
 fn unread(why: ErrorKind) -> WordFault<'static> {
     match why {
         ErrorKind::OutOfMemory => WordFault::Memory,
-        _ => WordFault::NotText,
+        _ => WordFault::Refused(Refusal::NotText),
     }
 }
 
-/// Runs the job that the arguments ask for, and returns the exit status. `serve` takes a turn for each item of `turns`.
-fn run<T: Iterator<Item = ()>>(rt: &HostRuntime, turns: T, given: &[String]) -> u8
-    requires can { T.can_next turns }
-    requires ends { IsFinite (T.remaining turns) }
-{
+/// Runs the job that the arguments ask for, and returns the exit status.
+fn run(rt: &HostRuntime, given: &[String]) -> u8 {
     match words(rt.alloc(), given) {
-        Ok(job) => do_job(rt, turns, &job),
+        Ok(job) => do_job(rt, &job),
         Err(fault) => refuse_words(fault, &mut CountedWriter::new(rt.stderr())),
     }
 }
 
 fn main(rt: HostRuntime) -> ExitCode {
     let status = match given_words(&rt) {
-        // `serve` ends only by a fault.
-        Ok(given) => run(&rt, rt.forever(), given.as_slice()),
+        Ok(given) => run(&rt, given.as_slice()),
         Err(error) => refuse_words(unread(error.kind()), &mut CountedWriter::new(rt.stderr())),
     };
     ExitCode::from(status)

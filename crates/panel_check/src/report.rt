@@ -10,7 +10,7 @@ use std::alloc::{AllocError, Global};
 use std::fmt;
 
 /// The kind of a finding. `TextWraps`, `FillNotNumeric` and `NoKeyLeads` are warnings, all others are faults.
-#[derive(Clone, Copy, Debug)]
+#[derive(Clone, Copy, Debug, PartialEq, Eq)]
 pub enum Cause {
     /// The text isn't TOML.
     NotToml,
@@ -39,7 +39,7 @@ impl Cause {
 }
 
 /// A fault of a panel text, or a warning. Prints as `33: panel MENU, field option: unknown key 'requird'`.
-#[derive(Drop)]
+#[derive(Debug, Drop)]
 pub struct Finding {
     /// What it is that was found.
     pub cause: Cause,
@@ -58,7 +58,7 @@ impl fmt::Display for Finding {
 }
 
 /// The numbers of panels, of fields of all panels, with all copies, and of LUs in a text.
-#[derive(Clone, Copy)]
+#[derive(Clone, Copy, Debug, PartialEq, Eq)]
 pub struct Sizes {
     pub panels: usize,
     pub fields: usize,

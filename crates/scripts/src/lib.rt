@@ -23,7 +23,7 @@ mod term_line;
 pub use check::run_check;
 pub use operator::{put_display, put_phase};
 pub use page::{Page, page_of};
-pub use page_job::{run_script, run_show};
+pub use page_job::{run_script, run_script_with, run_show};
 pub use player::{MODELS, command_in_range, put_answer};
 pub use script::parted;
 pub use script_line::{ScriptCommand, typed_text};

@@ -1,4 +1,5 @@
 //! `script` and `show`: read the whole input, print a page, and open no socket.
+ghost use Rattle.host_core.specs.declared.terminals.Terminals.TheVariants.{Waiting};
 ghost use Rattle.jobs.specs.Runs.{InPieces, ending_of};
 ghost use Rattle.scripts.specs.PageJobRuns.{EndsPrinting, HasCause, IsEnd};
 ghost use Rattle.scripts.specs.declared.page_job.PageJob.TheVariants.{Script, Show};
@@ -20,14 +21,26 @@ pub(crate) enum PageJob {
 }
 
 /// Serves the panels of the input to four terminals, of models 2 to 5, executes the script's commands, one in each
-/// line, and prints what the operators see. The input is the panel text, a line `%%` and the script. `terminals` says
-/// whether the host relies on the terminals to wait for it, as these do. A fault that ends the run is written to
-/// `faults` as one line.
+/// line, and prints what the operators see. The input is the panel text, a line `%%` and the script. The host relies on
+/// the terminals to wait for it. A fault that ends the run is written to `faults` as one line.
 ///
 /// Returns the exit status: 0 if the whole page was printed; 1 if the input can't be read, has more than `MOST_BYTES`
 /// bytes, takes more than `MOST_READS` reads, isn't UTF-8, defines no panels, or has LUs that are no pool; 1 also for
 /// an invalid line, after the page of the lines before it; 3 if memory is refused; 6 if the output fails.
 pub fn run_script<I: Source, O: Sink, E: Sink>(
+    alloc: Global,
+    input: &mut I,
+    out: &mut O,
+    faults: &mut E,
+) -> u8
+    ensures { IsEnd (Script Waiting) (InPieces I.gave input.old input.new) (I.seen input.old) (I.seen input.new)
+        (O.seen out.old) (O.seen out.new) (E.seen faults.old) (E.seen faults.new) result }
+{
+    run_script_with(alloc, Terminals::Waiting, input, out, faults)
+}
+
+/// Plays a script like [`run_script`], with a host for these terminals: it may also serve terminals that don't wait.
+pub fn run_script_with<I: Source, O: Sink, E: Sink>(
     alloc: Global,
     terminals: Terminals,
     input: &mut I,

@@ -1,18 +1,17 @@
 -- A turn more, and how a turn breaks off.
-use Rattle.std.proofs.Common.{◌≡◌, ◌∙◌, add-one, Bool, false, IfErr, List, [], ◌∷◌, ◌++◌, Result, Ok, Err, length, subst, sym}
-use Rattle.std.proofs.lemmas.List.{length_push}
+use Rattle.std.proofs.Common.{◌≡◌, ◌+◌, add-one, ℕ, Bool, false, IfErr, Result, Ok, Err, subst, sym}
 use Rattle.std.specs.Result.{IsErrAnd}
 use Rattle.server.specs.ServiceTurns.{BreaksOff, TakesTurns, TakesWhole}
 use Rattle.jobs.specs.declared.fault.Fault.{Fault}
 
 module _ {S : Type 0} (served timed : S → Bool → Result Bool Fault → S → Type 0) (consulted obeyed : S → Result Bool Fault → S → Type 0)
     (told : S → Bool → S → Type 0) where
-  pub turn_more : {A : Type 0} (is_over : S → Bool) (items : List A) (item : A) (old mid new : S) (before busy : Bool)
-      → TakesTurns served timed consulted obeyed told is_over (length items) old before mid → is_over mid ≡ false
+  pub turn_more : (is_over : S → Bool) (count : ℕ) (old mid new : S) (before busy : Bool)
+      → TakesTurns served timed consulted obeyed told is_over count old before mid → is_over mid ≡ false
       → TakesWhole served timed consulted obeyed told mid before busy new
-      → TakesTurns served timed consulted obeyed told is_over (length (items ++ item ∷ [])) old busy new
-  turn_more is_over items item old mid new before busy turns goes_on whole =
-      subst (λ n. TakesTurns served timed consulted obeyed told is_over n old busy new) (sym (length_push items item ∙ add-one (length items)))
+      → TakesTurns served timed consulted obeyed told is_over (count + 1) old busy new
+  turn_more is_over count old mid new before busy turns goes_on whole =
+      subst (λ n. TakesTurns served timed consulted obeyed told is_over n old busy new) (sym (add-one count))
       (before, mid, turns, goes_on, whole)
 
   pub breaks_off : (result : Result Bool Fault) (why : Fault) (old new : S) (busy : Bool) → IsErrAnd result (λ fault. fault ≡ why)

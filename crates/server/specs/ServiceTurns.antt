@@ -1,6 +1,5 @@
 -- The turns of a service (our profile): the parts of a turn in their order, and one turn after another.
-use Rattle.std.specs.Prelude.{◌≡◌, ◌||◌, ℕ, zero, suc, Bool, true, false, List, length, Option, Result, Ok, Err}
-use Rattle.std.specs.Iterator.{Drains}
+use Rattle.std.specs.Prelude.{◌≡◌, ◌||◌, ◌<◌, ℕ, zero, suc, Bool, true, false, Result, Ok, Err}
 use Rattle.jobs.specs.declared.fault.Fault.{Fault}
 use Rattle.jobs.specs.declared.fault.Fault.TheVariants as fault
 
@@ -47,16 +46,15 @@ module _ {S : Type 0} (served timed : S → Bool → Result Bool Fault → S →
         × (is_over mid ≡ false)
         × TakesWhole mid before busy new
 
-    -- Holds if one turn is taken for each item of an iterator, until a turn fails, operators ended the service, which
-    -- is then finished, or no item is left.
-    pub data EndsBy (finished : S → Result Unit Fault → S → Type 0) {I A : Type 0} (gives : I → Option A → I → Type 0)
-        (items : I) (old : S) (answer : Result Unit Fault) (new : S) : Type 0 where
-      broke_off : (count : ℕ) (busy : Bool) (mid : S) (why : Fault) → TakesTurns count old busy mid
+    -- Holds if at most this number of turns is taken, until a turn fails, operators ended the service, which is then
+    -- finished, or all turns are taken.
+    pub data EndsBy (finished : S → Result Unit Fault → S → Type 0) (turns : ℕ) (old : S) (answer : Result Unit Fault)
+        (new : S) : Type 0 where
+      broke_off : (count : ℕ) (busy : Bool) (mid : S) (why : Fault) → count < turns → TakesTurns count old busy mid
           → is_over mid ≡ false → BreaksOff mid busy why new → answer ≡ Err why
-          → EndsBy finished gives items old answer new
-      ended : (count : ℕ) (busy : Bool) (mid : S) → TakesTurns count old busy mid → is_over mid ≡ true
+          → EndsBy finished turns old answer new
+      ended : (count : ℕ) (busy : Bool) (mid : S) → count < turns → TakesTurns count old busy mid → is_over mid ≡ true
           → finished mid answer new
-          → EndsBy finished gives items old answer new
-      turns_over : (given : List A) (busy : Bool) → Drains gives items given → TakesTurns (length given) old busy new
-          → answer ≡ Err fault.TurnsOver
-          → EndsBy finished gives items old answer new
+          → EndsBy finished turns old answer new
+      turns_over : (busy : Bool) → TakesTurns turns old busy new → answer ≡ Err fault.TurnsOver
+          → EndsBy finished turns old answer new

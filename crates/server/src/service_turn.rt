@@ -1,5 +1,4 @@
 //! The turns of `serve`: the parts of a turn in their order, and the loop of turns.
-ghost use Rattle.std.specs.Iterator.{IsFinite};
 ghost use Rattle.std.specs.Prelude.{◌≡◌, IfErr, IfOk};
 ghost use Rattle.server.specs.ServiceTurns.{BreaksOff, EndsBy, TakesWhole};
 
@@ -73,18 +72,14 @@ pub fn take_turn<S: TurnParts>(service: &mut S, busy: bool) -> Result<bool, Faul
     Ok(moved | timed | decided | obeyed | told)
 }
 
-/// Takes one turn for each item of `turns`, until a turn fails, and returns its fault; TurnsOver if no item is left. If
-/// operators ended the service before a turn, it is finished.
-pub fn take_turns<S: TurnParts, T: Iterator>(service: &mut S, turns: T) -> Result<(), Fault>
-where
-    T::Item: Drop,
-    requires can { T.can_next turns }
-    requires ends { IsFinite (T.remaining turns) }
-    ensures { EndsBy S.served S.timed S.consulted S.obeyed S.told S.is_over S.finished T.next_gives turns
-        service.old result service.new }
+/// Takes at most this number of turns, until one fails, and returns its fault; TurnsOver after the last. If operators
+/// ended the service before a turn, it is finished.
+pub fn take_turns<S: TurnParts>(service: &mut S, turns: u64) -> Result<(), Fault>
+    ensures { EndsBy S.served S.timed S.consulted S.obeyed S.told S.is_over S.finished turns service.old result
+        service.new }
 {
     let mut busy = false;
-    for _ in turns {
+    for _ in 0..turns {
         if service.is_over() {
             return service.finish();
         }

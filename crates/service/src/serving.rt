@@ -1,5 +1,4 @@
 //! The jobs `host` and `serve`: serve the panels of the input to the terminals that connect.
-ghost use Rattle.std.specs.Iterator.{IsFinite};
 ghost use Rattle.std.specs.Prelude.{◌≡◌};
 ghost use Rattle.service.specs.Serving.{is_closed};
 
@@ -228,18 +227,14 @@ impl Serving {
         }
     }
 
-    /// Reports to the watcher that the server listens, and takes a turn for each item of `turns`. Returns the fault
-    /// that ended that; Ok if operators did.
-    fn serve_watched<W: Watcher, T: Iterator<Item = ()>>(
+    /// Reports to the watcher that the server listens, and takes turns. Returns the fault that ended that; Ok if
+    /// operators did.
+    fn serve_watched<W: Watcher>(
         &mut self,
         rt: &HostRuntime,
-        turns: T,
         options: ServeOptions<'_>,
         watcher: &mut W,
-    ) -> Result<(), Fault>
-        requires can { T.can_next turns }
-        requires ends { IsFinite (T.remaining turns) }
-    {
+    ) -> Result<(), Fault> {
         watcher.notice(&Notice::Listening(options.address()))?;
         let mut shift = Shift {
             serving: self,
@@ -249,27 +244,23 @@ impl Serving {
             uptime: Uptime::new(),
             watcher,
         };
-        take_turns(&mut shift, turns)
+        take_turns(&mut shift, u64::MAX)
     }
 
-    /// Takes a turn for each item of `turns`, with this log, and with a metrics port if the service has one. Returns
-    /// the fault that ended that; Ok if operators did.
-    fn serve_logged<T: Iterator<Item = ()>, E: Sink>(
+    /// Takes turns, with this log, and with a metrics port if the service has one. Returns the fault that ended that;
+    /// Ok if operators did.
+    fn serve_logged<E: Sink>(
         &mut self,
         rt: &HostRuntime,
-        turns: T,
         options: ServeOptions<'_>,
         version: &'static str,
         mut log: Log<'_, E>,
-    ) -> Result<(), Fault>
-        requires can { T.can_next turns }
-        requires ends { IsFinite (T.remaining turns) }
-    {
+    ) -> Result<(), Fault> {
         let Some(port) = options.service.metrics else {
-            return self.serve_watched(rt, turns, options, &mut log);
+            return self.serve_watched(rt, options, &mut log);
         };
         match MetricsObserver::new(rt, &self.port, port, version, &mut log) {
-            Ok(mut metered) => self.serve_watched(rt, turns, options, &mut metered),
+            Ok(mut metered) => self.serve_watched(rt, options, &mut metered),
             Err(fault) => Err(fault),
         }
     }
@@ -491,21 +482,16 @@ fn host_of_input<I: Source, E: Sink>(
     }
 }
 
-/// Serves a host, a turn for each item of `turns`, with a log on `faults`. Returns the fault that ended that; Ok if
-/// operators did.
-fn serve<T: Iterator<Item = ()>, E: Sink>(
+/// Serves a host, with a log on `faults`. Returns the fault that ended that; Ok if operators did.
+fn serve<E: Sink>(
     rt: &HostRuntime,
-    turns: T,
     options: ServeOptions<'_>,
     application: Option<Application>,
     control: Option<Control>,
     host: Host,
     version: &'static str,
     faults: &mut E,
-) -> Result<(), Fault>
-    requires can { T.can_next turns }
-    requires ends { IsFinite (T.remaining turns) }
-{
+) -> Result<(), Fault> {
     warn_if_open(options.address(), faults);
     let mut serving = serving_of(rt, options, application, control, host)?;
     let log = Log {
@@ -513,36 +499,23 @@ fn serve<T: Iterator<Item = ()>, E: Sink>(
         lines: faults,
         quiet: options.service.quiet,
     };
-    serving.serve_logged(rt, turns, options, version, log)
+    serving.serve_logged(rt, options, version, log)
 }
 
 /// Serves a host, and makes the control socket for that time, if one is chosen. Returns the exit status.
-fn serve_commanded<T: Iterator<Item = ()>, E: Sink>(
+fn serve_commanded<E: Sink>(
     rt: &HostRuntime,
-    turns: T,
     options: ServeOptions<'_>,
     application: Option<Application>,
     host: Host,
     version: &'static str,
     faults: &mut E,
-) -> u8
-    requires can { T.can_next turns }
-    requires ends { IsFinite (T.remaining turns) }
-{
+) -> u8 {
     let control = match control_of(rt, options.control, faults) {
         Ok(control) => control,
         Err(status) => return status,
     };
-    let ended = serve(
-        rt,
-        turns,
-        options,
-        application,
-        control,
-        host,
-        version,
-        faults,
-    );
+    let ended = serve(rt, options, application, control, host, version, faults);
     if let Some(socket) = &options.control.socket {
         let _ = fs::remove_file(rt, socket.as_str());
     }
@@ -552,11 +525,11 @@ fn serve_commanded<T: Iterator<Item = ()>, E: Sink>(
     }
 }
 
-/// Serves the panels of the input, a turn for each item of `turns`, at the service's address and port, with its time
-/// limits, and with a log on `faults` unless the service is quiet. If other machines can reach the address, `faults`
-/// first gets a warning. The log says when the server listens. For each connection it says when it begins, when it is
-/// refused an LU or bound to one, when a key is dropped, and when and why it ends. If the service has a metrics port,
-/// that port of 127.0.0.1 serves the counts, with this version of the program.
+/// Serves the panels of the input at the service's address and port, with its time limits, and with a log on `faults`
+/// unless the service is quiet. If other machines can reach the address, `faults` first gets a warning. The log says
+/// when the server listens. For each connection it says when it begins, when it is refused an LU or bound to one, when
+/// a key is dropped, and when and why it ends. If the service has a metrics port, that port of 127.0.0.1 serves the
+/// counts, with this version of the program.
 ///
 /// If an application is chosen, it is asked about the keys that panels ask about. The log says if it fails to answer.
 ///
@@ -568,24 +541,20 @@ fn serve_commanded<T: Iterator<Item = ()>, E: Sink>(
 /// Returns the exit status: 0 if operators ended the service; 1 if the input can't be read (as by [`read_whole`]), if
 /// it defines no panels, or if their LUs are no pool; 2 if the application's URL is invalid, or if no application is
 /// chosen and a panel asks about a key; 3 if memory is refused; 4 if the system can't give random bytes, make the
-/// control socket, listen, or wait for sockets; 5 if `turns` has no more items.
-pub fn run_serve<T: Iterator<Item = ()>, I: Source, E: Sink>(
+/// control socket, listen, or wait for sockets; 5 after 2^64 - 1 turns.
+pub fn run_serve<I: Source, E: Sink>(
     rt: &HostRuntime,
-    turns: T,
     options: ServeOptions<'_>,
     version: &'static str,
     input: &mut I,
     faults: &mut E,
-) -> u8
-    requires can { T.can_next turns }
-    requires ends { IsFinite (T.remaining turns) }
-{
+) -> u8 {
     let application = match application_of(rt.alloc(), options.application) {
         Ok(application) => application,
         Err(fault) => return report_and_exit_code(fault, faults),
     };
     match host_of_input(rt.alloc(), options, input, faults) {
-        Ok(host) => serve_commanded(rt, turns, options, application, host, version, faults),
+        Ok(host) => serve_commanded(rt, options, application, host, version, faults),
         Err(status) => status,
     }
 }

@@ -8,6 +8,7 @@ use host_core::{DroppedKey, Rejection, Rule, RuleBreak, Served};
 use service_wire::HeaderFault;
 use std::fmt;
 use std::net::SocketAddr;
+use thiserror::Error;
 use tn3270e_msg::{Cause, Lu};
 
 /// A connection: its number, 0 to 63, its session's name, and its peer's address.
@@ -56,7 +57,7 @@ impl Ending {
 }
 
 /// What a connection used until it was over.
-#[derive(Clone, Copy)]
+#[derive(Clone, Copy, Debug, PartialEq, Eq)]
 pub struct Usage {
     /// Whether its terminal was bound to an LU.
     pub bound: bool,
@@ -70,14 +71,17 @@ pub struct Usage {
     pub received: u64,
 }
 
-/// Why a connection that must begin with a header of the PROXY protocol is closed.
-#[derive(Clone, Copy)]
+/// Why a connection that must begin with a header of the PROXY protocol is closed. Prints as one word.
+#[derive(Clone, Copy, Debug, PartialEq, Eq, Error)]
 pub enum BadHeader {
     /// The header is wrong, or there is none.
+    #[error("{0}")]
     Wrong(HeaderFault),
     /// It wasn't complete in time.
+    #[error("late")]
     Late,
     /// The peer closed the connection before it was complete, or the connection failed.
+    #[error("cut-short")]
     CutShort,
 }
 
@@ -161,6 +165,20 @@ impl fmt::Display for Ending {
     }
 }
 
+/// Prints as nothing if the terminal wasn't bound to an LU; otherwise begins with a blank.
+impl fmt::Display for Usage {
+    fn fmt<W: fmt::Write>(&self, f: &mut fmt::Formatter<W>) -> fmt::Result {
+        if !self.bound {
+            return Ok(());
+        }
+        write!(
+            f,
+            " duration={} turns={} sent={} received={}",
+            self.duration, self.turns, self.sent, self.received
+        )
+    }
+}
+
 /// Prints as the command, its LU, and the status of the answer.
 impl fmt::Display for Commanded {
     fn fmt<W: fmt::Write>(&self, f: &mut fmt::Formatter<W>) -> fmt::Result {
@@ -168,17 +186,6 @@ impl fmt::Display for Commanded {
         match self.lu {
             Some(lu) => write!(f, "command={} lu={lu} status={status}", self.name),
             None => write!(f, "command={} status={status}", self.name),
-        }
-    }
-}
-
-/// Prints as one word.
-impl fmt::Display for BadHeader {
-    fn fmt<W: fmt::Write>(&self, f: &mut fmt::Formatter<W>) -> fmt::Result {
-        match self {
-            BadHeader::Wrong(fault) => write!(f, "{fault}"),
-            BadHeader::Late => f.write_str("late"),
-            BadHeader::CutShort => f.write_str("cut-short"),
         }
     }
 }
@@ -209,12 +216,7 @@ impl fmt::Display for Notice {
                 };
                 write!(f, "{client} event=rule-broken rule={rule} cell={cell}")
             }
-            Notice::Ended(client, ending, usage) if usage.bound => write!(
-                f,
-                "{client} event={ending} duration={} turns={} sent={} received={}",
-                usage.duration, usage.turns, usage.sent, usage.received
-            ),
-            Notice::Ended(client, ending, _) => write!(f, "{client} event={ending}"),
+            Notice::Ended(client, ending, usage) => write!(f, "{client} event={ending}{usage}"),
             Notice::Asked => f.write_str("event=asked"),
             Notice::Answered(millis) => write!(f, "event=answered millis={millis}"),
             Notice::Commanded(commanded) => write!(f, "event=command {commanded}"),

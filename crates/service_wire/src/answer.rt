@@ -9,7 +9,7 @@ use crate::line_fault::LineFault;
 use std::fmt;
 
 /// Whether a command was done.
-#[derive(Clone, Copy)]
+#[derive(Clone, Copy, Debug, PartialEq, Eq)]
 pub enum Status {
     /// It was done.
     Done,
@@ -18,7 +18,7 @@ pub enum Status {
 }
 
 /// The answer to a command.
-#[derive(Clone, Copy)]
+#[derive(Clone, Copy, Debug, PartialEq, Eq)]
 pub struct Answer<'a> {
     /// Whether the command was done.
     pub status: Status,

@@ -9,7 +9,7 @@ use std::fmt;
 use tn3270e_msg::Lu;
 
 /// Whom a note is for.
-#[derive(Clone, Copy)]
+#[derive(Clone, Copy, Debug, PartialEq, Eq)]
 pub enum Recipient {
     /// The operator of each session.
     Everyone,

@@ -9,7 +9,7 @@ use crate::header_line::{LINE_MARK, read_line};
 use std::net::SocketAddr;
 
 /// A header of the PROXY protocol.
-#[derive(Clone, Copy)]
+#[derive(Clone, Copy, Debug, PartialEq, Eq)]
 pub struct Header {
     /// How many bytes it has.
     pub size: usize,

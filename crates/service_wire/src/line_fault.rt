@@ -3,7 +3,7 @@ use std::error::Error;
 use std::fmt;
 
 /// Why received bytes are no command, or no answer.
-#[derive(Clone, Copy, Debug)]
+#[derive(Clone, Copy, Debug, PartialEq, Eq)]
 pub enum LineFault {
     /// There is no LF within the limit.
     TooLong,

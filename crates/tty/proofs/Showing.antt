@@ -13,7 +13,7 @@ use Rattle.tty.specs.declared.picture.PictureCell.{PictureCell}
 use Rattle.tty.specs.Looks.{number_of, same_look}
 use Rattle.tty.specs.Pictures.{PictureParts, IsSized, erased_cell, same_cell, origin, next_place}
 use Rattle.tty.specs.Spelling.{selection}
-use Rattle.tty.specs.Tty.{Tty, TtyCell, Rendition, Control, default_rendition, is_inside, after, after_all}
+use Rattle.tty.specs.Tty.{Tty, TtyCell, Rendition, Control, is_inside, after, after_all}
 use Rattle.tty.specs.Changes.{written, changes, update, redrawing, same_size, drawing_of}
 use Rattle.tty.specs.Drawn.{rendition_of, tty_cell, erased, ShowsFrom, HasRoom, IsBeyond, Shows, ShowsKnown}
 

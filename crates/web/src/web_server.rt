@@ -1,5 +1,4 @@
 //! The server of pages, and its loop.
-ghost use Rattle.std.specs.Iterator.{IsFinite};
 ghost use Rattle.std.specs.Prelude.{◌≡◌, ◌<◌};
 
 use crate::departing::{Departing, Progress};
@@ -555,20 +554,16 @@ fn millis_between(start: Instant, now: Instant) -> u64 {
     u64::try_from(now.duration_since(start).as_millis()).unwrap_or(u64::MAX)
 }
 
-/// Takes a turn for each item of `turns`, until one fails, and returns its fault; TurnsOver if no item is left. A clock
-/// that fails leaves the time as it was.
-fn take_turns<R: Net + Clock + RandomSource, T: Iterator<Item = ()>, L: EventLog>(
+/// Takes 2^64 - 1 turns, until one fails, and returns its fault; TurnsOver after the last. A clock that fails leaves the
+/// time as it was.
+fn take_turns<R: Net + Clock + RandomSource, L: EventLog>(
     rt: &R,
-    turns: T,
     server: &mut WebServer,
     log: &mut L,
-) -> Result<(), Fault>
-    requires can { T.can_next turns }
-    requires ends { IsFinite (T.remaining turns) }
-{
+) -> Result<(), Fault> {
     let start = Instant::now(rt).ok();
     let mut busy = false;
-    for _ in turns {
+    for _ in 0..u64::MAX {
         busy = server.turn(rt, busy, log)?;
         if let (Some(start), Ok(now)) = (start, Instant::now(rt)) {
             server.keep_time(millis_between(start, now));
@@ -577,18 +572,14 @@ fn take_turns<R: Net + Clock + RandomSource, T: Iterator<Item = ()>, L: EventLog
     Err(Fault::TurnsOver)
 }
 
-/// Serves pages, a turn for each item of `turns`.
-fn serve<R: Net + Clock + RandomSource, T: Iterator<Item = ()>, E: Sink>(
+/// Serves pages.
+fn serve<R: Net + Clock + RandomSource, E: Sink>(
     rt: &R,
     alloc: Global,
-    turns: T,
     site: Site,
     options: &WebOptions<'_>,
     faults: &mut E,
-) -> Result<(), Fault>
-    requires can { T.can_next turns }
-    requires ends { IsFinite (T.remaining turns) }
-{
+) -> Result<(), Fault> {
     let mut server = WebServer::new(rt, alloc, site, options)?;
     let address = SocketAddr::new(options.listen, options.port.get());
     let _ = faults.write_line(Serving(address));
@@ -597,30 +588,26 @@ fn serve<R: Net + Clock + RandomSource, T: Iterator<Item = ()>, E: Sink>(
         alloc,
         lines: faults,
     };
-    take_turns(rt, turns, &mut server, &mut log)
+    take_turns(rt, &mut server, &mut log)
 }
 
-/// Serves the page to browsers, a turn for each item of `turns`: each page is a terminal at the host of the options.
-/// The page is served to browsers of this machine, and at the origin of the options. `faults` first gets a line that
-/// says where it is, and then the log: which client is refused and why; and of each session when it begins, is
-/// connected, is bound to an LU, loses its page, is resumed, and ends. Nothing that is typed or shown is logged.
+/// Serves the page to browsers: each page is a terminal at the host of the options. The page is served to browsers of
+/// this machine, and at the origin of the options. `faults` first gets a line that says where it is, and then the log:
+/// which client is refused and why; and of each session when it begins, is connected, is bound to an LU, loses its
+/// page, is resumed, and ends. Nothing that is typed or shown is logged.
 ///
 /// At most 16 clients have no session, for at most 5 seconds each. A page that takes too little isn't drawn until it
 /// has taken what waits. One that is silent for a minute is dropped; it gets a ping every 25 seconds. A session that
 /// has lost its page is kept for the time of the options.
 ///
 /// Returns the exit status: 2 if the origin isn't one; 3 if memory is refused; 4 if the system can't listen, or wait
-/// for sockets; 5 if `turns` has no more items.
-pub fn run_web<R: Net + Clock + RandomSource, T: Iterator<Item = ()>, E: Sink>(
+/// for sockets; 5 after 2^64 - 1 turns.
+pub fn run_web<R: Net + Clock + RandomSource, E: Sink>(
     rt: &R,
     alloc: Global,
-    turns: T,
     options: &WebOptions<'_>,
     faults: &mut E,
-) -> u8
-    requires can { T.can_next turns }
-    requires ends { IsFinite (T.remaining turns) }
-{
+) -> u8 {
     let site = match site_of(alloc, options) {
         Ok(site) => site,
         Err(OriginFault::Memory) => return report_and_exit_code(Fault::NoMemory, faults),
@@ -629,7 +616,7 @@ pub fn run_web<R: Net + Clock + RandomSource, T: Iterator<Item = ()>, E: Sink>(
             return 2;
         }
     };
-    match serve(rt, alloc, turns, site, options, faults) {
+    match serve(rt, alloc, site, options, faults) {
         Ok(()) => 0,
         Err(fault) => report_and_exit_code(fault, faults),
     }
