@@ -65,10 +65,11 @@ module _ {S W L : Type 0} (gave : S → ℕ → List ℕ → Result ℕ Error �
 
   -- ---- with the system's listener, of which nothing is known except what it hands over
 
-  -- Holds if the server polls until a socket is ready or the time is up, and then takes a turn. A failed poll ends it.
+  -- Holds if the server polls until a socket is ready or the time is up, and then takes a turn, after which the listener
+  -- is `listener`. A failed poll ends it. What the poll itself does to the listener isn't known (`polled`).
   pub data PollsAndServes (old : Server S) (watcher : W) (answer : Result Bool Fault) (new : Server S)
-      (after : W) : Type 0 where
+      (after : W) (listener : L) : Type 0 where
     poll_failed : answer ≡ Err fault.SocketFailed → new ≡ old → after ≡ watcher
-        → PollsAndServes old watcher answer new after
-    polled : (before later : L) → TakesTurn (door before old watcher) answer (door later new after)
-        → PollsAndServes old watcher answer new after
+        → PollsAndServes old watcher answer new after listener
+    polled : (polled : L) → TakesTurn (door polled old watcher) answer (door listener new after)
+        → PollsAndServes old watcher answer new after listener

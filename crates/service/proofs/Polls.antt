@@ -14,7 +14,7 @@ module _ {S W L C : Type 0} (gave : S → ℕ → List ℕ → Result ℕ Error 
     (noticed : W → Notice → Result Unit Fault → W → Type 0) (showed : W → Host → ℕ → Result Unit Fault → W → Type 0)
     (accepts : L → Option (Arrival S) → L → Type 0) (refuses : C → Option (Arrival S) → C → Type 0) where
   -- nothing has changed then, whether the service is closed or not
-  pub not_polled : (closed : Bool) (server : Server S) (watcher : W)
-      → PollsAndServesBy gave took noticed showed accepts refuses closed server watcher (Err fault.SocketFailed) server watcher
-  not_polled true server watcher = poll_failed refl refl refl
-  not_polled false server watcher = poll_failed refl refl refl
+  pub not_polled : (closed : Bool) (nobody : C) (server : Server S) (watcher : W) (listener : L)
+      → PollsAndServesBy gave took noticed showed accepts refuses closed nobody server watcher (Err fault.SocketFailed) server watcher listener
+  not_polled true nobody server watcher listener = poll_failed refl refl refl
+  not_polled false nobody server watcher listener = poll_failed refl refl refl

@@ -281,7 +281,7 @@ impl<W: Watcher> TurnParts for Shift<'_, W> {
     ghost use Rattle.std.specs.Prelude.{Bool, Result};
     ghost use Rattle.jobs.specs.declared.fault.Fault.{Fault};
     ghost use Rattle.server.specs.Control.{StopsAt};
-    ghost use Rattle.service.specs.Serving.{PollsAndServesBy, is_closed, is_over};
+    ghost use Rattle.service.specs.Serving.{PollsAndServesBy, is_closed, is_over, nobody};
     ghost use Rattle.server.specs.TimeTurns.{KeepsTime, done};
     ghost use Rattle.service.specs.Uptimes.{IsRead};
     ghost use Rattle.server.specs.Visits.{VisitsEach};
@@ -289,8 +289,9 @@ impl<W: Watcher> TurnParts for Shift<'_, W> {
     ghost served = { λ old _ answer new. PollsAndServesBy ⟦<TcpStream as RawRead>⟧.read_gave
         ⟦<TcpStream as RawWrite>⟧.write_took W.noticed W.showed
         ⟦<ProxyListener<TcpStream, PolledListener> as Listener<TcpStream>>⟧.gave
-        ⟦<NoListener as Listener<TcpStream>>⟧.gave (is_closed old.serving.now.control) old.serving.now.server
-        old.watcher.now answer new.serving.now.server new.watcher.now
+        ⟦<NoListener as Listener<TcpStream>>⟧.gave (is_closed old.serving.now.control)
+        nobody old.serving.now.server old.watcher.now answer new.serving.now.server new.watcher.now
+        new.serving.now.port.arrivals
         × (new.uptime ≡ old.uptime) × (new.limits ≡ old.limits)
         × (new.serving.now.application ≡ old.serving.now.application)
         × (new.serving.now.control ≡ old.serving.now.control) };
