@@ -1,5 +1,5 @@
 //! The texts, fields and values of a panel text: their extents, and whether they share cells.
-ghost use Rattle.std.specs.Prelude.{◌≡◌, ◌≤ℤ◌, ◌<ℤ◌, ◌+ℤ◌, ◌-ℤ◌, ◌<◌, IsTrue, true, false, MatchOption, pos, chars, length};
+ghost use Rattle.std.specs.Prelude.{◌≡◌, ◌≤ℤ◌, ◌<ℤ◌, ◌+ℤ◌, ◌-ℤ◌, IsTrue, true, false, MatchOption, pos, chars, length};
 ghost use Rattle.std.specs.List.{list_any};
 ghost use Rattle.panels.specs.Size.{item_rows, message_start};
 ghost use Rattle.panels.specs.Items.{IsExtentOf, first_cell, has_column, has_no_code, has_row, is_in_rows, rows_below, is_on_screen, is_in_place, lacks_code, is_above_message, first_of};
