@@ -1,9 +1,9 @@
 //! The names of sessions.
 ghost use Rattle.std.specs.Prelude.{◌≡◌, IfOk, string_bytes};
-ghost use Rattle.applications.specs.SessionNames.{session_after, session_text};
+ghost use Rattle.applications.specs.SessionNames.{IsDrawn, session_after, session_text};
 
+use jobs::RawRandom;
 use std::alloc::{AllocError, Global};
-use std::random::RandomSource;
 use std::{fmt, io};
 
 /// The name of a session. No other session has it, not even after the host is started again. Prints as `BOOT-N`.
@@ -48,8 +48,10 @@ pub(crate) fn session_text(alloc: Global, session: SessionName) -> Result<String
 
 /// Draws the first part of the names of all sessions of one start of the host: 64 random bits from the system. The
 /// probability that any two of a thousand starts draw the same bits is below 2^-44.
-pub fn draw_boot(source: &impl RandomSource) -> io::Result<u64> {
+pub fn draw_boot<R: RawRandom>(source: &R) -> io::Result<u64>
+    ensures { IfOk result (IsDrawn (R.filled source.now)) }
+{
     let mut bytes = [0; 8];
-    source.fill_bytes(&mut bytes)?;
+    source.fill_once(&mut bytes)?;
     Ok(u64::from_be_bytes(bytes))
 }

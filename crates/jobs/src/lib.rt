@@ -57,7 +57,7 @@ pub use live_fault::LiveFault;
 pub use number::{
     BoundedU16, BoundedU32, Port, ReplyTime, Seconds, ServicePort, SessionCount, Turns,
 };
-pub use raw::{RawRead, RawWrite};
+pub use raw::{RawRandom, RawRead, RawWrite};
 pub use service::{ApplicationChoice, ControlChoice, Service, TimeLimits, address_of};
 pub use socket_slot::{SocketSlot, is_transient, read_once, write_once};
 pub use sockets::Sockets;

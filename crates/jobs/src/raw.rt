@@ -1,5 +1,5 @@
-//! Single calls of readers and writers.
-ghost use Rattle.std.specs.Prelude.{ℕ, List, IfSome, OnOk, length};
+//! Single calls of readers, writers and sources of random bytes.
+ghost use Rattle.std.specs.Prelude.{◌≡◌, ℕ, List, IfSome, OnOk, length};
 ghost use Rattle.std.specs.Io.{ReadsAtMost, WritesAtMost};
 ghost use Rattle.std.specs.Io.KnownBytes.{Appends, ReadConsumes, WriteAppends};
 ghost use Rattle.std.specs.Fmt.{with_newline};
@@ -7,6 +7,7 @@ ghost use Rattle.jobs.specs.RawCalls.{bytes_read};
 
 use std::fmt::Display;
 use std::io::{self, Read, Write};
+use std::random::RandomSource;
 
 /// A reader whose calls a contract can name.
 ///
@@ -55,6 +56,29 @@ pub trait RawWrite {
         ensures bytes { OnOk result
             (IfSome (with_newline (D.output text)) (Appends (contents self.old) (contents self.new))) }
         ensures took { line_took self.old (with_newline (D.output text)) result self.new };
+}
+
+/// A source of random bytes whose calls a contract can name.
+///
+/// `filled` relates the source and the bytes that a call put into a buffer. Generic code obtains a `filled` only by a
+/// call, so its contract can say that each bit of a value is one that the source gave.
+pub trait RawRandom {
+    ghost filled: { Self → List ℕ → Type 0 };
+
+    /// Fills a buffer with random bytes, by one call.
+    fn fill_once(&self, buffer: &mut [u8]) -> io::Result<()>
+        ensures length { length buffer.new ≡ length buffer.old }
+        ensures filled { OnOk result (filled self.now buffer.new) };
+}
+
+impl<R: RandomSource> RawRandom for R {
+    ghost use Rattle.std.specs.Prelude.{⊤};
+
+    ghost filled = { λ _ _. ⊤ };
+
+    fn fill_once(&self, buffer: &mut [u8]) -> io::Result<()> {
+        self.fill_bytes(buffer)
+    }
 }
 
 // std's contracts say how many bytes a call moved, and which ones if they are known.

@@ -1,5 +1,5 @@
 //! The server of pages, and its loop.
-ghost use Rattle.std.specs.Prelude.{◌≡◌, ◌<◌};
+ghost use Rattle.std.specs.Prelude.{◌≡◌, ◌<◌, IfErr, IfOk};
 
 use crate::departing::{Departing, Progress};
 use crate::log::{EventLog, WebEvent, WebLog};
@@ -7,7 +7,7 @@ use crate::page_link::PageLink;
 use crate::seat::{Seat, SeatTurn, SessionEnd, closing_word};
 use crate::visitor::{Visit, Visitor};
 use codes3270::Model as TerminalModel;
-use jobs::{Fault, LiveFault, Sink, WebOptions, poll_timeout, report_and_exit_code};
+use jobs::{Fault, LiveFault, RawRandom, Sink, WebOptions, poll_timeout, report_and_exit_code};
 use mio::event::Source;
 use mio::net::{TcpListener, TcpStream};
 use mio::{Events, Interest, Poll, Token};
@@ -139,10 +139,13 @@ fn listen(net: &impl Net, address: SocketAddr) -> io::Result<(TcpListener, Poll)
     Ok((listener, poll))
 }
 
-/// A token of 128 bits from the system.
-fn draw_token(source: &impl RandomSource) -> Result<PageToken, Fault> {
+/// A token of 128 random bits, all of one call of the source. NotRandom if it can't give them.
+fn draw_token<R: RawRandom>(source: &R) -> Result<PageToken, Fault>
+    ensures random { IfOk result (R.filled source.now) }
+    ensures fails { IfErr result (λ fault. fault ≡ Fault.NotRandom) }
+{
     let mut bytes = [0; 16];
-    match source.fill_bytes(&mut bytes) {
+    match source.fill_once(&mut bytes) {
         Ok(()) => Ok(PageToken::new(bytes)),
         Err(_) => Err(Fault::NotRandom),
     }
