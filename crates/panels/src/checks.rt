@@ -1,6 +1,6 @@
 //! Finds the faults of a draft, table by table.
 ghost use Rattle.std.specs.Prelude.{◌≡◌, ◌↔◌, ◌+◌, ◌<◌, IfOk, IsTrue, OnOk, length, ◌≤ℤ◌, ◌<ℤ◌, ◌-ℤ◌, ◌&&◌, ℕ, Some, true, false, MatchOption, pos, chars, List, Contains, bytes_eq, map, not, option_map};
-ghost use Rattle.panels.specs.Faults.{HasFault, is_part, faults_of, IsOverlapping, Overlaps, item_at, size_at, HasFieldNamed, HasLostCursor, has_key_twice, has_strange_key, asks_twice, HasLostOtherwise, IsNamedAsOne, IsTwiceNamed, IsBasePanelNamed, NamesBasePanel, NamesPanel, NamesField, NamesItem, IsFirstNamed, name_at};
+ghost use Rattle.panels.specs.Faults.{HasFault, is_part, faults_of, IsOverlapping, Overlaps, item_at, size_at, HasFieldNamed, HasLostCursor, has_key_twice, has_strange_key, asks_twice, HasLostOtherwise, IsEarlierWithName, IsNamedTwice, IsBasePanelNamed, NamesBasePanel, NamesPanel, NamesField, NamesItem, IsFirstNamed, name_at};
 ghost use Rattle.panels.specs.Listing.{AreFaultsOf};
 ghost use Rattle.panels.specs.Walk.{turn_at, turn_behind, AreFoundTo, IsAdded, nth, is_letter_of};
 ghost use Rattle.panels.specs.Size.{item_rows, message_start};
@@ -8,7 +8,6 @@ ghost use Rattle.panels.specs.Draft.{DraftItem};
 ghost use Rattle.panels.specs.Items.{IsExtentOf, is_in_rows, is_on_screen, is_in_place, lacks_code, is_above_message, first_of, is_name as is_name_by};
 ghost use Rattle.std.specs.List.{list_any};
 ghost use Rattle.panels.specs.Keys.{is_asked_name, is_key_name};
-ghost use Rattle.panels.specs.Index.{IsLater};
 ghost use Rattle.panels.specs.declared.fault.Location.TheVariants as part;
 
 use crate::draft::{Draft, ItemDraft, PanelDraft};
@@ -16,7 +15,7 @@ use crate::extent::Extent;
 use crate::fault::TreeFault::*;
 use crate::fault::{LocatedFault, Location, TreeFault};
 use crate::index::NameIndex;
-use crate::names::{is_later, is_name};
+use crate::names::{earlier_in, is_name};
 use crate::size::{item_rows, message_start};
 use codes3270::{Size, from_latin1};
 use std::alloc::{AllocError, Global};
@@ -52,12 +51,11 @@ impl<'a> Draft<'a> {
                 Some(panel) => panel.has_strange_key(),
                 None => false,
             },
-            (TwiceNamed, Location::Panel(_)) => is_later(&self.panel_names, self.name(part), part),
-            (TwiceNamed, Location::Field(panel, field)) => self.is_field_twice(panel, field),
             (TwiceNamed, Location::Keys(panel)) => match self.panel(panel) {
                 Some(panel) => panel.has_key_twice(),
                 None => false,
             },
+            (TwiceNamed, _) => self.earlier_with_name(part).is_some(),
             (BadModel, Location::Panel(panel)) => match self.panel(panel) {
                 Some(panel) => panel.has_bad_model(),
                 None => false,
@@ -217,23 +215,34 @@ impl<'a> Draft<'a> {
         }
     }
 
-    /// Whether an earlier field or value has the name of this one, or this one is a copy, and one without copies has
-    /// its table's name.
-    fn is_field_twice(&self, panel: usize, field: usize) -> bool
-        ensures { IsTrue result ↔ IsTwiceNamed (part.Field panel field) self.now.panels }
+    /// An earlier field or value that has the name of this one, or that in the table of which one of both is a copy.
+    fn earlier_item_with_name(&self, panel: usize, field: usize) -> Option<Location>
+        ensures { MatchOption result (¬ IsNamedTwice (part.Field panel field) self.now.panels)
+            (λ earlier. IsEarlierWithName earlier (part.Field panel field) self.now.panels) }
     {
         let part = Location::Field(panel, field);
-        is_later(&self.field_names, self.name(part), part) || self.is_named_as_one(part)
+        let name = self.name(part);
+        if let Some(earlier) = earlier_in(&self.field_names, name, part) {
+            return Some(earlier);
+        }
+        if let Some(earlier) = earlier_in(&self.field_names, self.copied_name(part), part) {
+            return Some(earlier);
+        }
+        earlier_in(&self.copied_names, name, part)
     }
 
-    /// Whether a part is a copy of a field or value, and one without copies has the name of its table.
-    fn is_named_as_one(&self, part: Location) -> bool
-        ensures { IsTrue result ↔ IsNamedAsOne part self.now.panels }
+    /// An earlier panel, field or value with the name of a panel, a field or a value; `None` if there is none, or the
+    /// part is another table. Beside its own name a copy has that in its table, which other copies may have, too.
+    pub fn earlier_with_name(&self, part: Location) -> Option<Location>
+        ensures { MatchOption result (¬ IsNamedTwice part self.now.panels)
+            (λ earlier. IsEarlierWithName earlier part self.now.panels) }
     {
-        let Some(item) = self.item(part) else {
-            return false;
-        };
-        item.copy.is_some() && self.item_named(item.stem).is_some()
+        match part {
+            Location::Panel(_) => earlier_in(&self.panel_names, self.name(part), part),
+            Location::Field(panel, field) => self.earlier_item_with_name(panel, field),
+            Location::Top | Location::Text(_, _) | Location::Value(_, _) | Location::Keys(_) =>
+                None,
+        }
     }
 
     /// The index of the first panel with a name.
@@ -271,7 +280,7 @@ impl<'a> Draft<'a> {
     }
 
     /// The first field or value with a name: the index of its panel, and its own there.
-    pub fn item_named(&self, name: &str) -> Option<(usize, usize)>
+    fn item_named(&self, name: &str) -> Option<(usize, usize)>
         ensures { MatchOption result (¬ NamesItem name.now self.now.panels)
             (λ at. IsFirstNamed name.now (part.Field at.0 at.1) self.now.panels) }
     {
