@@ -9,7 +9,7 @@ use Rattle.datastream.specs.declared.wanted.Want.TheVariants as want
 use Rattle.panels.specs.declared.message.Message.{Message}
 use Rattle.panels.specs.declared.panel.TextItem.{TextItem}
 use Rattle.panels.specs.KeptFields.{TextsAreWritten}
-use Rattle.panels.specs.Panel.{PanelParts, IsAbove, IsCellOf, IsLaidOut, HasItemsApart, size_of}
+use Rattle.panels.specs.Panel.{PanelParts, IsAbove, IsCellOf, HasItemsApart, size_of}
 use Rattle.panels.specs.Screen.{Values, autoskip_attr, distance_in, field_cell, first_some, item_cell, message_cell, shown, stopper_cell, text_cell, wanted_cell}
 use Rattle.panels.specs.Size.{message_start}
 use Rattle.panels.proofs.Answering.{Answers, first_answers, first_is_some, left_answers, left_is_some, mapped_is_some, taken_answer}

@@ -3,7 +3,7 @@ use Rattle.std.specs.Prelude.{slice_get}
 use Rattle.std.proofs.lemmas.Option.{slice_get-get_or}
 use Rattle.panels.specs.declared.fault.Location.TheVariants.{Panel, Field}
 use Rattle.panels.specs.Draft.{DraftItem, DraftPanel}
-use Rattle.panels.specs.Faults.{copied_name, copied_name_at, name_at}
+use Rattle.panels.specs.Faults.{copied_name_at, name_at}
 use Rattle.panels.specs.Index.{IsIndexTo, part_named, noted}
 use Rattle.panels.proofs.Indexing.{panel_step, name_step, copy_step, names_over, copies_over}
 use Rattle.panels.proofs.index.name_indexes.Goals as goal

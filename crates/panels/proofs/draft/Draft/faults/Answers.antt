@@ -1,4 +1,4 @@
-use Rattle.std.proofs.Common.{◌≡◌, subst, sym, [], arith}
+use Rattle.std.proofs.Common.{◌≡◌, subst, sym, arith}
 use Rattle.panels.specs.declared.fault.Location.TheVariants.{Top}
 use Rattle.panels.specs.Walk.{turn_at, AreFoundTo}
 use Rattle.panels.proofs.Turning.{none_found, all_found}
