@@ -182,7 +182,7 @@ impl<'s, 'a> Words<'s, 'a> {
             UnknownKey | Missing | BadKind => self.keys(item.table),
             BadName => say!(self, "name";
                 "bad name '{}': a name has 1 to 16 of a-z, 0-9 and _", Cut(item.stem)),
-            TwiceNamed => self.named_twice(item.stem, item.name.as_str()),
+            TwiceNamed => self.named_twice(item.stem),
             OutOfPlace => self.misplaced(item),
             Overlap => self.overlap(),
             NoCode => {
@@ -214,7 +214,7 @@ impl<'s, 'a> Words<'s, 'a> {
                 "bad name '{}': a name has 1 to 16 of A-Z and 0-9", Cut(panel.name)),
             BadKey => self.bad_keys(index, panel),
             TwiceNamed if is_keys => self.asked_twice(index, panel),
-            TwiceNamed => self.named_twice(panel.name, panel.name),
+            TwiceNamed => self.named_twice(panel.name),
             BadModel => say!(self, "model"; "'model' must be 2, 3, 4 or 5, not {}", panel.model),
             NoTarget if is_keys => self.lost_keys(panel),
             NoTarget => self.no_target(panel),
@@ -292,18 +292,12 @@ impl<'s, 'a> Words<'s, 'a> {
         say!(self, key; "{count} {items} in '{key}'{all}: at most {most} are allowed")
     }
 
-    fn named_twice(&mut self, name: &str, copy: &str) -> Done {
-        let (draft, part) = (self.draft, self.part);
-        let item = match draft.item_named(copy) {
-            Some(at) if Location::Field(at.0, at.1) != part => Some(at),
-            _ => draft.item_named(name),
+    /// Says in which line a name that a panel, a field or a value has is already used.
+    fn named_twice(&mut self, name: &str) -> Done {
+        let Some(earlier) = self.draft.earlier_with_name(self.part) else {
+            return Ok(());
         };
-        let first = match (part, draft.panel_named(name), item) {
-            (Location::Panel(_), Some(panel), _) => Location::Panel(panel),
-            (_, _, Some((panel, field))) => Location::Field(panel, field),
-            _ => part,
-        };
-        let line = self.lines.of_key(draft.table(first), "name")?;
+        let line = self.lines.of_key(self.draft.table(earlier), "name")?;
         say!(self, "name"; "name '{}' is already used in line {line}", Cut(name))
     }
 

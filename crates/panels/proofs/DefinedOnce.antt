@@ -52,7 +52,7 @@ one_each IsOf drafts xs ys are also one =
 twice : (draft : DraftText) (name : List ℕ) (earlier later : Location) → IsFaultless draft → IsNamedBefore earlier later → name_at earlier draft.panels ≡ Some name
     → name_at later draft.panels ≡ Some name → ⊥
 twice draft name earlier later clean before is also = no_fault draft later fault.TwiceNamed clean (named_is_part later draft.panels name also)
-    (twice_named later draft.panels (earlier, name, before, is, also))
+    (twice_named later draft.panels (earlier, (before, inl (name, is, also))))
 
 one_panel_named : (draft : DraftText) (name : List ℕ) (p q : ℕ) → IsFaultless draft → IsPanelNamed draft.panels name p → IsPanelNamed draft.panels name q → p ≡ q
 one_panel_named draft name p q clean is also =

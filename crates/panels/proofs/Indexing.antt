@@ -4,12 +4,12 @@ use Rattle.std.specs.Prelude.{◌⊎◌, bytes_eq, option_map, slice_get, is_som
 use Rattle.std.specs.Option.{option_or, option_and_then}
 use Rattle.std.specs.Map.{update}
 use Rattle.std.proofs.lemmas.Bool.{cases_Bool, false≢true}
-use Rattle.std.proofs.lemmas.Option.{same_Some, slice_get_within}
+use Rattle.std.proofs.lemmas.Option.{none-some, same_Some, slice_get_within}
 use Rattle.std.proofs.lemmas.Slice.Eq.{bytes_eq-Decides}
 use Rattle.panels.specs.declared.fault.Location.{Location}
 use Rattle.panels.specs.declared.fault.Location.TheVariants.{Top, Panel, Text, Field, Value, Keys}
 use Rattle.panels.specs.Draft.{DraftItem, DraftPanel}
-use Rattle.panels.specs.Faults.{IsNamedBefore, name_at}
+use Rattle.panels.specs.Faults.{IsNamedBefore, copied_name, copied_name_at, item_at, name_at}
 use Rattle.panels.specs.Index.{NameIndex, part_named, noted, HasFirstOf, IsIndexTo}
 
 pub none_of : {X : Type 0} (o : Option X) → is_some o ≡ false → o ≡ None
@@ -25,7 +25,7 @@ or_some None p is = absurd (false≢true is)
 or_some (Some x) p is = refl
 
 -- a name that is there is noted already
-pub noted_present : (old : List ℕ → Option Location) (name : List ℕ) (part : Location) (other : List ℕ) → IsSome (old name) → old other ≡ noted old name part other
+pub noted_present : (old : List ℕ → Option Location) (name : List ℕ) (part : Location) (other : List ℕ) → IsSome (old name) → old other ≡ noted old (Some name) part other
 noted_present old name part other is =
     elim (cases_Bool (bytes_eq name other)) [
       | inl yes' ↦
@@ -36,7 +36,7 @@ noted_present old name part other is =
 
 -- the map with the name set is the index with it noted
 pub noted_absent : (old new : List ℕ → Option Location) (name : List ℕ) (part : Location) (other : List ℕ) → ((cs : List ℕ) → new cs ≡ update bytes_eq old name (Some part) cs)
-    → old name ≡ None → new other ≡ noted old name part other
+    → old name ≡ None → new other ≡ noted old (Some name) part other
 noted_absent old new name part other set none =
     elim (cases_Bool (bytes_eq name other)) [
       | inl yes' ↦
@@ -69,9 +69,25 @@ or_kept : (o : Option Location) (p : Option Location) (x : Location) → o ≡ S
 or_kept None p x is = cc
 or_kept (Some y) p x is = is
 
-step_named : (panels : List DraftPanel) (now next : Location) (old new : NameIndex) (n : List ℕ) → Follows now next → name_at now panels ≡ Some n
-    → ((other : List ℕ) → part_named new other ≡ noted (part_named old) n now other) → IsIndexTo panels now old → IsIndexTo panels next new
-step_named panels now next old new n follows name_is after index = record {
+-- the way of naming by which a part is in an index
+abbrev pub Naming : Type 0
+Naming = Location → List DraftPanel → Option (List ℕ)
+
+step_named : (by : Naming) (panels : List DraftPanel) (now next : Location) (old new : NameIndex) (n : Option (List ℕ)) → Follows now next → by now panels ≡ n
+    → ((other : List ℕ) → part_named new other ≡ noted (part_named old) n now other) → IsIndexTo by panels now old → IsIndexTo by panels next new
+step_named by panels now next old new None follows name_is after index = record {
+  named = λ name part is.
+      let known = index.named name part (sym (after name) ∙ is) in
+      (known.0, follows.1 part known.1);
+  first = λ name part has before.
+      elim (follows.0 part before) [
+        | inl earlier ↦
+            let was = index.first name part has earlier in
+            (was.0, after name ∙ was.1, was.2)
+        | inr here ↦ absurd (none-some name (sym name_is ∙ subst (λ p. by p panels ≡ Some name) here has))
+      ];
+}
+step_named by panels now next old new (Some n) follows name_is after index = record {
   named = λ name part is.
       elim (named_of (part_named old name) (bytes_eq n name) now part (sym (after name) ∙ is)) [
         | inl was ↦
@@ -79,7 +95,7 @@ step_named panels now next old new n follows name_is after index = record {
             (known.0, follows.1 part known.1)
         | inr fresh ↦
             let same : n ≡ name = (bytes_eq-Decides n name).0 fresh.0 in
-            (subst (λ p. name_at p panels ≡ Some name) fresh.1 (subst (λ m. name_at now panels ≡ Some m) same name_is), subst (λ p. IsNamedBefore p next) fresh.1 follows.2)
+            (subst (λ p. by p panels ≡ Some name) fresh.1 (subst (λ m. by now panels ≡ Some m) same name_is), subst (λ p. IsNamedBefore p next) fresh.1 follows.2)
       ];
   first = λ name part has before.
       elim (follows.0 part before) [
@@ -87,7 +103,7 @@ step_named panels now next old new n follows name_is after index = record {
             let was = index.first name part has earlier in
             (was.0, after name ∙ or_kept _ _ was.0 was.1, was.2)
         | inr here ↦
-            let same : n ≡ name = same_Some _ _ (sym name_is ∙ subst (λ p. name_at p panels ≡ Some name) here has) in
+            let same : n ≡ name = same_Some _ _ (sym name_is ∙ subst (λ p. by p panels ≡ Some name) here has) in
             let new_at : part_named new n ≡ option_or (part_named old n) (Some now) = after n ∙ rw (bytes_eq_itself n) refl in
             let found = first_here (part_named old n) now (λ x is. (index.named n x is).1) in
             subst (λ m. HasFirstOf new m part) same (subst (λ p. HasFirstOf new n p) (sym here) (found.0, new_at ∙ found.1, found.2))
@@ -114,10 +130,10 @@ panel_grows p (Keys q) before = absurd before
 panel_grows p (Value q i) before = absurd before
 
 pub panel_step : (panels : List DraftPanel) (p : ℕ) (old new : NameIndex) (draft : DraftPanel) → slice_get panels p ≡ Some draft
-    → ((other : List ℕ) → part_named new other ≡ noted (part_named old) draft.name (Panel p) other) → IsIndexTo panels (Panel p) old → IsIndexTo panels (Panel (p + 1)) new
+    → ((other : List ℕ) → part_named new other ≡ noted (part_named old) (Some draft.name) (Panel p) other) → IsIndexTo name_at panels (Panel p) old → IsIndexTo name_at panels (Panel (p + 1)) new
 panel_step panels p old new draft there after index =
     let last : p < p + 1 = omega arith in
-    step_named panels (Panel p) (Panel (p + 1)) old new draft.name (panel_split p, panel_grows p, last) (ap (option_map (λ (panel : DraftPanel). panel.name)) there) after index
+    step_named name_at panels (Panel p) (Panel (p + 1)) old new (Some draft.name) (panel_split p, panel_grows p, last) (ap (option_map (λ (panel : DraftPanel). panel.name)) there) after index
 
 field_split : (p i : ℕ) (part : Location) → IsNamedBefore part (Field p (i + 1)) → IsNamedBefore part (Field p i) ⊎ (part ≡ Field p i)
 field_split p i Top before = absurd before
@@ -148,30 +164,41 @@ field_grows p i (Field q j) before =
           inr (at_p.0, less)
     ]
 
-pub field_step : (panels : List DraftPanel) (p i : ℕ) (old new : NameIndex) (draft : DraftPanel) (item : DraftItem) → slice_get panels p ≡ Some draft → slice_get draft.fields i ≡ Some item
-    → ((other : List ℕ) → part_named new other ≡ noted (part_named old) item.name (Field p i) other) → IsIndexTo panels (Field p i) old → IsIndexTo panels (Field p (i + 1)) new
-field_step panels p i old new draft item there inside after index =
+field_step : (by : Naming) (panels : List DraftPanel) (p i : ℕ) (old new : NameIndex) (name : Option (List ℕ)) → by (Field p i) panels ≡ name
+    → ((other : List ℕ) → part_named new other ≡ noted (part_named old) name (Field p i) other) → IsIndexTo by panels (Field p i) old → IsIndexTo by panels (Field p (i + 1)) new
+field_step by panels p i old new name is after index =
     let last : i < i + 1 = omega arith in
-    let named : name_at (Field p i) panels ≡ Some item.name =
-    ap (λ panel. option_map (λ (field : DraftItem). field.name) (option_and_then (λ (panel : DraftPanel). slice_get panel.fields i) panel)) there
-    ∙ ap (option_map (λ (field : DraftItem). field.name)) inside in
-    step_named panels (Field p i) (Field p (i + 1)) old new item.name (field_split p i, field_grows p i, inr (refl, last)) named after index
+    step_named by panels (Field p i) (Field p (i + 1)) old new name (field_split p i, field_grows p i, inr (refl, last)) is after index
+
+pub name_step : (panels : List DraftPanel) (p i : ℕ) (old new : NameIndex) (draft : DraftPanel) (item : DraftItem) → slice_get panels p ≡ Some draft → slice_get draft.fields i ≡ Some item
+    → ((other : List ℕ) → part_named new other ≡ noted (part_named old) (Some item.name) (Field p i) other) → IsIndexTo name_at panels (Field p i) old → IsIndexTo name_at panels (Field p (i + 1)) new
+name_step panels p i old new draft item there inside =
+    field_step name_at panels p i old new (Some item.name)
+    (ap (λ panel. option_map (λ (field : DraftItem). field.name) (option_and_then (λ (panel : DraftPanel). slice_get panel.fields i) panel)) there
+    ∙ ap (option_map (λ (field : DraftItem). field.name)) inside)
+
+pub copy_step : (panels : List DraftPanel) (p i : ℕ) (old new : NameIndex) (draft : DraftPanel) (item : DraftItem) → slice_get panels p ≡ Some draft → slice_get draft.fields i ≡ Some item
+    → ((other : List ℕ) → part_named new other ≡ noted (part_named old) (copied_name item) (Field p i) other) → IsIndexTo copied_name_at panels (Field p i) old
+    → IsIndexTo copied_name_at panels (Field p (i + 1)) new
+copy_step panels p i old new draft item there inside =
+    field_step copied_name_at panels p i old new (copied_name item)
+    (ap (λ panel. option_and_then copied_name (option_and_then (λ (panel : DraftPanel). slice_get panel.fields i) panel)) there ∙ ap (option_and_then copied_name) inside)
 
 -- behind a panel's last field
-abbrev NoFieldFrom : List DraftPanel → ℕ → ℕ → Type 0
-NoFieldFrom panels p n = (j : ℕ) (name : List ℕ) → name_at (Field p j) panels ≡ Some name → j < n
+abbrev NoFieldFrom : Naming → List DraftPanel → ℕ → ℕ → Type 0
+NoFieldFrom by panels p n = (j : ℕ) (name : List ℕ) → by (Field p j) panels ≡ Some name → j < n
 
-over_split : (panels : List DraftPanel) (p n : ℕ) (name : List ℕ) (part : Location) → NoFieldFrom panels p n → name_at part panels ≡ Some name → IsNamedBefore part (Field (p + 1) 0) → IsNamedBefore part (Field p n)
-over_split panels p n name Top all has before = absurd before
-over_split panels p n name (Panel q) all has before = absurd before
-over_split panels p n name (Text q j) all has before = absurd before
-over_split panels p n name (Keys q) all has before = absurd before
-over_split panels p n name (Value q i) all has before = absurd before
-over_split panels p n name (Field q j) all has before =
+over_split : (by : Naming) (panels : List DraftPanel) (p n : ℕ) (name : List ℕ) (part : Location) → NoFieldFrom by panels p n → by part panels ≡ Some name → IsNamedBefore part (Field (p + 1) 0) → IsNamedBefore part (Field p n)
+over_split by panels p n name Top all has before = absurd before
+over_split by panels p n name (Panel q) all has before = absurd before
+over_split by panels p n name (Text q j) all has before = absurd before
+over_split by panels p n name (Keys q) all has before = absurd before
+over_split by panels p n name (Value q i) all has before = absurd before
+over_split by panels p n name (Field q j) all has before =
     elim before [
       | inl less ↦ elim (below_or_at q p less) [
         | inl below ↦ inl below
-        | inr same ↦ inr (same, all j name (subst (λ k. name_at (Field k j) panels ≡ Some name) same has))
+        | inr same ↦ inr (same, all j name (subst (λ k. by (Field k j) panels ≡ Some name) same has))
       ]
       | inr at_p ↦ absurd (let none : j < 0 = at_p.1 in omega arith)
     ]
@@ -192,27 +219,37 @@ over_grows p n (Field q j) before =
           inl below
     ]
 
-fields_over : (panels : List DraftPanel) (p n : ℕ) (index : NameIndex) → NoFieldFrom panels p n → IsIndexTo panels (Field p n) index → IsIndexTo panels (Field (p + 1) 0) index
-fields_over panels p n index all is = record {
+fields_over : (by : Naming) (panels : List DraftPanel) (p n : ℕ) (index : NameIndex) → NoFieldFrom by panels p n → IsIndexTo by panels (Field p n) index → IsIndexTo by panels (Field (p + 1) 0) index
+fields_over by panels p n index all is = record {
   named = λ name part found. ((is.named name part found).0, over_grows p n part (is.named name part found).1);
-  first = λ name part has before. is.first name part has (over_split panels p n name part all has before);
+  first = λ name part has before. is.first name part has (over_split by panels p n name part all has before);
 }
 
 -- the index goes over a panel with its fields
-field_below : (o : Option DraftPanel) (draft : DraftPanel) (j : ℕ) (name : List ℕ) → o ≡ Some draft
-    → option_map (λ (field : DraftItem). field.name) (option_and_then (λ (panel : DraftPanel). slice_get panel.fields j) o) ≡ Some name → j < length draft.fields
-field_below o draft j name there has =
-    let here : option_map (λ (field : DraftItem). field.name) (slice_get draft.fields j) ≡ Some name =
-    subst (λ p. option_map (λ (field : DraftItem). field.name) (option_and_then (λ (panel : DraftPanel). slice_get panel.fields j) p) ≡ Some name) there has in
+field_below : (of : DraftItem → Option (List ℕ)) (o : Option DraftPanel) (draft : DraftPanel) (j : ℕ) (name : List ℕ) → o ≡ Some draft
+    → option_and_then of (option_and_then (λ (panel : DraftPanel). slice_get panel.fields j) o) ≡ Some name → j < length draft.fields
+field_below of o draft j name there has =
+    let here : option_and_then of (slice_get draft.fields j) ≡ Some name =
+    subst (λ p. option_and_then of (option_and_then (λ (panel : DraftPanel). slice_get panel.fields j) p) ≡ Some name) there has in
     within (slice_get draft.fields j) refl here
   where
-    within : (item : Option DraftItem) → item ≡ slice_get draft.fields j → option_map (λ (field : DraftItem). field.name) item ≡ Some name → j < length draft.fields
+    within : (item : Option DraftItem) → item ≡ slice_get draft.fields j → option_and_then of item ≡ Some name → j < length draft.fields
     within None is has = cc
     within (Some item) is has = slice_get_within draft.fields j item (sym is)
 
-pub panel_over : (panels : List DraftPanel) (draft : DraftPanel) (p : ℕ) (index : NameIndex) → slice_get panels p ≡ Some draft
-    → IsIndexTo panels (Field p (length draft.fields)) index → IsIndexTo panels (Field (p + 1) 0) index
-panel_over panels draft p index there is = fields_over panels p _ index (λ j name has. field_below (slice_get panels p) draft j name there has) is
+named_by : (o : Option DraftItem) → option_map (λ (field : DraftItem). field.name) o ≡ option_and_then (λ (field : DraftItem). Some field.name) o
+named_by None = refl
+named_by (Some item) = refl
+
+pub names_over : (panels : List DraftPanel) (draft : DraftPanel) (p : ℕ) (index : NameIndex) → slice_get panels p ≡ Some draft
+    → IsIndexTo name_at panels (Field p (length draft.fields)) index → IsIndexTo name_at panels (Field (p + 1) 0) index
+names_over panels draft p index there is =
+    fields_over name_at panels p _ index
+    (λ j name has. field_below (λ (field : DraftItem). Some field.name) (slice_get panels p) draft j name there (sym (named_by (item_at (Field p j) panels)) ∙ has)) is
+
+pub copies_over : (panels : List DraftPanel) (draft : DraftPanel) (p : ℕ) (index : NameIndex) → slice_get panels p ≡ Some draft
+    → IsIndexTo copied_name_at panels (Field p (length draft.fields)) index → IsIndexTo copied_name_at panels (Field (p + 1) 0) index
+copies_over panels draft p index there is = fields_over copied_name_at panels p _ index (λ j name has. field_below copied_name (slice_get panels p) draft j name there has) is
 
 nothing_before_panel : (part : Location) → IsNamedBefore part (Panel 0) → ⊥
 nothing_before_panel Top before = before
@@ -230,14 +267,14 @@ nothing_before_field (Keys q) before = before
 nothing_before_field (Value q i) before = before
 nothing_before_field (Field q i) before = elim before [ inl less ↦ omega arith | inr same ↦ let none : i < 0 = same.1 in omega arith ]
 
-pub no_panels_named : (panels : List DraftPanel) (index : NameIndex) → ((name : List ℕ) → part_named index name ≡ None) → IsIndexTo panels (Panel 0) index
+pub no_panels_named : (panels : List DraftPanel) (index : NameIndex) → ((name : List ℕ) → part_named index name ≡ None) → IsIndexTo name_at panels (Panel 0) index
 no_panels_named panels index none = record {
   named = λ name part is. let clash : None ≡ Some part = sym (none name) ∙ is in cc;
   first = λ name part has before. absurd (nothing_before_panel part before);
 }
 
-pub no_fields_named : (panels : List DraftPanel) (index : NameIndex) → ((name : List ℕ) → part_named index name ≡ None) → IsIndexTo panels (Field 0 0) index
-no_fields_named panels index none = record {
+pub no_fields_named : (by : Naming) (panels : List DraftPanel) (index : NameIndex) → ((name : List ℕ) → part_named index name ≡ None) → IsIndexTo by panels (Field 0 0) index
+no_fields_named by panels index none = record {
   named = λ name part is. let clash : None ≡ Some part = sym (none name) ∙ is in cc;
   first = λ name part has before. absurd (nothing_before_field part before);
 }

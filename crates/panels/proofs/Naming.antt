@@ -1,7 +1,7 @@
 -- Names that are there, twice, or not.
 use Rattle.std.proofs.Common.{◌≡◌, ◌<◌, ◌+◌, ◌-◌, ◌||◌, ℕ, zero, suc, List, [], ◌∷◌, length, map, drop, take, get_or, Bor, Option, Some, None, Bool, true, false, not, refl, ap, sym, ◌∙◌, subst, inl, inr, arith}
 use Rattle.std.specs.List.{list_any}
-use Rattle.std.specs.Prelude.{bytes_eq, ◌⊎◌, ◌≢◌, IsTrue, MatchOption, is_some, slice_get, option_map, Contains}
+use Rattle.std.specs.Prelude.{bytes_eq, ◌⊎◌, IsTrue, MatchOption, is_some, slice_get, option_map, Contains}
 use Rattle.std.specs.Option.{option_and_then, option_map_or}
 use Rattle.std.proofs.lemmas.Bool.{cases_order, false≢true}
 use Rattle.std.proofs.lemmas.List.{drop_more, take_rest}
@@ -11,8 +11,8 @@ use Rattle.panels.specs.declared.fault.TreeFault.TheVariants.{BadName, NoTarget}
 use Rattle.panels.specs.declared.fault.Location.{Location}
 use Rattle.panels.specs.declared.fault.Location.TheVariants.{Top, Panel, Text, Field, Value, Keys}
 use Rattle.panels.specs.Draft.{DraftItem, DraftPanel, DraftText}
-use Rattle.panels.specs.Faults.{HasFault, HasLostCursor, HasLostOtherwise, asks_twice, has_bad_name, IsNamedBefore, IsNamedTwice, IsTwiceNamed, NamesPanel, NamesField, NamesItem, IsFirstNamed, item_at, name_at, stem_at}
-use Rattle.panels.specs.Index.{NameIndex, part_named, IsLater, IsIndexTo}
+use Rattle.panels.specs.Faults.{HasFault, HasLostCursor, HasLostOtherwise, asks_twice, has_bad_name, HaveOneName, IsEarlierWithName, IsNamedBefore, IsNamedTwice, IsTwiceNamed, ShareName, copied_name, copied_name_at, NamesPanel, NamesField, NamesItem, IsFirstNamed, item_at, name_at, stem_at}
+use Rattle.panels.specs.Index.{NameIndex, part_named, IsEarlierIn, IsIndexTo}
 use Rattle.panels.specs.Items.{is_name}
 use Rattle.panels.specs.Walk.{is_letter_of}
 
@@ -65,9 +65,6 @@ before_through (Field p i) (Field q j) (Keys r) first second = absurd second
 before_through (Field p i) (Field q j) (Value r k) first second = absurd second
 before_through (Field p i) (Field q j) (Field r k) first second = fields_through p i q j r k first second
 
-not_itself : (first part : Location) → IsNamedBefore first part → first ≢ part
-not_itself first part before same = before_itself part (subst (λ p. IsNamedBefore p part) same before)
-
 or_before : (a b c : Location) → (a ≡ b) ⊎ IsNamedBefore a b → IsNamedBefore b c → IsNamedBefore a c
 or_before a b c rel second =
     elim rel [
@@ -75,22 +72,19 @@ or_before a b c rel second =
       | inr before ↦ before_through a b c before second
     ]
 
-twice_later : (panels : List DraftPanel) (part end : Location) (index : NameIndex) (o : Option (List ℕ)) → name_at part panels ≡ o → IsIndexTo panels end index
-    → ((name : List ℕ) → name_at part panels ≡ Some name → IsNamedBefore part end) → IsLater index o part → IsNamedTwice part panels
-twice_later panels part end index None own is ends later = absurd later
-twice_later panels part end index (Some name) own is ends (first, found, differs) =
-    let known = is.first name part own (ends name own) in
-    let same : known.0 ≡ first = same_Some _ _ (sym known.1 ∙ found) in
-    elim known.2 [
-      | inl here ↦ absurd (differs (sym same ∙ here))
-      | inr before ↦ (first, name, subst (λ p. IsNamedBefore p part) same before, (is.named name first found).0, own)
-    ]
+-- what an index has for a name comes before the part that it is looked up for, and shares this name
+found_before : (by by_other : Location → List DraftPanel → Option (List ℕ)) (panels : List DraftPanel) (part end earlier : Location) (index : NameIndex) (o : Option (List ℕ))
+    → by_other part panels ≡ o → IsIndexTo by panels end index → IsEarlierIn index o earlier part → IsNamedBefore earlier part × HaveOneName by by_other earlier part panels
+found_before by by_other panels part end earlier index None own is found = absurd found
+found_before by by_other panels part end earlier index (Some name) own is (there, before) = (before, (name, (is.named name earlier there).0, own))
 
-later_twice : (panels : List DraftPanel) (part end : Location) (index : NameIndex) → IsIndexTo panels end index
-    → ((name : List ℕ) → name_at part panels ≡ Some name → IsNamedBefore part end) → IsNamedTwice part panels → IsLater index (name_at part panels) part
-later_twice panels part end index is ends (earlier, name, before, has, own) =
+-- and if it has nothing, no earlier part shares this name
+none_before : (by by_other : Location → List DraftPanel → Option (List ℕ)) (panels : List DraftPanel) (part end : Location) (index : NameIndex) → IsIndexTo by panels end index
+    → ((name : List ℕ) → by_other part panels ≡ Some name → IsNamedBefore part end) → ((earlier : Location) → ¬ IsEarlierIn index (by_other part panels) earlier part)
+    → (earlier : Location) → IsNamedBefore earlier part → ¬ HaveOneName by by_other earlier part panels
+none_before by by_other panels part end index is ends none earlier before (name, has, own) =
     let known = is.first name earlier has (before_through earlier part end before (ends name own)) in
-    subst (λ o. IsLater index o part) (sym own) (known.0, known.1, not_itself known.0 part (or_before known.0 earlier part known.2 before))
+    none known.0 (subst (λ o. IsEarlierIn index o known.0 part) (sym own) (known.1, or_before known.0 earlier part known.2 before))
 
 panel_there : (o : Option DraftPanel) (name : List ℕ) → option_map (λ (panel : DraftPanel). panel.name) o ≡ Some name → (panel : DraftPanel) × (o ≡ Some panel)
 panel_there None name has = cc
@@ -111,49 +105,127 @@ field_ends panels p i name has =
     let (panel, there) = panel_of_field (slice_get panels p) i name has in
     inl (slice_get_within panels p panel there)
 
-is_twice : (panels : List DraftPanel) (part end : Location) (index : NameIndex) → IsIndexTo panels end index → ((name : List ℕ) → name_at part panels ≡ Some name → IsNamedBefore part end)
-    → (IsLater index (name_at part panels) part → IsNamedTwice part panels) × (IsNamedTwice part panels → IsLater index (name_at part panels) part)
-is_twice panels part end index is ends = (twice_later panels part end index _ refl is ends, later_twice panels part end index is ends)
+panel_of_copy : (o : Option DraftPanel) (i : ℕ) (name : List ℕ) → option_and_then copied_name (option_and_then (λ (panel : DraftPanel). slice_get panel.fields i) o) ≡ Some name
+    → (panel : DraftPanel) × (o ≡ Some panel)
+panel_of_copy None i name has = cc
+panel_of_copy (Some panel) i name has = (panel, refl)
+
+copy_ends : (panels : List DraftPanel) (p i : ℕ) (name : List ℕ) → copied_name_at (Field p i) panels ≡ Some name → IsNamedBefore (Field p i) (Field (length panels) 0)
+copy_ends panels p i name has =
+    let (panel, there) = panel_of_copy (slice_get panels p) i name has in
+    inl (slice_get_within panels p panel there)
+
+-- a part without names shares none
+shares_none : (one other : Location) (panels : List DraftPanel) → name_at other panels ≡ None → copied_name_at other panels ≡ None → ¬ ShareName one other panels
+shares_none one other panels unnamed uncopied share =
+    elim share [
+      | inl (name, has, own) ↦ none-some name (sym unnamed ∙ own)
+      | inr either ↦ elim either [
+        | inl (name, has, own) ↦ none-some name (sym uncopied ∙ own)
+        | inr (name, has, own) ↦ none-some name (sym unnamed ∙ own)
+      ]
+    ]
 
 -- a part that has a name is named twice so
 pub twice_named : (part : Location) (panels : List DraftPanel) → IsNamedTwice part panels → IsTwiceNamed part panels
 twice_named Top panels is = is
 twice_named (Panel p) panels is = is
 twice_named (Text p i) panels is = is
-twice_named (Field p i) panels is = inl is
-twice_named (Keys p) panels (earlier, name, before, has, own) = absurd (none-some name own)
-twice_named (Value p i) panels (earlier, name, before, has, own) = absurd (none-some name own)
+twice_named (Field p i) panels is = is
+twice_named (Keys p) panels (earlier, (before, share)) = absurd (shares_none earlier (Keys p) panels refl refl share)
+twice_named (Value p i) panels is = is
 
-abbrev pub IsTwiceBy : List DraftPanel → NameIndex → Location → Type 0
-IsTwiceBy panels index part =
-    (IsLater index (name_at part panels) part → IsTwiceNamed part panels) × (IsTwiceNamed part panels → IsLater index (name_at part panels) part)
+-- a panel's name is only that of panels
+panel_earlier : (panels : List DraftPanel) (p : ℕ) (index : NameIndex) (result : Option Location) → IsIndexTo name_at panels (Panel (length panels)) index
+    → MatchOption result ((earlier : Location) → ¬ IsEarlierIn index (name_at (Panel p) panels) earlier (Panel p)) (λ earlier. IsEarlierIn index (name_at (Panel p) panels) earlier (Panel p))
+    → MatchOption result (¬ IsNamedTwice (Panel p) panels) (λ earlier. IsEarlierWithName earlier (Panel p) panels)
+panel_earlier panels p index (Some earlier) is found =
+    let (before, shared) = found_before name_at name_at panels (Panel p) (Panel (length panels)) earlier index _ refl is found in
+    (before, inl shared)
+panel_earlier panels p index None is none = λ (earlier, (before, share)).
+    elim share [
+      | inl shared ↦ none_before name_at name_at panels (Panel p) (Panel (length panels)) index is (panel_ends panels p) none earlier before shared
+      | inr either ↦ elim either [
+        | inl (name, has, own) ↦ none-some name own
+        | inr (name, has, own) ↦ copied_before_panel panels p earlier name before has
+      ]
+    ]
+  where
+    copied_before_panel : (panels : List DraftPanel) (p : ℕ) (earlier : Location) (name : List ℕ) → IsNamedBefore earlier (Panel p) → copied_name_at earlier panels ≡ Some name → ⊥
+    copied_before_panel panels p Top name before has = before
+    copied_before_panel panels p (Panel q) name before has = none-some name has
+    copied_before_panel panels p (Text q i) name before has = before
+    copied_before_panel panels p (Field q i) name before has = before
+    copied_before_panel panels p (Keys q) name before has = before
+    copied_before_panel panels p (Value q i) name before has = before
 
-pub panel_is_twice : (panels : List DraftPanel) (part : Location) (p : ℕ) (index : NameIndex) → part ≡ Panel p → IsIndexTo panels (Panel (length panels)) index → IsTwiceBy panels index part
-panel_is_twice panels part p index same is =
-    subst (IsTwiceBy panels index) (sym same) (is_twice panels (Panel p) (Panel (length panels)) index is (λ name has. panel_ends panels p name has))
+pub part_earlier : (panels : List DraftPanel) (part : Location) (p : ℕ) (index : NameIndex) (result : Option Location) → part ≡ Panel p → IsIndexTo name_at panels (Panel (length panels)) index
+    → MatchOption result ((earlier : Location) → ¬ IsEarlierIn index (name_at part panels) earlier part) (λ earlier. IsEarlierIn index (name_at part panels) earlier part)
+    → MatchOption result (¬ IsNamedTwice part panels) (λ earlier. IsEarlierWithName earlier part panels)
+part_earlier panels part p index result same is =
+    subst (λ q. MatchOption result ((earlier : Location) → ¬ IsEarlierIn index (name_at q panels) earlier q) (λ earlier. IsEarlierIn index (name_at q panels) earlier q)
+    → MatchOption result (¬ IsNamedTwice q panels) (λ earlier. IsEarlierWithName earlier q panels)) (sym same) (panel_earlier panels p index result is)
 
-pub field_is_twice : (panels : List DraftPanel) (p i : ℕ) (index : NameIndex) → IsIndexTo panels (Field (length panels) 0) index
-    → (IsLater index (name_at (Field p i) panels) (Field p i) → IsNamedTwice (Field p i) panels) × (IsNamedTwice (Field p i) panels → IsLater index (name_at (Field p i) panels) (Field p i))
-field_is_twice panels p i index is = is_twice panels (Field p i) (Field (length panels) 0) index is (λ name has. field_ends panels p i name has)
+abbrev IsNoneEarlier : NameIndex → Option (List ℕ) → Location → Type 0
+IsNoneEarlier index name part = (earlier : Location) → ¬ IsEarlierIn index name earlier part
+
+-- a field or value shares a name in one of three ways
+pub shares_name : (panels : List DraftPanel) (p i : ℕ) (index : NameIndex) (earlier : Location) → IsIndexTo name_at panels (Field (length panels) 0) index
+    → IsEarlierIn index (name_at (Field p i) panels) earlier (Field p i) → IsEarlierWithName earlier (Field p i) panels
+shares_name panels p i index earlier is found =
+    let (before, shared) = found_before name_at name_at panels (Field p i) (Field (length panels) 0) earlier index _ refl is found in
+    (before, inl shared)
+
+pub shares_copied : (panels : List DraftPanel) (p i : ℕ) (index : NameIndex) (earlier : Location) → IsIndexTo name_at panels (Field (length panels) 0) index
+    → IsEarlierIn index (copied_name_at (Field p i) panels) earlier (Field p i) → IsEarlierWithName earlier (Field p i) panels
+shares_copied panels p i index earlier is found =
+    let (before, shared) = found_before name_at copied_name_at panels (Field p i) (Field (length panels) 0) earlier index _ refl is found in
+    (before, inr (inl shared))
+
+pub shares_with_copy : (panels : List DraftPanel) (p i : ℕ) (index : NameIndex) (earlier : Location) → IsIndexTo copied_name_at panels (Field (length panels) 0) index
+    → IsEarlierIn index (name_at (Field p i) panels) earlier (Field p i) → IsEarlierWithName earlier (Field p i) panels
+shares_with_copy panels p i index earlier is found =
+    let (before, shared) = found_before copied_name_at name_at panels (Field p i) (Field (length panels) 0) earlier index _ refl is found in
+    (before, inr (inr shared))
+
+pub shares_no_name : (panels : List DraftPanel) (p i : ℕ) (of_fields of_copies : NameIndex) → IsIndexTo name_at panels (Field (length panels) 0) of_fields
+    → IsIndexTo copied_name_at panels (Field (length panels) 0) of_copies → IsNoneEarlier of_fields (name_at (Field p i) panels) (Field p i)
+    → IsNoneEarlier of_fields (copied_name_at (Field p i) panels) (Field p i) → IsNoneEarlier of_copies (name_at (Field p i) panels) (Field p i) → ¬ IsNamedTwice (Field p i) panels
+shares_no_name panels p i of_fields of_copies fields copies none no_copied no_copy (earlier, (before, share)) =
+    elim share [
+      | inl shared ↦ none_before name_at name_at panels (Field p i) (Field (length panels) 0) of_fields fields (field_ends panels p i) none earlier before shared
+      | inr either ↦ elim either [
+        | inl shared ↦ none_before name_at copied_name_at panels (Field p i) (Field (length panels) 0) of_fields fields (copy_ends panels p i) no_copied earlier before shared
+        | inr shared ↦ none_before copied_name_at name_at panels (Field p i) (Field (length panels) 0) of_copies copies (field_ends panels p i) no_copy earlier before shared
+      ]
+    ]
+
+pub item_earlier : (panels : List DraftPanel) (p i : ℕ) (of_fields of_copies : NameIndex) (result : Option Location) → IsIndexTo name_at panels (Field (length panels) 0) of_fields
+    → IsIndexTo copied_name_at panels (Field (length panels) 0) of_copies → IsNoneEarlier of_fields (name_at (Field p i) panels) (Field p i)
+    → IsNoneEarlier of_fields (copied_name_at (Field p i) panels) (Field p i)
+    → MatchOption result (IsNoneEarlier of_copies (name_at (Field p i) panels) (Field p i)) (λ earlier. IsEarlierIn of_copies (name_at (Field p i) panels) earlier (Field p i))
+    → MatchOption result (¬ IsNamedTwice (Field p i) panels) (λ earlier. IsEarlierWithName earlier (Field p i) panels)
+item_earlier panels p i of_fields of_copies None fields copies none no_copied no_copy = shares_no_name panels p i of_fields of_copies fields copies none no_copied no_copy
+item_earlier panels p i of_fields of_copies (Some earlier) fields copies none no_copied found = shares_with_copy panels p i of_copies earlier copies found
 
 -- a name that the index doesn't have is of none
-pub no_panel : (panels : List DraftPanel) (index : NameIndex) (name : List ℕ) → IsIndexTo panels (Panel (length panels)) index → part_named index name ≡ None → ¬ NamesPanel name panels
+pub no_panel : (panels : List DraftPanel) (index : NameIndex) (name : List ℕ) → IsIndexTo name_at panels (Panel (length panels)) index → part_named index name ≡ None → ¬ NamesPanel name panels
 no_panel panels index name is none (p, has) =
     let known = is.first name (Panel p) has (panel_ends panels p name has) in
     absurd (none-some known.0 (sym none ∙ known.1))
 
-pub no_item : (panels : List DraftPanel) (index : NameIndex) (name : List ℕ) → IsIndexTo panels (Field (length panels) 0) index → part_named index name ≡ None → ¬ NamesItem name panels
+pub no_item : (panels : List DraftPanel) (index : NameIndex) (name : List ℕ) → IsIndexTo name_at panels (Field (length panels) 0) index → part_named index name ≡ None → ¬ NamesItem name panels
 no_item panels index name is none (p, i, has) =
     let known = is.first name (Field p i) has (field_ends panels p i name has) in
     absurd (none-some known.0 (sym none ∙ known.1))
 
 -- one that it has is of that part, and this is a panel, or a field
-pub panel_found : (panels : List DraftPanel) (index : NameIndex) (name : List ℕ) (part : Location) (p : ℕ) → IsIndexTo panels (Panel (length panels)) index → part_named index name ≡ Some part
+pub panel_found : (panels : List DraftPanel) (index : NameIndex) (name : List ℕ) (part : Location) (p : ℕ) → IsIndexTo name_at panels (Panel (length panels)) index → part_named index name ≡ Some part
     → part ≡ Panel p → name_at (Panel p) panels ≡ Some name
 panel_found panels index name part p is found same = subst (λ q. name_at q panels ≡ Some name) same (is.named name part found).0
 
 -- of the fields and values with a name the index has the first
-first_found : (panels : List DraftPanel) (index : NameIndex) (name : List ℕ) (part : Location) → IsIndexTo panels (Field (length panels) 0) index → part_named index name ≡ Some part
+first_found : (panels : List DraftPanel) (index : NameIndex) (name : List ℕ) (part : Location) → IsIndexTo name_at panels (Field (length panels) 0) index → part_named index name ≡ Some part
     → IsFirstNamed name part panels
 first_found panels index name part is found =
     let (has, before_end) = is.named name part found in (
@@ -161,10 +233,10 @@ first_found panels index name part is found =
       λ earlier before also.
           let known = is.first name earlier also (before_through earlier part (Field (length panels) 0) before before_end) in
           let same : known.0 ≡ part = same_Some _ _ (sym known.1 ∙ found) in
-          not_itself known.0 part (or_before known.0 earlier part known.2 before) same,
+          before_itself part (subst (λ p. IsNamedBefore p part) same (or_before known.0 earlier part known.2 before)),
     )
 
-pub item_found : (panels : List DraftPanel) (index : NameIndex) (name : List ℕ) (part : Location) (p i : ℕ) → IsIndexTo panels (Field (length panels) 0) index → part_named index name ≡ Some part
+pub item_found : (panels : List DraftPanel) (index : NameIndex) (name : List ℕ) (part : Location) (p i : ℕ) → IsIndexTo name_at panels (Field (length panels) 0) index → part_named index name ≡ Some part
     → part ≡ Field p i → IsFirstNamed name (Field p i) panels
 item_found panels index name part p i is found same = subst (λ q. IsFirstNamed name q panels) same (first_found panels index name part is found)
 
@@ -198,7 +270,7 @@ value_found panels name p i item first at is_value named =
 pub named_there : (panels : List DraftPanel) (name : List ℕ) (p i : ℕ) → IsFirstNamed name (Field p i) panels → item_at (Field p i) panels ≡ None → ⊥
 named_there panels name p i first none = none-some name (ap (option_map (λ (field : DraftItem). field.name)) (sym none) ∙ first.0)
 
-pub finds_panel : (panels : List DraftPanel) (index : NameIndex) (name : List ℕ) (part : Location) → IsIndexTo panels (Panel (length panels)) index → part_named index name ≡ Some part
+pub finds_panel : (panels : List DraftPanel) (index : NameIndex) (name : List ℕ) (part : Location) → IsIndexTo name_at panels (Panel (length panels)) index → part_named index name ≡ Some part
     → ((p : ℕ) → part ≡ Panel p → ⊥) → ⊥
 finds_panel panels index name Top is found other = (is.named name Top found).1
 finds_panel panels index name (Panel p) is found other = other p refl
@@ -207,7 +279,7 @@ finds_panel panels index name (Field p i) is found other = (is.named name (Field
 finds_panel panels index name (Keys p) is found other = (is.named name (Keys p) found).1
 finds_panel panels index name (Value p i) is found other = (is.named name (Value p i) found).1
 
-pub finds_field : (panels : List DraftPanel) (index : NameIndex) (name : List ℕ) (part : Location) → IsIndexTo panels (Field (length panels) 0) index → part_named index name ≡ Some part
+pub finds_field : (panels : List DraftPanel) (index : NameIndex) (name : List ℕ) (part : Location) → IsIndexTo name_at panels (Field (length panels) 0) index → part_named index name ≡ Some part
     → ((p i : ℕ) → part ≡ Field p i → ⊥) → ⊥
 finds_field panels index name Top is found other = (is.named name Top found).1
 finds_field panels index name (Panel p) is found other = (is.named name (Panel p) found).1

@@ -73,6 +73,14 @@ stem_at (Panel p) panels = option_map (λ panel. panel.name) (slice_get panels p
 stem_at (Field p i) panels = option_map (λ field. field.stem) (item_at (Field p i) panels)
 stem_at _ panels = None
 
+-- the name in the table of which a field or value is a copy; None for a part that is no copy
+abbrev pub copied_name : DraftItem → Option (List ℕ)
+copied_name item = option_map (λ _. item.stem) item.copy
+
+abbrev pub copied_name_at : Location → List DraftPanel → Option (List ℕ)
+copied_name_at (Field p i) panels = option_and_then copied_name (item_at (Field p i) panels)
+copied_name_at _ panels = None
+
 -- whether the text has more panels, or a panel more texts, or more fields and values, than it may
 abbrev pub has_too_many : Location → List DraftPanel → Bool
 has_too_many Top panels = nat_lt most_panels (length panels)
@@ -188,21 +196,29 @@ asks_twice (name ∷ names) = list_any (bytes_eq name) names || asks_twice names
 abbrev pub has_key_twice : DraftPanel → Bool
 has_key_twice panel = asks_twice panel.asks || list_any (λ key. list_any (bytes_eq key.0) panel.asks) panel.keys
 
--- holds if an earlier panel has the panel's name, or an earlier field or value that of the field or value
+-- holds if one way of naming gives one part a name that another way gives the other part
+abbrev pub HaveOneName : (by by_other : Location → List DraftPanel → Option (List ℕ)) → Location → Location
+    → List DraftPanel → Type 0
+HaveOneName by by_other one other panels =
+    (name : List ℕ) × (by one panels ≡ Some name) × (by_other other panels ≡ Some name)
+
+-- holds if two parts have one name, or one of them has that in the table of which the other is a copy
+abbrev pub ShareName : Location → Location → List DraftPanel → Type 0
+ShareName one other panels = HaveOneName name_at name_at one other panels
+    ⊎ HaveOneName name_at copied_name_at one other panels
+    ⊎ HaveOneName copied_name_at name_at one other panels
+
+-- holds if the first part comes before the second, and they share a name
+abbrev pub IsEarlierWithName : Location → Location → List DraftPanel → Type 0
+IsEarlierWithName earlier part panels = IsNamedBefore earlier part × ShareName earlier part panels
+
+-- holds if an earlier part has the name of a panel, a field or a value
 abbrev pub IsNamedTwice : Location → List DraftPanel → Type 0
-IsNamedTwice part panels =
-    (earlier : Location) × (name : List ℕ) × IsNamedBefore earlier part × (name_at earlier panels ≡ Some name)
-    × (name_at part panels ≡ Some name)
+IsNamedTwice part panels = (earlier : Location) × IsEarlierWithName earlier part panels
 
--- holds if the part is a copy of a field or value, and one without copies has the name of its table
-abbrev pub IsNamedAsOne : Location → List DraftPanel → Type 0
-IsNamedAsOne part panels = (item : DraftItem) × (item_at part panels ≡ Some item) × IsTrue (is_some item.copy)
-    × NamesItem item.stem panels
-
--- holds if the part is named twice in one of these ways, or is a table of keys whose panel has a key twice
+-- holds if the part is named twice so, or is a table of keys whose panel has a key twice
 abbrev pub IsTwiceNamed : Location → List DraftPanel → Type 0
 IsTwiceNamed (Keys p) panels = IsTrue (option_map_or has_key_twice (slice_get panels p) false)
-IsTwiceNamed (Field p i) panels = IsNamedTwice (Field p i) panels ⊎ IsNamedAsOne (Field p i) panels
 IsTwiceNamed part panels = IsNamedTwice part panels
 
 -- holds if an earlier item of the panel shares a cell with the item

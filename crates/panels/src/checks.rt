@@ -1,6 +1,6 @@
 //! Finds the faults of a draft, table by table.
 ghost use Rattle.std.specs.Prelude.{◌≡◌, ◌↔◌, ◌+◌, ◌<◌, IfOk, IsTrue, OnOk, length, ℕ, Some, true, false, MatchOption, List, Contains};
-ghost use Rattle.panels.specs.Faults.{HasFault, is_part, faults_of, IsOverlapping, Overlaps, item_at, HasLostOtherwise, IsNamedAsOne, IsTwiceNamed, IsBasePanelNamed, NamesBasePanel, NamesPanel, NamesField, NamesItem, IsFirstNamed, name_at};
+ghost use Rattle.panels.specs.Faults.{HasFault, is_part, faults_of, IsOverlapping, Overlaps, item_at, HasLostOtherwise, IsEarlierWithName, IsNamedTwice, IsBasePanelNamed, NamesBasePanel, NamesPanel, NamesField, NamesItem, IsFirstNamed, name_at};
 ghost use Rattle.panels.specs.Listing.{AreFaultsOf};
 ghost use Rattle.panels.specs.Walk.{turn_at, turn_behind, AreFoundTo, IsAdded, nth};
 ghost use Rattle.panels.specs.Draft.{DraftItem};
@@ -11,7 +11,7 @@ use crate::draft::{Draft, PanelDraft};
 use crate::extent::Extent;
 use crate::fault::TreeFault::*;
 use crate::fault::{LocatedFault, Location, TreeFault};
-use crate::names::{is_later, is_name};
+use crate::names::{earlier_in, is_name};
 use codes3270::Size;
 use std::alloc::{AllocError, Global};
 
@@ -46,12 +46,11 @@ impl<'a> Draft<'a> {
                 Some(panel) => panel.has_strange_key(),
                 None => false,
             },
-            (TwiceNamed, Location::Panel(_)) => is_later(&self.panel_names, self.name(part), part),
-            (TwiceNamed, Location::Field(panel, field)) => self.is_field_twice(panel, field),
             (TwiceNamed, Location::Keys(panel)) => match self.panel(panel) {
                 Some(panel) => panel.has_key_twice(),
                 None => false,
             },
+            (TwiceNamed, _) => self.earlier_with_name(part).is_some(),
             (BadModel, Location::Panel(panel)) => match self.panel(panel) {
                 Some(panel) => panel.has_bad_model(),
                 None => false,
@@ -211,23 +210,34 @@ impl<'a> Draft<'a> {
         }
     }
 
-    /// Whether an earlier field or value has the name of this one, or this one is a copy, and one without copies has
-    /// its table's name.
-    fn is_field_twice(&self, panel: usize, field: usize) -> bool
-        ensures { IsTrue result ↔ IsTwiceNamed (part.Field panel field) self.now.panels }
+    /// An earlier field or value that has the name of this one, or that in the table of which one of both is a copy.
+    fn earlier_item_with_name(&self, panel: usize, field: usize) -> Option<Location>
+        ensures { MatchOption result (¬ IsNamedTwice (part.Field panel field) self.now.panels)
+            (λ earlier. IsEarlierWithName earlier (part.Field panel field) self.now.panels) }
     {
         let part = Location::Field(panel, field);
-        is_later(&self.field_names, self.name(part), part) || self.is_named_as_one(part)
+        let name = self.name(part);
+        if let Some(earlier) = earlier_in(&self.field_names, name, part) {
+            return Some(earlier);
+        }
+        if let Some(earlier) = earlier_in(&self.field_names, self.copied_name(part), part) {
+            return Some(earlier);
+        }
+        earlier_in(&self.copied_names, name, part)
     }
 
-    /// Whether a part is a copy of a field or value, and one without copies has the name of its table.
-    fn is_named_as_one(&self, part: Location) -> bool
-        ensures { IsTrue result ↔ IsNamedAsOne part self.now.panels }
+    /// An earlier panel, field or value with the name of a panel, a field or a value; `None` if there is none, or the
+    /// part is another table. Beside its own name a copy has that in its table, which other copies may have, too.
+    pub fn earlier_with_name(&self, part: Location) -> Option<Location>
+        ensures { MatchOption result (¬ IsNamedTwice part self.now.panels)
+            (λ earlier. IsEarlierWithName earlier part self.now.panels) }
     {
-        let Some(item) = self.item(part) else {
-            return false;
-        };
-        item.copy.is_some() && self.item_named(item.stem).is_some()
+        match part {
+            Location::Panel(_) => earlier_in(&self.panel_names, self.name(part), part),
+            Location::Field(panel, field) => self.earlier_item_with_name(panel, field),
+            Location::Top | Location::Text(_, _) | Location::Value(_, _) | Location::Keys(_) =>
+                None,
+        }
     }
 
     /// The index of the first panel with a name.
@@ -265,7 +275,7 @@ impl<'a> Draft<'a> {
     }
 
     /// The first field or value with a name: the index of its panel, and its own there.
-    pub fn item_named(&self, name: &str) -> Option<(usize, usize)>
+    fn item_named(&self, name: &str) -> Option<(usize, usize)>
         ensures { MatchOption result (¬ NamesItem name.now self.now.panels)
             (λ at. IsFirstNamed name.now (part.Field at.0 at.1) self.now.panels) }
     {

@@ -291,7 +291,7 @@ impl<'a> Draft<'a> {
         ensures { IfOk result (λ draft. draft ≡ draft_of (table_view top.now)) }
     {
         let panels = panel_drafts(alloc, top)?;
-        let (panel_names, field_names) = name_indexes(alloc, panels.as_slice())?;
+        let (panel_names, field_names, copied_names) = name_indexes(alloc, panels.as_slice())?;
         Ok(Draft {
             table: top,
             wrong: wrong_by(top_rules(), top),
@@ -302,6 +302,7 @@ impl<'a> Draft<'a> {
             panels,
             panel_names,
             field_names,
+            copied_names,
         })
     }
 }

@@ -1,7 +1,7 @@
 //! Drafts: what the tables of a panel text say, by the types of their keys, before faults are looked for.
 ghost use Rattle.std.specs.Prelude.{◌≡◌, ◌<◌, ◌≤◌, IfSome, length, not, position, option_copied, option_map, slice_get};
 ghost use Rattle.panels.specs.Draft.{draft_size, field_count, fields_of, otherwise_of, title_of, values_of};
-ghost use Rattle.panels.specs.Faults.{item_at, name_at, size_at, stem_at, table_by, table_of, wrong_at};
+ghost use Rattle.panels.specs.Faults.{copied_name, copied_name_at, item_at, name_at, size_at, stem_at, table_by, table_of, wrong_at};
 ghost use Rattle.panels.specs.Size.{is_model_number, model_numbered};
 
 use crate::fault::{Location, TreeFault};
@@ -149,6 +149,7 @@ pub struct Draft<'a> {
     // The first part that has each name.
     pub(crate) panel_names: NameIndex,
     pub(crate) field_names: NameIndex,
+    pub(crate) copied_names: NameIndex,
 }
 
 impl<'a> marker::Model for Draft<'a> {
@@ -167,7 +168,7 @@ impl<'a> marker::Model for Draft<'a> {
       panels = draft.panels.items;
     } };
 
-    ghost invariant = { λ draft. AreIndexes draft.panels.items draft.panel_names draft.field_names };
+    ghost invariant = { λ draft. AreIndexes draft.panels.items draft.panel_names draft.field_names draft.copied_names };
 }
 
 impl<'a> ItemDraft<'a> {
@@ -180,6 +181,16 @@ impl<'a> ItemDraft<'a> {
             Location::Field(panel, _) if self.is_value => Location::Value(panel, self.index),
             Location::Field(panel, _) => Location::Field(panel, self.index),
             Location::Top | Location::Panel(_) | Location::Value(_, _) | Location::Keys(_) => part,
+        }
+    }
+
+    /// The name in its table, if it is a copy.
+    pub(crate) fn copied_name(&self) -> Option<&'a str>
+        ensures { option_map (λ name. name.now) result ≡ copied_name self.now }
+    {
+        match self.copy {
+            Some(_) => Some(self.stem),
+            None => None,
         }
     }
 
@@ -327,6 +338,20 @@ impl<'a> Draft<'a> {
             Location::Field(_, _) => Some(self.item(part)?.name.as_str()),
             Location::Top | Location::Text(_, _) | Location::Value(_, _) | Location::Keys(_) =>
                 None,
+        }
+    }
+
+    /// The name in the table of which a field or value is a copy; `None` for a part that is no copy.
+    pub(crate) fn copied_name(&self, part: Location) -> Option<&'a str>
+        ensures { option_map (λ name. name.now) result ≡ copied_name_at part self.now.panels }
+    {
+        match part {
+            Location::Field(_, _) => self.item(part)?.copied_name(),
+            Location::Top
+            | Location::Panel(_)
+            | Location::Text(_, _)
+            | Location::Value(_, _)
+            | Location::Keys(_) => None,
         }
     }
 

@@ -1,6 +1,6 @@
 //! Why a panel text is refused, and where.
-ghost use Rattle.std.specs.Prelude.{◌≡◌};
-ghost use Rattle.panels.specs.Faults.{panel_of_part, place_of};
+ghost use Rattle.std.specs.Prelude.{◌≡◌, ◌↔◌, IsTrue};
+ghost use Rattle.panels.specs.Faults.{IsNamedBefore, panel_of_part, place_of};
 ghost use Rattle.panels.specs.Walk.{nth};
 
 use std::fmt;
@@ -17,8 +17,8 @@ pub enum TreeFault {
     /// A name isn't 1 to 16 of `A` to `Z` and `0` to `9` for a panel, or of `a` to `z`, `0` to `9` and `_` for a
     /// field or a value.
     BadName,
-    /// An earlier panel, or an earlier field or value of any panel, has the name; or a field or value with `repeat` has
-    /// that of one without; or `asks` has a name twice, or one of `keys`. A panel's values come after its fields.
+    /// An earlier panel, or an earlier field or value of any panel, has the name, with `repeat` or without; or `asks` has
+    /// a name twice, or one of `keys`. A panel's values come after its fields.
     TwiceNamed,
     /// The item, or one of its copies, doesn't lie above the last row of the panel's screen, or its fill is longer.
     OutOfPlace,
@@ -92,6 +92,19 @@ impl Location {
             Location::Text(panel, text) => At::Text(panel, text),
             Location::Field(panel, field) => At::Field(panel, field),
             Location::Value(panel, value) => At::Value(panel, value),
+        }
+    }
+
+    /// Whether both are panels, or both are fields or values, and this one comes before the other in the text.
+    pub(crate) fn is_before(self, other: Location) -> bool
+        ensures { IsTrue result ↔ IsNamedBefore self other }
+    {
+        match (self, other) {
+            (Location::Panel(panel), Location::Panel(other)) => panel < other,
+            (Location::Field(panel, field), Location::Field(other, other_field)) => {
+                panel < other || (panel == other && field < other_field)
+            }
+            _ => false,
         }
     }
 

@@ -5,7 +5,7 @@ ghost use Rattle.panels.specs.Items.{is_name as is_name_by};
 ghost use Rattle.panels.specs.Keys.{connect_name, is_asked_name, is_key_name, key_names};
 ghost use Rattle.panels.specs.declared.fault.Location.TheVariants as part;
 ghost use Rattle.panels.specs.Faults.{HasFieldNamed, HasLostCursor, has_key_twice, has_strange_key, asks_twice};
-ghost use Rattle.panels.specs.Index.{IsLater};
+ghost use Rattle.panels.specs.Index.{IsEarlierIn};
 ghost use Rattle.panels.specs.Walk.{is_letter_of};
 
 use crate::draft::{ItemDraft, PanelDraft};
@@ -74,16 +74,15 @@ pub(crate) fn is_among(names: &[&str], name: &str) -> bool
     names.iter().any(|known| name == *known)
 }
 
-/// Whether another part is the first with this name.
-pub(crate) fn is_later(index: &NameIndex, name: Option<&str>, part: Location) -> bool
-    ensures { IsTrue result ↔ IsLater index.now (option_map (λ n. n.now) name.entry) part }
+/// The first part with this name, if it comes before another part.
+pub(crate) fn earlier_in(index: &NameIndex, name: Option<&str>, part: Location) -> Option<Location>
+    ensures { MatchOption result
+        ((earlier : Location) → ¬ IsEarlierIn index.now (option_map (λ n. n.now) name.entry) earlier part)
+        (λ earlier. IsEarlierIn index.now (option_map (λ n. n.now) name.entry) earlier part) }
 {
-    let Some(name) = name else {
-        return false;
-    };
-    match index.get(name) {
-        Some(first) => *first != part,
-        None => false,
+    match index.get(name?) {
+        Some(first) if first.is_before(part) => Some(*first),
+        _ => None,
     }
 }
 
