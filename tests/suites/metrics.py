@@ -307,6 +307,27 @@ def sessions(host, path, kind, name="localhost"):
     return body
 
 
+def boot_of_a_start() -> int:
+    """The first part of the names of sessions, of a host that has just begun."""
+    with metered() as host:
+        client = host.client().signs_on("PNL01")
+        rows = json.loads(sessions(host, "/sessions.json", "application/json"))["sessions"]
+        client.ends()
+    return int(rows[0]["session"].partition("-")[0], 16)
+
+
+@check
+def starts_draw_other_names():
+    """Of 64 starts no two have session names that begin alike, and each of the 64 bits of these
+    beginnings is set in 8 to 56 of them: the chance that a bit of random ones isn't is below 10^-9."""
+    boots = [boot_of_a_start() for _ in range(64)]
+    expect("different beginnings", len(set(boots)), 64)
+    for bit in range(64):
+        ones = sum(it >> bit & 1 for it in boots)
+        if not 8 <= ones <= 56:
+            raise Difference(f"8 to 56 beginnings with bit {bit}", ones)
+
+
 @check
 def sessions_are_listed():
     """Each open connection is listed with its session, LU, client, start, turns and phase, as data

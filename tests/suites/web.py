@@ -389,6 +389,33 @@ def pages_are_pinged() -> None:
         screen_of(there, "4")
 
 
+# ---- tokens
+
+def token_of(web: Web) -> int:
+    """The token of a new session."""
+    page = web.page()
+    for opcode, payload in page.messages():
+        if opcode == TEXT and payload.startswith(b"token "):
+            page.close()
+            return int(payload.removeprefix(b"token "), 16)
+    raise Difference("a token", "the end")
+
+
+@check
+def tokens_are_random() -> None:
+    """Of 1,000 tokens no two are equal, and each of their 128 bits is set in 400 to 600 of them: the
+    chance that a bit of random ones isn't is below 10^-9. The host isn't there, so that each session
+    ends at once."""
+    with Web() as web:
+        web.host.__exit__()
+        tokens = [token_of(web) for _ in range(1000)]
+    expect("different tokens", len(set(tokens)), 1000)
+    for bit in range(128):
+        ones = sum(it >> bit & 1 for it in tokens)
+        if not 400 <= ones <= 600:
+            raise Difference(f"400 to 600 tokens with bit {bit}", ones)
+
+
 # ---- ends
 
 @check
