@@ -1,5 +1,5 @@
 //! The names in a panel text, and the panels, fields and keys that have them.
-ghost use Rattle.std.specs.Prelude.{◌≡◌, ◌↔◌, IsTrue, bytes_eq, map, not, option_map, pos};
+ghost use Rattle.std.specs.Prelude.{◌≡◌, ◌↔◌, IsTrue, MatchOption, bytes_eq, map, not, option_map, pos};
 ghost use Rattle.std.specs.List.{list_any};
 ghost use Rattle.panels.specs.Items.{is_name as is_name_by};
 ghost use Rattle.panels.specs.Keys.{connect_name, is_asked_name, is_key_name, key_names};
