@@ -1,7 +1,8 @@
 -- The streams of a run: their bytes, if they are known, and the counts of reads, ends and failures (our profile).
-use Rattle.std.specs.Prelude.{◌≡◌, ◌+◌, ◌-◌, ◌^◌, ◌<◌, ◌≤◌, ◌++◌, ◌∷◌, [], ⊤, ℕ, zero, suc, List, take, min, Option, None, Some, Result, Ok, Err}
+use Rattle.std.specs.Prelude.{◌≡◌, ◌+◌, ◌-◌, ◌^◌, ◌<◌, ◌≤◌, ◌++◌, ◌∷◌, [], ⊤, ℕ, zero, suc, List, take, min, Option, None, Some, Result, Ok, Err, Unit}
 use Rattle.std.specs.Io.KnownBytes.{Consumes, IsAtEnd, Appends, Keeps}
 use Rattle.jobs.specs.declared.streams.Answer.{Answer}
+use Rattle.jobs.specs.declared.streams.WriteFailed.{WriteFailed}
 use Rattle.jobs.specs.declared.streams.Answer.TheVariants.{Gave, Ended, Interrupted, Failed}
 
 -- a raised count; it stops at its greatest value, 2^64 - 1
@@ -98,3 +99,9 @@ abbrev pub WritesLine : {E : Type 0} → Result Unit E → Output → Output →
 WritesLine (Ok done) old new None = new.failures ≡ old.failures
 WritesLine (Ok done) old new (Some text) = Written old new (text ++ 10 ∷ [])
 WritesLine (Err fault) old new text = new.failures ≡ more old.failures 1
+
+-- Holds if a line with this text and newline, if the text is known, was handed to a sink by one call, whatever that
+-- answered.
+abbrev pub IsTold : {E : Type 0} → (told : E → Option (List ℕ) → Result Unit WriteFailed → E → Type 0)
+    → Option (List ℕ) → (old new : E) → Type 0
+IsTold told line old new = (answer : Result Unit WriteFailed) × told old line answer new

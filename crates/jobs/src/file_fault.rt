@@ -1,8 +1,11 @@
 //! The report that a file can't be opened.
 ghost use Rattle.std.specs.Prelude.{◌≡◌};
+ghost use Rattle.std.specs.Fmt.{with_newline};
+ghost use Rattle.jobs.specs.Counting.{IsTold};
 ghost use Rattle.jobs.specs.FileFaults.{file_refused};
 
 use crate::streams::Sink;
+use std::fmt::Display;
 use std::io::ErrorKind;
 use thiserror::Error;
 
@@ -32,7 +35,9 @@ fn reason_of(why: ErrorKind) -> &'static str {
 
 /// Prints why a file can't be opened, and returns the exit status, 1. A line that can't be written is left out.
 pub fn refuse_file<E: Sink>(name: &str, why: ErrorKind, faults: &mut E) -> u8
-    ensures { result ≡ file_refused }
+    ensures status { result ≡ file_refused }
+    ensures told { IsTold E.told (with_newline (⟦<FileFault<'_> as Display>⟧.output
+        (record { name = name.entry; why = why }))) faults.old faults.new }
 {
     let _ = faults.write_line(FileFault { name, why });
     FILE_REFUSED
