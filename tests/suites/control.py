@@ -227,6 +227,21 @@ def a_drained_service_ends_after_its_time():
 
 
 @check
+def half_a_header_holds_no_drain_up():
+    """A drained service without sessions ends, though a client has sent only a part of its PROXY header."""
+    with controlled("--proxy-protocol") as host:
+        with socket.create_connection((LOCALHOST, host.port), PATIENCE) as half:
+            half.sendall(b"PROXY TCP4 192.0.2.1 ")
+            behind = host.client()
+            behind.says(b"PROXY UNKNOWN\r\n")
+            behind.signs_on("PNL01")
+            expect("tell", tells(host, "drain"), (0, "ok draining"))
+            behind.ends()
+            in_seconds(0, 4, "ends", lambda: expect("its status", host.ends(), 0))
+            expect("the client's end", half.recv(1), b"")
+
+
+@check
 def a_stopped_service_ends_its_sessions():
     with controlled() as host:
         clients = [host.client().signs_on(it) for it in ("PNL01", "PNL02")]
@@ -436,6 +451,20 @@ def new_sessions_get_the_new_panels():
             event(0, old, "lost turns=2"),
             event(1, new, "lost turns=2"),
         )
+
+
+@check
+def sessions_of_each_text_are_listed():
+    """After a reload the sessions of the old panels and of the new ones are listed, each with its LU and
+    its client."""
+    with of_file("PNL01", "PNL02") as host:
+        old = host.client().signs_on("PNL01")
+        expect("tell", reloads(host, new_panels("PNL01", "PNL02"))[0], 0)
+        new = NewClient(host.port).signs_on("PNL02")
+        status, answer = tells(host, "sessions")
+        rows = re.sub(r" \d+ s", "", answer)
+        wanted = [f"PNL01 {old.peer}", f"PNL02 {new.peer}"]
+        expect("the sessions", (status, [it for it in wanted if it not in rows], rows), (0, [], rows))
 
 
 @check
