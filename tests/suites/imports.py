@@ -213,8 +213,8 @@ fn length(at: cell::Cell) -> fmt::Result
 
 
 def finds_each_kind_of_import() -> None:
-    names = ["take", "◌<ℤ◌", "◌≤◌", "if◌then◌else◌", "ℕ", "Told", "codes", "Comment", "Label", "Read"]
-    same(names, [it.name for it in unused_in(SAMPLE)])
+    names = "take ◌<ℤ◌ ◌≤◌ if◌then◌else◌ ℕ Told codes Comment Label Read"
+    same(names.split(), [it.name for it in unused_in(SAMPLE)])
     text = "use Rattle.a.{◌+◌, take, drop, f as g}\nuse Rattle.b as b\nx = take (b.f + 1) -- drop\n"
     same(["drop", "g"], [it.name for it in unused_in_antt(text)])
 
