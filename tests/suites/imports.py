@@ -36,7 +36,7 @@ GHOST = re.compile(r"\b(?:requires|ensures)\b(?:\s+\w+)?\s*\{|\bghost\s+(?!use\b
 # A label, as `next:` and `next =`; a word, with a mark if it belongs to something; a symbol.
 WORD = re.compile(
     rf"{NAME}:(?!:)|(?<!: ){NAME} =(?![=>])|(?:\.|::)?{NAME}"
-    r"|\.\.|[^\w\s(){}\[\],;.]+ℤ?|\[\]"
+    r"|\.\.|[^\w\s(){}\[\],;.]+|\[\]"
 )
 ANTT_COMMENT = re.compile(r"--[^\n]*")
 ANTT_IMPORT = re.compile(
