@@ -199,14 +199,14 @@ def each_wrong_reply_is_an_error():
         ({"panel": "WIDE", "cursor": "choice"}, "200 OK", 'unknown-field key="cursor"'),
         ({"fields": {"no\u2019ne": "SESAME"}}, "200 OK", 'unknown-field key="no\u2019ne"'),
         ({"fields": {"word": 1}}, "200 OK", 'field-not-text key="word"'),
-        ({"fields": {"word": ["A"]}}, "200 OK", 'unknown-field key="word"'),
-        ({"fields": {"word": []}}, "200 OK", 'unknown-field key="word"'),
+        ({"fields": {"word": ["A"]}}, "200 OK", 'field-not-array key="word"'),
+        ({"fields": {"word": []}}, "200 OK", 'field-not-array key="word"'),
         ({"fields": {"line": ["A", "B", "SESAME"]}}, "200 OK", 'unknown-field key="line.3"'),
         ({"fields": {"line": ["A", 1]}}, "200 OK", 'field-not-text key="line"'),
         ({"fields": {"line": [["SESAME"]]}}, "200 OK", 'field-not-text key="line"'),
         ({"fields": {"line": "SESAME"}}, "200 OK", 'unknown-field key="line"'),
         ({"fields": {"lines": ["SESAME"]}}, "200 OK", 'unknown-field key="lines"'),
-        ({"fields": {"total": ["SESAME"]}}, "200 OK", 'unknown-field key="total"'),
+        ({"fields": {"total": ["SESAME"]}}, "200 OK", 'field-not-array key="total"'),
         ({"panel": "MENU", "cursor": "total"}, "200 OK", 'unknown-field key="cursor"'),
         ({"fields": 1}, "200 OK", 'not-object key="fields"'),
         ({"panel": 1}, "200 OK", 'not-text key="panel"'),
@@ -280,6 +280,23 @@ def a_repeated_field_is_an_array():
         application.takes().sends({"fields": {"word": ["A", "B", "C", "D"]}})
         first.sees(ERROR)
         host.has_said('application-error reason=unknown-field key="word.4"')
+
+
+@check
+def a_row_may_have_a_text_of_its_own_beside_an_array():
+    """A reply has an array, and one row by its own name, in either order, as a JSON object has none:
+    the row has its own text, and the others have those of the array."""
+    texts = {"line": ["ONE", "TWO"], "line.2": "ZWEI"}
+    application = Application()
+    with Host(application.url, OWN, text=PANELS) as host:
+        first, _ = host.operators()
+        for fields in (texts, dict(reversed(texts.items()))):
+            first.presses("enter")
+            application.takes().sends({"panel": "MENU", "fields": fields})
+            shown = first.sees("SECOND PANEL", "ONE", "ZWEI")
+            expect(f"the array's second text with {[*fields]}", "TWO" in shown, False)
+            first.presses("pf3")
+            first.sees("FIRST PANEL")
 
 
 @check

@@ -36,13 +36,14 @@ GHOST = re.compile(r"\b(?:requires|ensures)\b(?:\s+\w+)?\s*\{|\bghost\s+(?!use\b
 # A label, as `next:` and `next =`; a word, with a mark if it belongs to something; a symbol.
 WORD = re.compile(
     rf"{NAME}:(?!:)|(?<!: ){NAME} =(?![=>])|(?:\.|::)?{NAME}"
-    r"|\.\.|[^\w\s(){}\[\],;.]+ℤ?|\[\]"
+    r"|\.\.|[^\w\s(){}\[\],;.]+|\[\]"
 )
 ANTT_COMMENT = re.compile(r"--[^\n]*")
 ANTT_IMPORT = re.compile(
     r"^(pub )?use [\w-]+(?:\.[\w-]+)*(?:\.\{([^}]*)\}| as (\w+))?", re.MULTILINE
 )
-ANTT_WORD = re.compile(r"[^\s(){}\[\],;.]+|\[\]")
+# A word or a symbol of what is ghost, which letters may be part of, as `≤ℤ`.
+ANTT_WORD = re.compile(r"\.?[^\s(){}\[\],;.]+|\[\]")
 
 
 @dataclasses.dataclass(frozen=True)
@@ -118,13 +119,12 @@ def names_in(uses: re.Match[str], is_ghost: bool) -> Iterator[Import]:
             yield Import(name, uses.start(2) + part.start() + blanks, is_ghost)
 
 
-def is_used(it: Import, code: set[str], ghost: set[str], ghost_names: set[str]) -> bool:
-    """Whether an import is among the words of the code, or of what is ghost."""
+def is_used(it: Import, words: set[str], ghost: set[str]) -> bool:
+    """Whether an import is among the words that serve it."""
     if it.is_ghost:
         return it.symbol in ghost
-    if it.name in code or it.name in ghost - ghost_names:
-        return True
-    return any(f".{word}" in code or f"::{word}" in code for word in METHODS.get(it.name, ()))
+    methods = METHODS.get(it.name, ())
+    return it.name in words or any(f".{at}" in words or f"::{at}" in words for at in methods)
 
 
 def unused_in(text: str) -> Iterator[Import]:
@@ -138,20 +138,21 @@ def unused_in(text: str) -> Iterator[Import]:
     ]
     rest = blanked(text, [found.span() for found in uses])
     ranges = list(ghost_ranges(rest))
-    code = set(WORD.findall(blanked(rest, ranges)))
     ghost = blanked(rest, between(ranges, len(rest)))
     blocks = [(found.start(), end_of(text, found.end())) for found in BLOCK.finditer(text)]
     # What the file's own ghost uses serve: what is outside of blocks, and what these don't import.
-    served = set(WORD.findall(blanked(ghost, blocks)))
+    served = set(ANTT_WORD.findall(blanked(ghost, blocks)))
     own = set()
     for start, end in blocks:
         inside = [it for it in imports if it.is_ghost and start <= it.at < end]
-        words = set(WORD.findall(ghost[start:end]))
+        words = set(ANTT_WORD.findall(ghost[start:end]))
         yield from (it for it in inside if it.symbol not in words)
         served |= words - {it.symbol for it in inside}
         own |= set(inside)
-    named = {it.name for it in imports if it.is_ghost}
-    yield from (it for it in imports if it not in own and not is_used(it, code, served, named))
+    # A clause may name what the code imports, unless a ghost use brings in that name.
+    words = set(WORD.findall(ghost)) - {it.name for it in imports if it.is_ghost}
+    words |= set(WORD.findall(blanked(rest, ranges)))
+    yield from (it for it in imports if it not in own and not is_used(it, words, served))
 
 
 def unused_in_antt(text: str) -> Iterator[Import]:
@@ -186,7 +187,8 @@ def check_crate(crate: str) -> None:
 
 SAMPLE = """\
 //! About Comment.
-ghost use Rattle.std.specs.Prelude.{◌≡◌, ◌<◌, if◌then◌else◌, [], ℕ, length, Known as Told, codes};
+ghost use Rattle.std.specs.Prelude.{◌≡◌, ◌<◌, ◌<ℤ◌, ◌≤◌, ◌≤ℤ◌, if◌then◌else◌, [], ℕ, length};
+ghost use Rattle.std.specs.Prelude.{Known as Told, codes};
 ghost use Rattle.sample.specs.declared.phase.Phase.TheVariants as phase;
 
 use crate::{Comment, cell::{self, Cell, Label}, label};
@@ -202,7 +204,7 @@ impl Model for Cell {
 
 /// A Comment.
 fn length(at: cell::Cell) -> fmt::Result
-    requires { at < length [] }
+    requires { (at < length []) × (low ≤ℤ high) }
     ensures told { result ≡ phase.Label }
 {
     at.write_str("{label}: Comment and codes", Row { label: Row::Label })
@@ -211,8 +213,8 @@ fn length(at: cell::Cell) -> fmt::Result
 
 
 def finds_each_kind_of_import() -> None:
-    names = ["take", "if◌then◌else◌", "ℕ", "Told", "codes", "Comment", "Label", "Read"]
-    same(names, [it.name for it in unused_in(SAMPLE)])
+    names = "take ◌<ℤ◌ ◌≤◌ if◌then◌else◌ ℕ Told codes Comment Label Read"
+    same(names.split(), [it.name for it in unused_in(SAMPLE)])
     text = "use Rattle.a.{◌+◌, take, drop, f as g}\nuse Rattle.b as b\nx = take (b.f + 1) -- drop\n"
     same(["drop", "g"], [it.name for it in unused_in_antt(text)])
 

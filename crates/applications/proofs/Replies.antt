@@ -90,6 +90,7 @@ module _ (panels : Panels) (shown : ℕ) (reply : Reply) (names : HasItsNames pa
   fields_refused flaw.UnknownPanel is = absurd (no_value_fault panels reply flaw.UnknownPanel (λ stem here. here) (λ values text here. here) is)
   fields_refused flaw.UnknownCursor is = absurd (no_value_fault panels reply flaw.UnknownCursor (λ stem here. here) (λ values text here. here) is)
   fields_refused (flaw.UnknownField name) is = (names, is)
+  fields_refused (flaw.FieldNotArray name) is = (names, is)
 
   pub message_refused : (fault : AnswerFault) → fault ≡ flaw.Memory → 0 < length (message_in reply) → IsAnswerFault panels shown reply fault
   message_refused fault is some = subst (IsAnswerFault panels shown reply) (sym is) (names, inl some)

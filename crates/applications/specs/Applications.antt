@@ -129,10 +129,14 @@ abbrev pub AreKnownArrays : Panels → List (List ℕ) → Type 0
 AreKnownArrays panels [] = ⊤
 AreKnownArrays panels (stem ∷ stems) = (is_known_array panels stem ≡ true) × AreKnownArrays panels stems
 
--- holds if an array isn't set for this reason: no panel has such copies, or memory was refused
+-- holds if an array isn't set for this reason: no panel has copies with this name, and either a field or value without
+-- copies has it, or none does; or memory was refused
 abbrev pub IsArrayFault : Panels → List ℕ → AnswerFault → Type 0
 IsArrayFault panels stem flaw.Memory = ⊤
+IsArrayFault panels stem (flaw.FieldNotArray name) = (string_bytes name ≡ stem) × (is_known_array panels stem ≡ false)
+    × (is_some (number_named stem panels) ≡ true)
 IsArrayFault panels stem (flaw.UnknownField name) = (string_bytes name ≡ stem) × (is_known_array panels stem ≡ false)
+    × (number_named stem panels ≡ None)
 IsArrayFault panels stem _ = ⊥
 
 -- holds if this is the fault of the first array that can't be set

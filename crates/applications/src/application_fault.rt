@@ -101,7 +101,9 @@ fn key_of(fault: &ApplicationFault) -> Option<&str> {
         Reply(ReplyFault::Key { key, .. }) => Some(key.as_str()),
         Answer(AnswerFault::UnknownPanel) => Some("panel"),
         Answer(AnswerFault::UnknownCursor) => Some("cursor"),
-        Answer(AnswerFault::UnknownField(name)) => Some(name.as_str()),
+        Answer(AnswerFault::UnknownField(name) | AnswerFault::FieldNotArray(name)) => {
+            Some(name.as_str())
+        }
         Absent(_) | Reply(_) | Answer(AnswerFault::Memory) | Left => None,
     }
 }

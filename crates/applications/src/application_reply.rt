@@ -1,7 +1,7 @@
 //! Turns an application's reply, with its names and Unicode texts, into an answer for the host, with numbers and bytes.
 ghost use Rattle.std.specs.BTreeMap.{insert_entry};
 ghost use Rattle.std.specs.Ordering.{nat_cmp};
-ghost use Rattle.std.specs.Prelude.{◌≡◌, ◌<◌, IfErr, IfOk, OnErr, OnOk, chars, length, map, option_and_then, option_copied, option_map, string_bytes, take, true};
+ghost use Rattle.std.specs.Prelude.{◌≡◌, ◌<◌, IfErr, IfOk, OnErr, OnOk, chars, false, length, map, option_and_then, option_copied, option_map, string_bytes, take, true};
 ghost use Rattle.application_http.specs.Replies.{field_text, name_of_copy};
 ghost use Rattle.panels.specs.Characters.{codes_of};
 ghost use Rattle.panels.specs.MessageText.{message_of};
@@ -34,9 +34,12 @@ pub enum AnswerFault {
     /// The reply puts the cursor in a field that the panel doesn't have.
     #[error("unknown-field")]
     UnknownCursor,
-    /// There is no field or value with this name, or none with copies that are named so if the reply has an array.
+    /// There is no field or value with this name.
     #[error("unknown-field")]
     UnknownField(String),
+    /// The reply has an array for the field or value with this name, which has no copies.
+    #[error("field-not-array")]
+    FieldNotArray(String),
 }
 
 /// The characters of a reply that are replaced, because code page 037 doesn't have them.
@@ -192,6 +195,18 @@ fn is_known_array(alloc: Global, panels: &PanelSet, stem: &str) -> Result<bool, 
     Ok(panels.number_named(first.as_str()).is_some())
 }
 
+/// Why no array can be set that has this name: the field or value with it has no copies, or there is none.
+fn array_fault(alloc: Global, panels: &PanelSet, stem: &str) -> Result<AnswerFault, AllocError>
+    ensures { is_known_array panels.now stem.now ≡ false → IfOk result (IsArrayFault panels.now stem.now) }
+{
+    let name = copy_of(alloc, stem)?;
+    if panels.number_named(stem).is_some() {
+        Ok(AnswerFault::FieldNotArray(name))
+    } else {
+        Ok(AnswerFault::UnknownField(name))
+    }
+}
+
 /// Empties each copy of the repeated field or value with this name, for which a reply has an array.
 fn set_array(
     alloc: Global,
@@ -204,7 +219,7 @@ fn set_array(
     ensures wrong { IfErr result (IsArrayFault panels.now stem.now) }
 {
     if !is_known_array(alloc, panels, stem)? {
-        return Err(AnswerFault::UnknownField(copy_of(alloc, stem)?));
+        return Err(array_fault(alloc, panels, stem)?);
     }
     empty_copies(alloc, panels, stem, most_copies(), values)?;
     Ok(())
