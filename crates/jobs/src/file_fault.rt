@@ -34,9 +34,9 @@ fn reason_of(why: ErrorKind) -> &'static str {
 }
 
 /// Prints why a file can't be opened, and returns the exit status, 1. A line that can't be written is left out.
-pub fn refuse_file<E: Sink>(name: &str, why: ErrorKind, faults: &mut E) -> u8
+pub fn refuse_file<'a, E: Sink>(name: &'a str, why: ErrorKind, faults: &mut E) -> u8
     ensures status { result ≡ file_refused }
-    ensures told { IsTold E.told (with_newline (⟦<FileFault<'_> as Display>⟧.output
+    ensures told { IsTold E.told (with_newline (⟦<FileFault<'a> as Display>⟧.output
         (record { name = name.entry; why = why }))) faults.old faults.new }
 {
     let _ = faults.write_line(FileFault { name, why });
