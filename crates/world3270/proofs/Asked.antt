@@ -340,13 +340,13 @@ uncleared_for : (reason : TurnReason) (aid : Aid) → IsOccasion reason aid → 
 uncleared_for reason aid occasion shown_now clear =
     absurd (let both : true ≡ false = sym (ap is_screen_empty (asked_key reason aid occasion ∙ clear)) ∙ shown_now in cc)
 
-later_for : (reason : TurnReason) → is_screen_empty (key_of reason) ≡ false → reason ≡ turn_reasons.Agreement → ⊥
+pub later_for : (reason : TurnReason) → is_screen_empty (key_of reason) ≡ false → reason ≡ turn_reasons.Agreement → ⊥
 later_for reason shown_now first = absurd (let both : true ≡ false = sym (ap (λ (r : TurnReason). is_screen_empty (key_of r)) first) ∙ shown_now in cc)
 
 -- ---- a question
 
 -- a question is there where one is open and an LU is agreed on
-question_is : (is_open : Bool) (lu : Option (List ℕ)) (ask : List ℕ → Question) (question : Question)
+pub question_is : (is_open : Bool) (lu : Option (List ℕ)) (ask : List ℕ → Question) (question : Question)
     → (if is_open then option_map ask lu else None) ≡ Some question → (is_open ≡ true) × (mine : List ℕ) × (lu ≡ Some mine) × (question ≡ ask mine)
 question_is true (Some lu) ask question is = (refl, lu, refl, let same : Some (ask lu) ≡ Some question = is in cc)
 question_is true None ask question is = absurd (cc)
@@ -435,7 +435,7 @@ each_asked given app is shows link k session question asked =
     by_moment (MayAct.deciding mine s at f showing) asks lu = by_deciding f showing asks lu (is_screen_empty (key_of link.host.turn_reason)) refl
 
 -- a question is asked where the host is
-asked_there : (here : Bool) (asked : Option Question) (question : Question) → (if here then asked else None) ≡ Some question → (here ≡ true) × (asked ≡ Some question)
+pub asked_there : (here : Bool) (asked : Option Question) (question : Question) → (if here then asked else None) ≡ Some question → (here ≡ true) × (asked ≡ Some question)
 asked_there true asked question is = (refl, is)
 asked_there false asked question is = absurd (cc)
 

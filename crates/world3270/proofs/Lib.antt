@@ -5,6 +5,7 @@ pub mod Sent
 pub mod Unreturned
 pub mod AsLeft
 pub mod Asked
+pub mod AskedPanels
 pub mod AskedOverBytes
 pub mod Down
 pub mod Obeys

@@ -500,16 +500,21 @@ painted_char reset whole (want.Char char ∷ rest) (there ∷ cells) (suc place)
 painted_char reset whole (want.Keep ∷ rest) (there ∷ cells) (suc place) byte same at = painted_char reset whole rest cells place byte (omega arith) at
 painted_char reset whole (want.Attr attribute ∷ rest) (there ∷ cells) (suc place) byte same at = painted_char reset whole rest cells place byte (omega arith) at
 
+-- a character that the panel's screen has is on the screen that shows it
+pub char_shown : (app : Application) (waits : Bool) (host : Session) (before screen : Screen) → ShowsItsPanel app waits host before screen → (cell char : ℕ)
+    → ((keep : Bool) → slice_get (app.screen host.panel host.values host.message keep).cells cell ≡ Some (want.Char char)) → slice_get screen.cells cell ≡ Some (Char char)
+char_shown app waits host before screen shown cell char has =
+    let way = wanted_in_a_way app (when_shown shown.wanted_for.conn) host.panel host.message shown.wanted_for.keep host.values in
+    let wanted = shown.wanted in
+    let there : slice_get wanted.cells cell ≡ Some (want.Char char) = ap (λ (w : WantedScreen). slice_get w.cells cell) (shown.wanted_for.wanted_is ∙ way.1) ∙ has way.0 in
+    ap (λ (s : Screen). slice_get s.cells cell) shown.is
+    ∙ painted_char wanted.reset wanted.cells wanted.cells (cells_under (length wanted.cells) before.cells) cell char (length-under (length wanted.cells) before.cells) there
+
 pub values_shown : (app : Application) → WantsItsFields app → (waits : Bool) (host : Session) (before screen : Screen) → ShowsItsPanel app waits host before screen
     → ValuesAreShown (app.values host.panel) host.values screen
 values_shown app wants waits host before screen shown = λ index value at cell is.
-    let way = wanted_in_a_way app (when_shown shown.wanted_for.conn) host.panel host.message shown.wanted_for.keep host.values in
-    let wanted = shown.wanted in
-    let char = slice_index_or (unwrap_or (value_of host.values value.number) []) (cell - value.extent.first) 0 in
-    let there : slice_get wanted.cells cell ≡ Some (want.Char char) =
-    ap (λ (w : WantedScreen). slice_get w.cells cell) (shown.wanted_for.wanted_is ∙ way.1) ∙ wants.values host.panel host.values host.message way.0 index value cell at is in
-    ap (λ (s : Screen). slice_get s.cells cell) shown.is
-    ∙ painted_char wanted.reset wanted.cells wanted.cells (cells_under (length wanted.cells) before.cells) cell char (length-under (length wanted.cells) before.cells) there
+    char_shown app waits host before screen shown cell (slice_index_or (unwrap_or (value_of host.values value.number) []) (cell - value.extent.first) 0)
+    (λ keep. wants.values host.panel host.values host.message keep index value cell at is)
 
 -- ---- the cursor
 

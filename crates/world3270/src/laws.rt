@@ -1,7 +1,7 @@
 //! Laws of worlds over messages and over bytes. Each is the contract of a function that does nothing. Proofs use them,
 //! also those of other crates; no program calls them, and the root doesn't export them.
 ghost use Rattle.world3270.specs.statement.Always.{Always, AlwaysOf, HeadlineHolds, NoCommandIsRejected};
-ghost use Rattle.world3270.specs.statement.Asked.{AskedIsSeen, AskedIsSeenOverBytes, FieldsAreSeen, ScreensAreAsLeft};
+ghost use Rattle.world3270.specs.statement.Asked.{AskedIsSeen, AskedIsSeenOverBytes, FieldsAreSeen, OtherPanelsAreNotAsked, PanelsAreAsked, ScreensAreAsLeft};
 ghost use Rattle.world3270.specs.statement.EveryTerminal.{EveryTerminal};
 ghost use Rattle.world3270.specs.statement.EveryTerminalBytes.{EveryTerminalOverBytes};
 ghost use Rattle.world3270.specs.examples.Example.{TheRunsEndSo};
@@ -110,19 +110,24 @@ pub fn what_was_pressed_is_acted_on()
 /// the cursor address, and for no field another text than the screen shows, nulls removed. If each screen that the
 /// application asks for has its panel's fields, the question has a text for each field of the panel, and the field is
 /// on the screen, at its address and with its length. At connect, when no key was pressed, the message that binds the
-/// terminal may still be under way. At connect and after Clear the question has no field, nor has the screen. All this
-/// holds of each world over bytes that represents one over messages, since the screens of panels have their fields.
+/// terminal may still be under way. At connect and after Clear the question has no field, nor has the screen. Else it
+/// names the connection's panel, which the screen that the host's last restoring write left shows; so it names no panel
+/// of which a character isn't on that screen. All this holds of each world over bytes that represents one over messages,
+/// since the screens of panels have their fields.
 /// Unless Clear was pressed last, the protected part of an attached terminal's screen is as the host's last restoring
 /// write left it, but for the row of messages.
 pub fn what_is_asked_is_seen()
     ensures messages { AlwaysOf AskedIsSeen }
     ensures fields { AlwaysOf FieldsAreSeen }
+    ensures panels { AlwaysOf PanelsAreAsked }
     ensures screens { Always ScreensAreAsLeft }
     ensures bytes { AskedIsSeenOverBytes }
+    ensures others { OtherPanelsAreNotAsked }
 {
     what_is_given();
     panels_are_shown();
     fields_are_on_the_screen();
+    what_is_answered_is_shown();
 }
 
 /// Law: a panel whose paint is answered is on the screen. After any list of events, on each connection with both ends
