@@ -197,7 +197,7 @@ reads_uncleared app conn (turn_reasons.Key pressed buffered) aid is e clear = ke
 reads_uncleared app conn turn_reasons.Refusal aid is e clear = absurd is
 
 -- and nothing before a panel was shown
-reads_later : (app : Application) (conn : Session) → decision_on app conn conn.turn_reason ≡ Decision.Do Act.Read → conn.turn_reason ≡ turn_reasons.Agreement → ⊥
+pub reads_later : (app : Application) (conn : Session) → decision_on app conn conn.turn_reason ≡ Decision.Do Act.Read → conn.turn_reason ≡ turn_reasons.Agreement → ⊥
 reads_later app conn e agreement =
     empty_unread app.start conn.values (app.next (first_panel app conn) NoAid) (sym (ap (λ (r : TurnReason). decision_on app conn r) agreement) ∙ e)
 
@@ -299,7 +299,7 @@ module _ (given : LowerLaws) (app : Application) (is : IsApplication app) (link 
       (wants_its app link.term.waits link.host link.term.display.screen panel message keep values choice knows meets)
 
   -- what it knows when it decides on a key
-  knows_its : ShownIn app link.term.waits link.host link.term.display.before_restored link.term.display.last_restored link.term.display.screen SessionPhase.Deciding → (link.host.turn_reason ≡ turn_reasons.Agreement → ⊥) → KnowsItsFields app link.host
+  pub knows_its : ShownIn app link.term.waits link.host link.term.display.before_restored link.term.display.last_restored link.term.display.screen SessionPhase.Deciding → (link.host.turn_reason ≡ turn_reasons.Agreement → ⊥) → KnowsItsFields app link.host
   knows_its showing later =
       let wanted = (showing.0 later).wanted_for in
       record {
@@ -401,7 +401,7 @@ module _ (given : LowerLaws) (app : Application) (is : IsApplication app) (link 
       by_panel (Some shown_next) is_panel =
           paints lu shown_next (Told said.message said.cursor) false (values_for app link.host said (Some shown_next)) closed at f (answer_choice said (Some shown_next) is_panel is_asked) (λ keeps. absurd (cc))
 
-  may_act_at : link.host.turn ≡ whose.Host → link.host.pending ≡ Pending.Nothing → is_agreed link.host.talk.state ≡ true → MayAct app link k.wanted
+  pub may_act_at : link.host.turn ≡ whose.Host → link.host.pending ≡ Pending.Nothing → is_agreed link.host.talk.state ≡ true → MayAct app link k.wanted
   may_act_at turns pends agrees = by_moment k.moment k.sizes k.at k.fact k.shown
     where
       by_talk : (talking : NegotiationPhase) → IsAt (view_of link) k.wanted (LinkPhase.Negotiating talking) → IsNew (local_state_of (view_of link)) → (lu : List ℕ) × (talking ≡ NegotiationPhase.Agreeing lu) → MayAct app link k.wanted

@@ -47,7 +47,7 @@ panel_there None index field at = absurd (cc)
 panel_there (Some there) index field at = (there, refl)
 
 -- each screen that panels ask for has its panel's fields
-shows_its_fields : FieldsAreOnTheScreen → (set : Panels) → AreSound set → ShowsItsFields (application_of set)
+pub shows_its_fields : FieldsAreOnTheScreen → (set : Panels) → AreSound set → ShowsItsFields (application_of set)
 shows_its_fields on_screen set sound = record {
   on_screen = λ panel values message keep index field at.
       let there = panel_there (slice_get set.panels panel) index field at in

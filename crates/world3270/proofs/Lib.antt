@@ -6,6 +6,8 @@ pub mod Unreturned
 pub mod AsLeft
 pub mod Asked
 pub mod AskedPanels
+pub mod Leading
+pub mod Instances
 pub mod AskedOverBytes
 pub mod Down
 pub mod Obeys

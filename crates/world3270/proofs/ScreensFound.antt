@@ -10,6 +10,8 @@ use Rattle.datastream.specs.Wanted.{WantedScreen}
 use Rattle.keyboard.specs.declared.key.Key.{Key}
 use Rattle.keyboard.specs.declared.key.Lock.{Lock}
 use Rattle.keyboard.specs.declared.key.Lock.TheVariants.{Wait}
+use Rattle.codes3270.specs.declared.attention.Aid.TheVariants.{NoAid}
+use Rattle.panels.specs.KeptFields.{FieldsAreOnTheScreen}
 use Rattle.panels.specs.Panel.{Panels}
 use Rattle.panels.specs.Screen.{Values}
 use Rattle.panels.specs.declared.message.Message.{Message}
@@ -38,6 +40,7 @@ use Rattle.host_core.specs.Takes.{Answers, asked, talked_on, took as host_took}
 use Rattle.host_core.specs.declared.question.Answer.{Answer as ApplicationAnswer}
 use Rattle.host_core.specs.declared.question.Ticket.{Ticket}
 use Rattle.host_core.specs.declared.turn.Turn.{Turn}
+use Rattle.host_core.specs.declared.turn_reason.TurnReason.{TurnReason}
 use Rattle.host_core.specs.declared.turn.Turn.TheVariants as whose
 use Rattle.world3270.specs.statement.Always.{AlwaysOf}
 use Rattle.world3270.specs.model.ByteSteps.{IsStepIf, Steps, is_enabled as is_enabled_over_bytes, is_link as is_byte_link}
@@ -50,9 +53,12 @@ use Rattle.world3270.specs.model.Enabled.{is_enabled, host_acts, host_is_answere
 use Rattle.world3270.specs.refinement.Refines.{WorldSetup, GoesOn, IsWorldSetup, IsTicketAt, Reached, SameSkips, StepsAreSimulated, after}
 use Rattle.world3270.specs.statement.ScreensFound.{DecisionsAreShownOverBytes, OtherTextsAreNotShown, IsDecidedBy, IsDecisionPainted, IsFound, PaintsFindTheScreen, answer_in, decides_over}
 use Rattle.world3270.specs.statement.Observation.{SeenLink, TerminalSeen, end_seen, seen_link, terminal_seen}
-use Rattle.world3270.specs.statement.Shown.{IsPanelShown, PanelIsShownOverBytes, is_painting}
+use Rattle.world3270.specs.statement.Shown.{HasShown, IsPanelShown, PanelIsShownOverBytes, is_painting}
+use Rattle.world3270.specs.statement.Asked.{ShowsItsFields}
+use Rattle.world3270.specs.statement.Leading.{IsLedTo, IsWhereItLeads, panel_with_keys}
 use Rattle.world3270.specs.statement.ShownFields.{OtherTextsAreNot}
-use Rattle.world3270.specs.statement.ShownSince.{IsSamePanel, decides}
+use Rattle.world3270.specs.statement.TurnReasons.{IsOccasion}
+use Rattle.world3270.specs.statement.ShownSince.{IsAnswered, IsSamePanel, decides}
 use Rattle.world3270.specs.refinement.Invariant.{Fact, ConnectionInvariant, local_state_of}
 use Rattle.world3270.specs.model.Terminal.{Display, TermStep, is_bound, key_came, note_came, once_bound, outcome_of, paint_came, read_came, took as term_took}
 use Rattle.world3270.specs.refinement.View.{View, view_of}
@@ -60,12 +66,15 @@ use Rattle.world3270.specs.model.World.{Event, World, new_world, with_at}
 use Rattle.world3270.specs.declared.event.Event.{Event as ByteEvent}
 use Rattle.world3270.specs.declared.event.Event.TheVariants as event
 use Rattle.world3270.specs.declared.event.Stepped.TheVariants as stepped
-use Rattle.world3270.proofs.Acting.{asking_parts, may_act_when}
+use Rattle.world3270.proofs.Acting.{asking_parts, may_act_at, may_act_when}
+use Rattle.world3270.proofs.AskedOverBytes.{shows_its_fields}
+use Rattle.world3270.proofs.Leading.{Leads, asked_about, leads_now, occasion_now}
+use Rattle.world3270.proofs.ShownPanels.{shown_again}
 use Rattle.world3270.proofs.Headline.{terminal_attached}
 use Rattle.world3270.proofs.HostSteps.{just_talks}
 use Rattle.world3270.proofs.Known.{after_more}
 use Rattle.world3270.proofs.SeenRepresents.{same_seen}
-use Rattle.world3270.proofs.ShownSince.{HasPanel, keeps_panel, same_panel, stands_at, still_waits}
+use Rattle.world3270.proofs.ShownSince.{HasPanel, done_answer, keeps_panel, same_panel, stands_at, still_waits}
 use Rattle.world3270.proofs.Undecided.{Keeps, rests_hold, rests_hold_over}
 use Rattle.world3270.proofs.Worlds.{new_good, run_good}
 
@@ -343,7 +352,7 @@ quiet_by wanted v (LinkPhase.InSession lu (SessionPhase.KeySentAfterResponse kin
 quiet_by wanted v (LinkPhase.InSession lu (SessionPhase.KeyCrossingNote number command parts)) f t p = absurd (cc)
 quiet_by wanted v (LinkPhase.InSession lu (SessionPhase.KeyBeforeNoteResponse number command parts)) f t p = absurd (cc)
 
-is_quiet : (app : Application) (link : Link) → ConnectionInvariant app (view_of link) → link.host.turn ≡ whose.Host → link.host.pending ≡ Pending.Nothing → IsQuiet link.term.display.keyboard.lock link.down link.up
+pub is_quiet : (app : Application) (link : Link) → ConnectionInvariant app (view_of link) → link.host.turn ≡ whose.Host → link.host.pending ≡ Pending.Nothing → IsQuiet link.term.display.keyboard.lock link.down link.up
 is_quiet app link k turns pends =
     let at = quiet_by k.wanted (view_of link) k.moment k.fact (sym k.at.turn ∙ turns) (sym k.at.pending ∙ pends) in
     record {
@@ -359,6 +368,7 @@ record IsSent (app : Application) (conn : Session) (said : Option ApplicationAns
   is : sending ≡ done_act app conn act
   turns : conn.turn ≡ whose.Host
   pends : conn.pending ≡ Pending.Nothing
+  agrees : is_agreed conn.talk.state ≡ true
 
 acts_in_turn : (app : Application) (conn : Session) → is_some (acted app conn) ≡ true → (sending : Sent) × (acted app conn ≡ Some sending) × IsSent app conn None sending
 acts_in_turn app conn some = by_test (may_act conn.turn conn.pending (is_agreed conn.talk.state)) (decision_on app conn conn.turn_reason) refl refl some
@@ -367,7 +377,7 @@ acts_in_turn app conn some = by_test (may_act conn.turn conn.pending (is_agreed 
         → (sending : Sent) × (option_and_then (decided app conn) (if b then Some decision else None) ≡ Some sending) × IsSent app conn None sending
     by_test true (Decision.Do act) may is some =
         let turns = may_act_when conn.turn conn.pending (is_agreed conn.talk.state) may in
-        (done_act app conn act, refl, record { act = act; decided_by = is; is = refl; turns = turns.0; pends = turns.1 })
+        (done_act app conn act, refl, record { act = act; decided_by = is; is = refl; turns = turns.0; pends = turns.1; agrees = turns.2 })
     by_test true Decision.Asks may is some = absurd (cc)
     by_test false decision may is some = absurd (cc)
 
@@ -379,7 +389,7 @@ answered_in_turn app conn said some = by_test (is_asking app conn && has_its_pan
     by_test true asks some =
         let parts = asking_parts app conn (and_parts (is_asking app conn) (has_its_panel app said) asks).0 in
         let turns = may_act_when conn.turn conn.pending (is_agreed conn.talk.state) parts.0 in
-        (done_act app conn (act_by app conn said (panel_for app conn said)), refl, record { act = act_by app conn said (panel_for app conn said); decided_by = (parts.1, refl); is = refl; turns = turns.0; pends = turns.1 })
+        (done_act app conn (act_by app conn said (panel_for app conn said)), refl, record { act = act_by app conn said (panel_for app conn said); decided_by = (parts.1, refl); is = refl; turns = turns.0; pends = turns.1; agrees = turns.2 })
     by_test false asks some = absurd (cc)
 
 -- the screen that is wanted by an act that shows a panel
@@ -395,6 +405,9 @@ record Started (app : Application) (said : Option ApplicationAnswer) (was now : 
   given : Values
   decided_by : IsDecidedBy app was.host said (Act.Show asked message keep given)
   host_is : now.host ≡ (done_act app was.host (Act.Show asked message keep given)).conn
+  turns : was.host.turn ≡ whose.Host
+  pends : was.host.pending ≡ Pending.Nothing
+  agrees : is_agreed was.host.talk.state ≡ true
   finds : FindsOn (wanted_of app was.host asked message keep given) was now
 
 sent_finds : (app : Application) (link : Link) (said : Option ApplicationAnswer) (sending : Sent) → ConnectionInvariant app (view_of link) → (sent : IsSent app link.host said sending) → is_painting sending.conn.pending ≡ true
@@ -414,6 +427,9 @@ sent_finds app link said sending k sent paints = by_act sent.act sent.is sent.de
           given = given;
           decided_by = decided_by;
           host_is = ap (λ (s : Sent). s.conn) is;
+          turns = sent.turns;
+          pends = sent.pends;
+          agrees = sent.agrees;
           finds = subst (λ (s : Sent). FindsOn wants link (host_sent (Some s) link)) (sym is)
               (record {
                 same_terminal = λ terminal here. here;
@@ -561,10 +577,36 @@ module _ (skips : SameSkips) (begin : WorldSetup) (is : IsWorldSetup begin) (eve
   one_decision (event.RestartTerm terminal) there steps goes = absurd (cc)
   one_decision event.RestartHost there steps goes = absurd (cc)
 
--- what was decided is what the host shows, as long as it has the panel, the values and the message of then
+-- what was decided is where the key leads, and what the host shows, as long as it has the panel, the values and the message of then
+started_leads : LowerLaws → (app : Application) → IsApplication app → ShowsItsFields app → ((model : Model) (panel : ℕ) → app.shown model (app.shown model panel) ≡ app.shown model panel) → (was now : Link) → ConnectionInvariant app (view_of was)
+    → (host : Session) (said : Option ApplicationAnswer) → (started : Started app said was now) → IsSamePanel now.host host → IsWhereItLeads app was.host was.term.display.screen host started.keep said
+started_leads given app is shows again was now k host None started same =
+    let may = may_act_at given app is was k started.turns started.pends started.agrees in
+    let leads = subst (Leads app was.host was.term.display.screen (panel_with_keys app was.host was.term.display.screen.aid)) started.decided_by (leads_now given app is shows again was k may) in
+    let led : IsLedTo app (model_in was.host) (panel_with_keys app was.host was.term.display.screen.aid) was.term.display.screen (app.shown (model_in was.host) started.asked) started.message started.keep = leads in
+    subst (λ (m : Message). IsLedTo app (model_in was.host) (panel_with_keys app was.host was.term.display.screen.aid) was.term.display.screen host.panel m started.keep) (sym (same.message ∙ ap (λ (c : Session). c.message) started.host_is))
+    (subst (λ (p : ℕ). IsLedTo app (model_in was.host) (panel_with_keys app was.host was.term.display.screen.aid) was.term.display.screen p started.message started.keep) (sym (same.panel ∙ ap (λ (c : Session). c.panel) started.host_is)) led)
+started_leads given app is shows again was now k host (Some said) started same =
+    let may = may_act_at given app is was k started.turns started.pends started.agrees in
+    let answered : IsAnswered app was.host said now.host =
+    subst (IsAnswered app was.host said) (sym (started.host_is ∙ ap (λ (act : Act). (done_act app was.host act).conn) started.decided_by.1)) (done_answer app was.host said (panel_for app was.host said) refl) in (
+      asked_about app was.host was.term.display.screen (panel_with_keys app was.host was.term.display.screen.aid) (decision_on app was.host was.host.turn_reason) started.decided_by.0 (leads_now given app is shows again was k may),
+      record { panel = same.panel ∙ answered.panel; values = same.values ∙ answered.values; message = same.message ∙ answered.message },
+    )
+
+-- a panel was shown before the key was pressed
+started_on : LowerLaws → (app : Application) → IsApplication app → ShowsItsFields app → ((model : Model) (panel : ℕ) → app.shown model (app.shown model panel) ≡ app.shown model panel) → (was now : Link) → ConnectionInvariant app (view_of was)
+    → (said : Option ApplicationAnswer) → Started app said was now → (was.term.display.screen.aid ≡ NoAid → ⊥) → HasShown was.host
+started_on given app is shows again was now k said started pressed = record {
+  answered = ap is_painting started.pends;
+  not_first = λ turn first. pressed (subst (λ (r : TurnReason). IsOccasion r was.term.display.screen.aid) first
+      (occasion_now given app is shows again was k (may_act_at given app is was k started.turns started.pends started.agrees)));
+}
+
 decision_painted : (app : Application) (said : Option ApplicationAnswer) (was now : Link) (host : Session) (before screen : Screen) → (started : Started app said was now) → IsSamePanel now.host host
-    → screen ≡ plainly_painted (wanted_of app was.host started.asked started.message started.keep started.given) before → IsDecisionPainted app was.host said host before screen
-decision_painted app said was now host before screen started same painted =
+    → screen ≡ plainly_painted (wanted_of app was.host started.asked started.message started.keep started.given) before → before ≡ was.term.display.screen → IsWhereItLeads app was.host was.term.display.screen host started.keep said
+    → IsDecisionPainted app was.host said host before screen
+decision_painted app said was now host before screen started same painted before_is leads =
     let panel_is : host.panel ≡ app.shown (model_in was.host) started.asked = same.panel ∙ ap (λ (c : Session). c.panel) started.host_is in
     let message_is : host.message ≡ started.message = same.message ∙ ap (λ (c : Session). c.message) started.host_is in
     let values_are : host.values ≡ values_shown app (app.shown (model_in was.host) started.asked) started.message started.given = same.values ∙ ap (λ (c : Session). c.values) started.host_is in
@@ -579,6 +621,7 @@ decision_painted app said was now host before screen started same painted =
           ∙ ap (λ (p : ℕ). plainly_painted (wanted_by app (when_shown was.host) p started.message started.keep (values_shown app (app.shown (model_in was.host) started.asked) started.message started.given)) before) (sym panel_is)
           ∙ ap (λ (m : Message). plainly_painted (wanted_by app (when_shown was.host) host.panel m started.keep (values_shown app (app.shown (model_in was.host) started.asked) started.message started.given)) before) (sym message_is)
           ∙ ap (λ (v : Values). plainly_painted (wanted_by app (when_shown was.host) host.panel host.message started.keep v) before) (sym values_are);
+      leads = subst (λ (s : Screen). IsWhereItLeads app was.host s host started.keep said) (sym before_is) leads;
     }
 
 -- a connection on which the host decides is open
@@ -610,11 +653,13 @@ open_before it number old new there steps = by_event it there (done_has_place it
     by_event (event.RestartTerm terminal) there place = absurd (cc)
     by_event event.RestartHost there place = absurd (cc)
 
-pub decisions_are_shown : LowerLaws → PanelsAreShown → StepsAreSimulated → SameSkips → PanelIsShownOverBytes → DecisionsAreShownOverBytes
-decisions_are_shown given panels go skips shown world number it events before chosen rest behind conn host terminal is real are there steps rests chosen_is paints world_is has terminal_is =
+pub decisions_are_shown : LowerLaws → PanelsAreShown → FieldsAreOnTheScreen → StepsAreSimulated → SameSkips → PanelIsShownOverBytes → DecisionsAreShownOverBytes
+decisions_are_shown given panels on_screen go skips shown world number it events before chosen rest behind conn host terminal is real are there steps rests chosen_is paints world_is has terminal_is =
     let begin : WorldSetup = is.begin in
     let app : Application = application_of begin.panels in
     let is_app : IsApplication app = panels begin.panels is.is_begin.panels.otherwise is.is_begin.panels.laid_out is.is_begin.panels.apart in
+    let shows : ShowsItsFields app = shows_its_fields on_screen begin.panels is.is_begin.panels in
+    let again = shown_again begin.panels is.is_begin.panels.otherwise in
     let was : World = after begin is.events in
     let good = run_good given app is_app is.events (new_world app begin.serves begin.pool begin.models) is.reached.are_events (new_good given app is_app begin.serves begin.pool begin.models is.is_begin.pool) in
     let goes = go begin is.events it before stepped.Done chosen is.is_begin is.reached real steps in
@@ -633,18 +678,27 @@ decisions_are_shown given panels go skips shown world number it events before ch
     let seen_now = sym (ap (λ (l : SeenLink). l.terminal) (same_seen world (after begin now.events) now.reached.stands number)) ∙ terminal_is in
     let found = found_there wants (was.link number) ((after begin now.events).link number) terminal now.holds (ap (λ (c : Session). is_painting c.pending) (sym last.same) ∙ has.answered) seen_now in
     let asks = open_before it number before chosen there steps in
-    let earlier = stands_at begin is.events before number asks.0 asks.1 is.reached asks.2 in (
+    let earlier = stands_at begin is.events before number asks.0 asks.1 is.reached asks.2 in
+    let same_then : IsSamePanel ((stepped_by app one.it was).link number).host host = subst (λ (c : Session). IsSamePanel c host) conn_is same in
+    let seen_before = ap (λ (l : SeenLink). l.terminal) (same_seen before was is.reached.stands number) ∙ found.there in
+    let screen_is : found.earlier.screen ≡ (was.link number).term.display.screen = ap (λ (t : TerminalSeen). t.screen) (terminal_attached (was.link number).term_here (was.link number).term found.earlier found.there).2 in (
       found.earlier,
-      ap (λ (l : SeenLink). l.terminal) (same_seen before was is.reached.stands number) ∙ found.there,
+      seen_before,
       record {
         rest = asks.0;
         conn = asks.1;
         is_open = asks.2;
         found = found.found;
+        pressed_on = λ pressed.
+            subst (λ (p : Panels). IsPanelShown (application_of p) true asks.1 found.earlier.before_restored found.earlier.last_restored) (is.reached.panels ∙ sym now.reached.panels)
+            (shown before is number asks.0 asks.1 found.earlier asks.2 seen_before
+            (subst HasShown (sym earlier.same)
+            (started_on given app is_app shows again (was.link number) ((stepped_by app one.it was).link number) (good.links number) (answer_over one.it) started (λ none. pressed (ap (λ (s : Screen). s.aid) screen_is ∙ none)))));
         decision = subst (λ (p : Panels). IsDecisionPainted (application_of p) asks.1 (answer_in it) host found.earlier.screen terminal.last_restored) (sym now.reached.panels)
             (subst (λ (c : Session). IsDecisionPainted app c (answer_in it) host found.earlier.screen terminal.last_restored) (sym earlier.same)
             (subst (λ (said : Option ApplicationAnswer). IsDecisionPainted app (was.link number).host said host found.earlier.screen terminal.last_restored) one.answers
-            (decision_painted app (answer_over one.it) (was.link number) ((stepped_by app one.it was).link number) host found.earlier.screen terminal.last_restored started (subst (λ (c : Session). IsSamePanel c host) conn_is same) found.painted)));
+            (decision_painted app (answer_over one.it) (was.link number) ((stepped_by app one.it was).link number) host found.earlier.screen terminal.last_restored started same_then found.painted screen_is
+            (started_leads given app is_app shows again (was.link number) ((stepped_by app one.it was).link number) (good.links number) host (answer_over one.it) started same_then))));
         shown = subst (λ (s : Screen). IsPanelShown (application_of world.host.panels) true host s terminal.last_restored) found.found.same_screen
             (shown world (record { begin = begin; is_begin = is.is_begin; events = now.events; reached = now.reached }) number behind host terminal world_is terminal_is has);
       },

@@ -159,7 +159,7 @@ is_character extent i below = (omega arith, omega (arith, below))
 -- ---- what is kept is known
 
 -- nothing of the panel is in doubt, or the screen was read
-abbrev IsSure : Application → Session → Type 0
+abbrev pub IsSure : Application → Session → Type 0
 IsSure app conn = (list_any (is_in_doubt conn.shadow) (app.fields conn.panel) ≡ false) ⊎ All IsTextKnown (fields_of conn.shadow)
 
 -- An act that keeps fields shows the same panel again, with the texts that are known as the values of its fields.
@@ -212,7 +212,7 @@ module _ (app : Application) (conn : Session) where
   empty_keeps panel values Ask = tt
 
   -- once the screen needn't be read
-  sure_then : (aid : Aid) (buffered : Bool) → IsKnownIfRead (turn_reasons.Key aid buffered) conn.shadow → (is_to_be_read app conn aid && not buffered) ≡ false → IsSure app conn
+  pub sure_then : (aid : Aid) (buffered : Bool) → IsKnownIfRead (turn_reasons.Key aid buffered) conn.shadow → (is_to_be_read app conn aid && not buffered) ≡ false → IsSure app conn
   sure_then aid true read unread = inr read
   sure_then (Pa key) false read unread = absurd (cc)
   sure_then NoAid false read unread = inl (unverified (is_verified conn) (list_any (is_in_doubt conn.shadow) (app.fields conn.panel)) unread)
@@ -351,6 +351,19 @@ stands_text field text screen attribute kept stands shows =
     let place : field.extent.first - 1 ≡ stands.on_screen.place = omega (arith, before) in
     let same : kept ≡ stands.on_screen.text = (listed_field screen.cells its shows).characters ∙ ap (field_text screen.cells) place ∙ sym (listed_field screen.cells stands.on_screen on).characters in
     ap without_nulls same ∙ stands.text_is
+
+-- and it is one text
+pub one_stands : (field : PanelField) (screen : Screen) (one other : List ℕ) → IsFieldText field one screen → IsFieldText field other screen → one ≡ other
+one_stands field screen one other first second =
+    let here = first.place in
+    let there = second.place in
+    let place : first.on_screen.place ≡ second.on_screen.place = omega (arith, here, there) in
+    sym first.text_is ∙ ap without_nulls (text_at first ∙ ap (field_text screen.cells) place ∙ sym (text_at second)) ∙ second.text_is
+  where
+    text_at : {text : List ℕ} (stands : IsFieldText field text screen) → stands.on_screen.text ≡ field_text screen.cells stands.on_screen.place
+    text_at stands =
+        (listed_field screen.cells stands.on_screen
+        (stands.index, slice_get_within (fields screen.cells) stands.index stands.on_screen stands.listed, get_or_from_slice_get (fields screen.cells) stands.index stands.on_screen stands.on_screen stands.listed)).characters
 
 -- ---- each field is shown
 

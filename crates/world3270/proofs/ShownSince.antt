@@ -106,7 +106,7 @@ leads_to app conn said panel is =
     by_panel None true is = refl
     by_panel None false is = sym (same_asked app conn conn.turn_reason is)
 
-done_answer : (app : Application) (conn : Session) (said : ApplicationAnswer) (panel : Option ℕ) → panel_for app conn said ≡ panel → IsAnswered app conn said (shown_by app conn (act_by app conn said panel)).conn
+pub done_answer : (app : Application) (conn : Session) (said : ApplicationAnswer) (panel : Option ℕ) → panel_for app conn said ≡ panel → IsAnswered app conn said (shown_by app conn (act_by app conn said panel)).conn
 done_answer app conn said None is =
     record { panel = ap (app.shown (model_in conn)) (leads_to app conn said None is); values = ap (values_for app conn said) (sym is); message = refl }
 done_answer app conn said (Some panel) is =

@@ -4,8 +4,10 @@ ghost use Rattle.world3270.specs.statement.Always.{Always, AlwaysOf, HeadlineHol
 ghost use Rattle.world3270.specs.statement.Asked.{AskedIsSeen, AskedIsSeenOverBytes, FieldsAreSeen, OtherPanelsAreNotAsked, PanelsAreAsked, ScreensAreAsLeft};
 ghost use Rattle.world3270.specs.statement.EveryTerminal.{EveryTerminal};
 ghost use Rattle.world3270.specs.statement.EveryTerminalBytes.{EveryTerminalOverBytes};
+ghost use Rattle.world3270.specs.statement.Instances.{WorldsBeginOverBytes};
 ghost use Rattle.world3270.specs.examples.Example.{TheRunsEndSo};
 ghost use Rattle.world3270.specs.statement.Forms.{FormsAreAwaited};
+ghost use Rattle.world3270.specs.statement.Leading.{KeysLeadToOne};
 ghost use Rattle.world3270.specs.refinement.LowerLaws.{LowerLaws};
 ghost use Rattle.world3270.specs.model.Steps.{RunsCompose};
 ghost use Rattle.world3270.specs.statement.History.{HostsHistoryIsKept, TerminalsHistoryIsKept};
@@ -340,8 +342,11 @@ pub fn bytes_follow_messages()
 /// again: after the paint is answered, panel, values, message and cursor field are those of the answer. A key that is
 /// pressed while the keyboard is locked for the host changes no screen. While the host has the turn and no note is
 /// under way, a screen stays until the host decides; and a paint finds the screen that the terminal had when the host
-/// decided to show the panel. So a field that is kept has the text that the operator had in it at the decision; a
-/// screen with another text in a field doesn't show the decision.
+/// decided to show the panel, and shows the decision of then. So a field that is kept has the text that the operator had
+/// in it at the decision; a screen with another text in a field doesn't show the decision. The panel is the one to which
+/// the key leads that was pressed on the screen (`Leading`): the target in `keys` of the panel that was on it, in the
+/// form for the model; the same panel, if the key isn't in `keys` or a required field was left blank; or the answer's.
+/// A key leads to one panel, with one message.
 pub fn what_is_shown_stays()
     ensures steps { StepsKeepPanels }
     ensures answers { AnswersAreShownOverBytes }
@@ -350,10 +355,12 @@ pub fn what_is_shown_stays()
     ensures turns_over_bytes { TurnsKeepTheScreenOverBytes }
     ensures found { AlwaysOf PaintsFindTheScreen }
     ensures decisions { DecisionsAreShownOverBytes }
+    ensures keys { KeysLeadToOne }
     ensures others { OtherTextsAreNotShown }
 {
     what_is_given();
     panels_are_shown();
+    fields_are_on_the_screen();
     bytes_follow_messages();
     what_is_answered_is_shown();
 }
@@ -425,4 +432,14 @@ pub fn every_terminal_over_bytes()
     sent_is_read();
     painted_fields_are_there();
     telnet_wire::laws::one_reading();
+}
+
+/// Law: worlds have the connections of which `every_terminal_over_bytes` speaks. Just after the host has agreed on an LU
+/// on a connection that isn't lost, and if it doesn't rely on the terminal's wait, host, terminal and the bytes under
+/// way are a begin as that theorem requires it.
+pub fn worlds_begin_so()
+    ensures { WorldsBeginOverBytes }
+{
+    what_is_given();
+    panels_are_shown();
 }

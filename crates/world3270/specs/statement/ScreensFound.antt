@@ -2,6 +2,7 @@
 -- the keyboard is locked, and only the paint is under way. So a field that is kept has what the operator had in it at
 -- the decision.
 use Rattle.std.specs.Prelude.{◌≡◌, ◌≢◌, ◌==◌, ℕ, Bool, true, false, List, [], ◌∷◌, Option, None, Some, ⊤, slice_get}
+use Rattle.codes3270.specs.declared.attention.Aid.TheVariants.{NoAid}
 use Rattle.codes3270.specs.declared.attribute.Attr.{Attr}
 use Rattle.datastream.specs.Screen.{Screen}
 use Rattle.panels.specs.Screen.{Values, field_content}
@@ -22,6 +23,7 @@ use Rattle.world3270.specs.model.Enabled.{is_enabled}
 use Rattle.world3270.specs.refinement.Refines.{AreValidEvents, IsReached, IsValidEvent}
 use Rattle.world3270.specs.statement.Observation.{TerminalSeen, seen_link}
 use Rattle.world3270.specs.statement.ByteObservation.{seen_connection}
+use Rattle.world3270.specs.statement.Leading.{IsWhereItLeads}
 use Rattle.world3270.specs.statement.Shown.{HasShown, IsPanelShown, is_painting}
 use Rattle.world3270.specs.statement.ShownFields.{ShowsField, fitted}
 use Rattle.world3270.specs.statement.ShownSince.{HostRests, decides}
@@ -99,7 +101,8 @@ IsDecidedBy app conn (Some said) act = (is_ask (decision_on app conn conn.turn_r
     × (act ≡ act_by app conn said (panel_for app conn said))
 
 -- Holds if the session `conn` decided on what `host` shows, by itself or by this answer: its decision is to show this
--- panel with this message; and `screen` is the wanted screen of that decision, painted on the screen `before`.
+-- panel with this message, where the key leads that was pressed on the screen `before`; and `screen` is the wanted
+-- screen of that decision, painted on `before`.
 pub record IsDecisionPainted (app : Application) (conn : Session) (said : Option ApplicationAnswer) (host : Session)
     (before screen : Screen) : Type 0 where
   pub asked : ℕ
@@ -110,21 +113,25 @@ pub record IsDecisionPainted (app : Application) (conn : Session) (said : Option
   pub values_are : host.values ≡ values_shown app host.panel host.message given
   pub painted : screen
       ≡ plainly_painted (wanted_by app (when_shown conn) host.panel host.message keep host.values) before
+  pub leads : IsWhereItLeads app conn before host keep said
 
 -- Holds if a terminal shows a decision that the host made by this event in this state of the connection: its screen is
 -- the wanted screen of that decision, painted on the screen that it had when the host decided; and it shows the panel.
+-- If a key was pressed on that screen, the screen that was left before showed the connection's panel of then.
 pub record IsDecisionShown (app : Application) (event : Event) (service : Service) (host : Session)
     (was terminal : TerminalSeen) : Type 0 where
   pub rest : Rest
   pub conn : Session
   pub is_open : service ≡ Service.Open rest conn
   pub found : IsFound was terminal
+  pub pressed_on : was.screen.aid ≢ NoAid → IsPanelShown app true conn was.before_restored was.last_restored
   pub decision : IsDecisionPainted app conn (answer_in event) host was.screen terminal.last_restored
   pub shown : IsPanelShown app true host was.screen terminal.last_restored
 
 -- If the host decided by this event to show a panel on a connection, and has decided nothing there since, then after
--- the paint is answered the terminal shows that decision. So each field of the panel has the host's value or fill, or,
--- cell by cell, the text that the operator had in it when the host decided.
+-- the paint is answered the terminal shows that decision. So it shows the panel to which the key leads that was pressed;
+-- each field of it has the host's value or fill, or, cell by cell, the text that the operator had in it when the host
+-- decided.
 abbrev pub DecisionsAreShown : ByteWorld → Type 0
 DecisionsAreShown world = (number : ℕ) (event : Event) (events : List Event) (before decided : ByteWorld)
     (rest behind : Rest) (conn host : Session) (terminal : TerminalSeen)
