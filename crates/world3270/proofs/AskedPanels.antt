@@ -1,11 +1,6 @@
 -- A question is about the panel that the screen shows: where one is open, the panel's paint was answered.
-use Rattle.std.proofs.Common.{◌≡◌, ℕ, Bool, false, Some, refl, ap, sym, subst, ◌∙◌}
+use Rattle.std.proofs.Common.{◌≡◌, ℕ, false, Some, ap, sym, ◌∙◌}
 use Rattle.std.specs.Prelude.{slice_get}
-use Rattle.codes3270.specs.declared.attribute.Cell.TheVariants.{Char}
-use Rattle.datastream.specs.Screen.{Screen}
-use Rattle.datastream.specs.Wanted.{WantedScreen}
-use Rattle.datastream.specs.declared.wanted.Want.TheVariants as want
-use Rattle.host_core.specs.Acts.{when_shown}
 use Rattle.host_core.specs.Application.{Application}
 use Rattle.host_core.specs.Questions.{is_asking, is_screen_empty, question_in, question_on}
 use Rattle.host_core.specs.Session.{Session, agreed_lu, is_agreed}
@@ -16,9 +11,7 @@ use Rattle.world3270.specs.model.World.{World, new_world}
 use Rattle.world3270.specs.statement.Always.{AlwaysOf}
 use Rattle.world3270.specs.statement.Asked.{OtherPanelsAreNotAsked, PanelsAreAsked}
 use Rattle.world3270.specs.statement.Shown.{FieldsAreShown, HasShown, is_painting}
-use Rattle.world3270.specs.statement.ShownFields.{WantsItsFields}
-use Rattle.world3270.specs.statement.Showing.{ShowsItsPanel}
-use Rattle.world3270.proofs.Acting.{asking_parts, may_act_when, same_asked, wanted_in_a_way}
+use Rattle.world3270.proofs.Acting.{asking_parts, may_act_when, same_asked}
 use Rattle.world3270.proofs.Asked.{asked_there, later_for, question_is}
 use Rattle.world3270.proofs.ShownFields.{char_shown}
 

@@ -1,5 +1,5 @@
 -- Where a key leads: it is read off the moment in which the host decides.
-use Rattle.std.proofs.Common.{◌≡◌, ◌≢◌, ◌⊎◌, inl, inr, ◌==◌, ◌&&◌, ◌<◌, ◌≤◌, not, arith, ℕ, zero, suc, Bool, true, false, Option, None, Some, List, [], ◌∷◌, length, take, refl, ap, sym, subst, ◌∙◌, if◌then◌else◌}
+use Rattle.std.proofs.Common.{◌≡◌, ◌≢◌, ◌⊎◌, inl, inr, ◌&&◌, ◌<◌, ◌≤◌, not, arith, ℕ, zero, suc, Bool, true, false, Option, None, Some, List, [], ◌∷◌, take, refl, ap, sym, subst, ◌∙◌, if◌then◌else◌}
 use Rattle.std.specs.Prelude.{⊤, slice_get, unwrap_or}
 use Rattle.std.proofs.lemmas.Bool.{and_parts, cases_lt}
 use Rattle.std.proofs.lemmas.Option.{same_Some}
