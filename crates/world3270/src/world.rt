@@ -213,6 +213,7 @@ impl World {
     /// decided to show a panel on a connection, by itself or by an application's answer, and has decided nothing there
     /// since: after the paint is answered, the terminal is the one that was there at the decision, and a field that is
     /// kept has, cell by cell, the attribute and the text that this terminal's screen had in it at the decision.
+    /// The panel is the one to which the key leads that was pressed on that screen, or the answer's (`specs/Leading`).
     pub fn decisions_are_shown(&self)
         ensures { DecisionsAreShown self.now }
     {
