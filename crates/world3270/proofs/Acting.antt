@@ -15,13 +15,12 @@ use Rattle.panels.specs.Screen.{Values}
 use Rattle.shadow.specs.Belief.{Shadow}
 use Rattle.shadow.specs.Meets.{Meets}
 use Rattle.shadow.specs.TextUnknown.{NothingIsOpen}
-use Rattle.shadow.specs.Fits.{fits}
 use Rattle.shadow.specs.Paint.{paint}
 use Rattle.tn3270e_msg.specs.Talk.{Talk}
 use Rattle.tn3270e_msg.specs.declared.host_talk.HostState.{HostState}
 use Rattle.panels.specs.declared.next.Next.{Next}
 use Rattle.panels.specs.declared.next.Next.TheVariants.{Go, Ask, Again}
-use Rattle.host_core.specs.Acts.{Act, Decision, Sent as SentValue, after_key, decided, decision_on, first_panel, on_empty, wanted_by, done, may_act, acted, painted, known_despite, unheard_next, values_shown, when_shown}
+use Rattle.host_core.specs.Acts.{Act, Decision, Sent as SentValue, after_key, decided, decision_on, first_panel, on_empty, wanted_by, done, may_act, may_keep, acted, painted, known_despite, unheard_next, values_shown, when_shown}
 use Rattle.host_core.specs.Application.{Application, IsApplication, IsSizeOf}
 use Rattle.host_core.specs.Laws.{IsPaintable}
 use Rattle.host_core.specs.Takes.{may_have_changed}
@@ -150,7 +149,7 @@ wanted_if_fits false app panel message values = (false, refl)
 
 pub wanted_in_a_way : (app : Application) (conn : Session) (panel : ℕ) (message : Message) (keep : Bool) (values : Values)
     → (way : Bool) × (wanted_by app conn panel message keep values ≡ app.screen panel values message way)
-wanted_in_a_way app conn panel message true values = wanted_if_fits (fits conn.shadow (app.screen panel values message true)) app panel message values
+wanted_in_a_way app conn panel message true values = wanted_if_fits (may_keep conn (app.screen panel values message true)) app panel message values
 wanted_in_a_way app conn panel message false values = (false, refl)
 
 -- it is the one of the connection's panel from then on

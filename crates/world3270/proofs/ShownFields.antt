@@ -29,14 +29,14 @@ use Rattle.panels.specs.declared.next.Next.{Next}
 use Rattle.panels.specs.declared.next.Next.TheVariants.{Go, Ask, Again}
 use Rattle.panels.specs.declared.panel.Field.{Field as PanelField}
 use Rattle.shadow.specs.Belief.{Belief, Shadow, fields_of}
-use Rattle.shadow.specs.Fits.{fields_fit, fits, is_keep, is_paintable}
+use Rattle.shadow.specs.Fits.{fields_fit, is_keep, is_paintable}
 use Rattle.shadow.specs.Heard.{after_attention}
 use Rattle.shadow.specs.Meets.{Meets}
 use Rattle.shadow.specs.Painted.{cells_under, painted_from, plainly_painted}
 use Rattle.shadow.specs.PaintedFields.{HasField, KeptStaysThere, WantsKept, WantsWritten, WrittenIsThere}
 use Rattle.shadow.proofs.Keeps.{no_keep, paintable_fits}
 use Rattle.shadow.proofs.Paints.{length-under}
-use Rattle.host_core.specs.Acts.{Act, Decision, after_key, belief_of, decision_on, first_missing, first_panel, is_in_doubt, is_to_be_read, learned, on_empty, on_key, once_filled_in, known_despite, check_required, wanted_by, when_shown}
+use Rattle.host_core.specs.Acts.{Act, Decision, after_key, belief_of, decision_on, first_missing, first_panel, is_in_doubt, is_to_be_read, learned, on_empty, on_key, once_filled_in, known_despite, check_required, may_keep, wanted_by, when_shown}
 use Rattle.host_core.specs.Application.{Application, IsApplication}
 use Rattle.host_core.specs.Questions.{act_by, has_value_of, panel_for}
 use Rattle.host_core.specs.Session.{Session, model_in}
@@ -492,7 +492,7 @@ fields_shown written kept app is wants waits host before screen shown = by_keep 
         → AreShown waits (app.fields panel) values message before screen
     by_keep true same decided knows is_that =
         let so = kept_again app conn shown.wanted_for.asked message given decided in
-        if_fits (fits (when_shown conn).shadow (app.screen panel values message true))
+        if_fits (may_keep (when_shown conn) (app.screen panel values message true))
         (subst (Keeps app conn shown.wanted_for.asked) (same so) (act_keeps app conn shown.wanted_for.asked message given decided (knows refl))) (knows refl) so is_that
     by_keep false same decided knows is_that = in_full is_that
 
