@@ -75,11 +75,12 @@ SIGN_ON_OVER_HELLO = (
     " 11 C2 60 1D F0 E4 E2 C5 D9 11 C2 E6 1D 40 11 C2 6F 1D F0"
     " 11 C3 F0 1D F0 C4 C5 D7 E3 11 C3 F6 1D 40 11 C3 7B 1D F0 11 C2 E7 13"
 )
-# The messages of 14 characters, and the write that shows one on SIGN ON, whose fields are kept: the
-# cursor is at 167.
-REQUIRED_USER = "D9 C5 D8 E4 C9 D9 C5 C4 7A 40 A4 A2 85 99"
-KEY_NOT_ACTIVE = "D2 C5 E8 40 D5 D6 E3 40 C1 C3 E3 C9 E5 C5"
-TOLD = "F1 C2 11 5C F1 {} 11 C2 E7 13"
+# The messages of 14 characters, and the write that shows SIGN ON again with one: `user` and `dept` are
+# written whole, with their attributes, and the cursor is at 167. MDT is on if there is a text.
+REQUIRED_USER = " 11 5C F1 D9 C5 D8 E4 C9 D9 C5 C4 7A 40 A4 A2 85 99"
+KEY_NOT_ACTIVE = " 11 5C F1 D2 C5 E8 40 D5 D6 E3 40 C1 C3 E3 C9 E5 C5"
+AGAIN = "F1 C2 11 C2 E6 1D {} 11 C3 F6 1D 40 00*4{} 11 C2 E7 13"
+NOBODY, AB = "40 00*8", "C1 C1 C2 00*6"
 READ_BUFFER = "F2"
 # What keys send: the AID and, but for PA1 and Clear, the cursor, and each field with MDT on.
 ENTER, ENTER_A, PF3, PA1, CLEAR = "7D C2 E7", "7D C2 E8 11 C2 E7 C1", "F3 40 40", "6C", "6D"
@@ -192,26 +193,26 @@ def what_is_typed_in_the_wait_is_written_over():
 
 
 @check
-def what_is_typed_in_the_wait_stays_where_fields_are_kept():
-    """A panel that is shown again with a message keeps it, and the next key returns it."""
+def what_is_typed_in_the_wait_is_gone_from_a_panel_that_is_shown_again():
+    """It has what the host was told, whatever is in its fields: here nothing."""
     with at_the_sign_on() as client:
         client.sends(ENTER)
-        client.is_shown(TOLD.format(REQUIRED_USER))
-        # An A was typed into `user`, and an X into `dept`.
-        client.sends("7D C2 E8 11 C2 E7 C1 11 C3 F7 E7")
+        # BOB is typed into `user` before this comes, and written over by it.
+        client.is_shown(AGAIN.format(NOBODY, REQUIRED_USER))
+        client.sends(ENTER_A)
         goes_on(client, HELLO_OVER_SIGN_ON + NO_MESSAGE + TO_ORIGIN)
 
 
 @check
-def a_kept_field_that_is_not_returned_is_read():
-    """It may have been erased in the wait, or not: the host reads the screen."""
+def what_is_typed_in_the_wait_never_counts():
+    """ANN is told by Enter. Reset, Home and BOB, before HELLO is there, aren't told: the host
+    doesn't read the screen."""
     with at_the_sign_on() as client:
         client.sends(ENTER)
-        client.is_shown(TOLD.format(REQUIRED_USER))
-        client.sends(ENTER_A)
-        client.is_sent(READ_BUFFER, response=1)
-        client.sends(screen_read("7D", "C1 00*7", message=REQUIRED_USER))
-        goes_on(client, HELLO_OVER_SIGN_ON + NO_MESSAGE + TO_ORIGIN)
+        client.is_shown(AGAIN.format(NOBODY, REQUIRED_USER))
+        client.sends("7D C2 EA 11 C2 E7 C1 D5 D5")
+        hello_ann = HELLO_OVER_SIGN_ON.replace("1D F0 C1", "1D F0 C1 D5 D5")
+        client.is_shown(hello_ann + NO_MESSAGE + TO_ORIGIN)
 
 
 @check
@@ -245,12 +246,13 @@ def a_key_while_a_read_is_pending_is_dropped():
             client.sends(PA1)
             client.is_sent(READ_BUFFER, response=1)
             client.sends(second, screen_read(second[:2], "C1 C2 00*6"))
-            client.is_shown(TOLD.format(KEY_NOT_ACTIVE))
+            client.is_shown(AGAIN.format(AB, KEY_NOT_ACTIVE))
             client.sends(PA1)
             client.is_sent(READ_BUFFER, response=1)
-            client.sends(screen_read("6C", "C1 C2 00*6", message=KEY_NOT_ACTIVE))
+            message = KEY_NOT_ACTIVE.removeprefix(" 11 5C F1 ")
+            client.sends(screen_read("6C", "C1 C2 00*6", message=message))
             # The message is there already.
-            client.is_shown("F1 C2 11 C2 E7 13")
+            client.is_shown(AGAIN.format(AB, ""))
 
 
 @check

@@ -2,8 +2,8 @@
 point of the wait.
 
 The expected screens are what examples/bank.toml has at its rows and columns, that is those of an
-operator who waits; only in fields that are kept is what was typed in the wait. Nothing depends on
-time: what comes is handed on when the operator has done what is to be done."""
+operator who waits. Only PA1 is answered by what is on the screen when the host reads it. Nothing
+depends on time: what comes is handed on when the operator has done what is to be done."""
 import contextlib
 import functools
 import itertools
@@ -164,8 +164,7 @@ def sees(what, operator, wanted):
 # ---- what is done in the wait
 
 TYPED = "AMOUNT 9999.00"
-# Each is some actions behind Reset, and what they make of the fields of TRANSFER: where these are
-# kept, they stay so.
+# Each is some actions behind Reset, and what they make of the fields of TRANSFER.
 DONE_IN_THE_WAIT = {
     "types into an empty field": (
         [at("TRANSFER", "reference"), f'String("{TYPED}")'], lambda it: {**it, "reference": TYPED}
@@ -195,6 +194,8 @@ KEYS = {
     "Enter, without an amount,": ("Enter", ("amount",), 2),
     "PA1": ("PA(1)", (), 4),
 }
+# From this point on the screen is read.
+READ = 2
 MESSAGES = {"Enter, without an amount,": "REQUIRED: amount", "PA1": "KEY NOT ACTIVE"}
 
 
@@ -223,11 +224,9 @@ def in_the_wait(model, key, point, what, second):
         proxy.opens()
         proxy.settles()
         if key in MESSAGES:
-            sees(
-                "the same panel",
-                operator,
-                screen(model, "TRANSFER", shown, change(texts), MESSAGES[key]),
-            )
+            if key == "PA1" and point < READ:
+                texts = change(texts)
+            sees("the same panel", operator, screen(model, "TRANSFER", shown, texts, MESSAGES[key]))
             operator.fills_in("TRANSFER", FILLED_IN)
             operator.does("Enter", "Wait(Unlock)")
         sees("DONE", operator, screen(model, "DONE", shown))

@@ -14,7 +14,8 @@ use Rattle.panels.specs.declared.message.Message.{Message}
 use Rattle.panels.specs.Screen.{Values}
 use Rattle.host_core.specs.Application.{Application, IsApplication, IsSizeOf, KeepsNothing}
 use Rattle.host_core.specs.Session.{Session, model_in}
-use Rattle.host_core.specs.Acts.{known_despite, Act, values_shown, wanted_by, when_shown}
+use Rattle.host_core.specs.Acts.{known_despite, Act, may_keep, values_shown, wanted_by, when_shown}
+use Rattle.host_core.specs.Takes.{may_have_changed}
 use Rattle.host_core.specs.Laws.{IsPaintable, ActsFit, SizesAreTheModels, MayBeNow, UnheardIsAllowed}
 use Rattle.host_core.specs.declared.unheard.Unheard.{Unheard}
 use Rattle.host_core.specs.declared.unheard.Unheard.TheVariants as unheards
@@ -74,13 +75,13 @@ whole_paints app shadow panel values message is = record {
 pub paints : (app : Application) (conn : Session) (panel : ℕ) (message : Message) (keep : Bool) (values : Values) → IsApplication app
     → let wanted = wanted_by app conn panel message keep values in IsPaintable wanted.size conn.shadow wanted
 paints app conn panel message false values is = whole_paints app conn.shadow panel values message is
-paints app conn panel message true values is = by_fit (fits conn.shadow kept) refl
+paints app conn panel message true values is = by_fit (may_keep conn kept) refl
   where
     kept : WantedScreen
     kept = app.screen panel values message true
 
-    by_fit : (b : Bool) → fits conn.shadow kept ≡ b → let wanted = (if b then kept else app.screen panel values message false) in IsPaintable wanted.size conn.shadow wanted
-    by_fit true e = record { fits = fitting_fits conn.shadow kept e; showable = is.showable panel values message true }
+    by_fit : (b : Bool) → may_keep conn kept ≡ b → let wanted = (if b then kept else app.screen panel values message false) in IsPaintable wanted.size conn.shadow wanted
+    by_fit true e = record { fits = fitting_fits conn.shadow kept (and_parts (not (may_have_changed conn.unheard)) (fits conn.shadow kept) e).1; showable = is.showable panel values message true }
     by_fit false e = whole_paints app conn.shadow panel values message is
 
 pub acts_fit : ActsFit
@@ -93,7 +94,7 @@ acts_fit app conn (Act.Show panel message keep values) is =
 wanted_size : (app : Application) (conn : Session) (model : Model) (panel : ℕ) (message : Message) (keep : Bool) (values : Values) → IsApplication app
     → IsSizeOf app model (wanted_by app conn (app.shown model panel) message keep values).size
 wanted_size app conn model panel message false values is = is.sizes model panel values message false
-wanted_size app conn model panel message true values is = by_fit (fits conn.shadow kept)
+wanted_size app conn model panel message true values is = by_fit (may_keep conn kept)
   where
     kept : WantedScreen
     kept = app.screen (app.shown model panel) values message true

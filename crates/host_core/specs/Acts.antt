@@ -29,10 +29,10 @@ use Rattle.host_core.specs.declared.turn_reason.TurnReason.TheVariants as turn_r
 use Rattle.host_core.specs.declared.unheard.Unheard.{Unheard}
 use Rattle.host_core.specs.declared.unheard.Unheard.TheVariants as unheards
 use Rattle.host_core.specs.Session.{Session, Pending, is_agreed, model_in}
-use Rattle.host_core.specs.Takes.{is_verified}
+use Rattle.host_core.specs.Takes.{is_verified, may_have_changed}
 
 -- what the host may do in its turn: send Read Buffer, or show a panel, in the form for the terminal's model, with a
--- message and these values; with `keep`, fields keep what the operator left in them, if that fits the belief
+-- message and these values; with `keep`, fields keep what the operator left in them, if the host may keep fields
 pub data Act : Type 0 where
   Read : Act
   Show : (panel : ℕ) → Message → (keep : Bool) → Values → Act
@@ -164,9 +164,14 @@ when_shown conn = record conn { shadow = known_despite conn.unheard conn.shadow;
 
 -- ---- what is sent
 
--- the wanted screen: the one that keeps fields if it fits what is believed, else a whole one
+-- Fields may be kept if the wanted screen fits what is believed. A host that doesn't rely on the wait keeps none: what
+-- was typed in the wait is gone from each panel that it shows.
+abbrev pub may_keep : Session → WantedScreen → Bool
+may_keep conn kept = not (may_have_changed conn.unheard) && fits conn.shadow kept
+
+-- the wanted screen: the one that keeps fields if it may, else a whole one
 abbrev pub wanted_if : Application → Session → ℕ → Message → Values → WantedScreen → WantedScreen
-wanted_if app conn panel message values kept = if fits conn.shadow kept then kept
+wanted_if app conn panel message values kept = if may_keep conn kept then kept
     else app.screen panel values message false
 
 -- the wanted screen, with the flag for fields that are kept

@@ -17,7 +17,7 @@ ghost use Rattle.host_core.specs.Says.{command_header, read_buffer_bytes};
 ghost use Rattle.host_core.specs.Session.{model_in};
 ghost use Rattle.host_core.specs.Sound.{IsShownOn};
 ghost use Rattle.host_core.specs.Representation.{DoesOn, IsSentOn};
-ghost use Rattle.host_core.specs.Acts.{Act as ActValue, done, values_shown, wanted_by, when_shown};
+ghost use Rattle.host_core.specs.Acts.{Act as ActValue, done, may_keep, values_shown, wanted_by, when_shown};
 ghost use Rattle.host_core.specs.Choices.{CanBeShown, act_of};
 
 use crate::acted::Acted;
@@ -131,7 +131,14 @@ impl Session {
         }
     }
 
-    /// Fills a wanted screen of nulls: with kept fields, if that is asked for and fits the belief, else whole.
+    /// Whether a wanted screen may keep fields: it fits the belief, and the host relies on the terminal's wait.
+    fn may_keep(&self, wanted: &Wanted) -> bool
+        ensures { result ≡ may_keep self.now wanted.now }
+    {
+        !self.unheard.may_have_changed() && self.shadow.fits(wanted)
+    }
+
+    /// Fills a wanted screen of nulls: with kept fields, if that is asked for and may be, else whole.
     fn put_wanted(&self, wanted: &mut Wanted, panels: &PanelSet, shown: &Shown, values: &Values)
         requires shown { CanBeShown (length panels.now.panels) shown.now }
         requires size { wanted.old.size ≡ size_of (panel_at panels.now shown.now.panel) }
@@ -141,7 +148,7 @@ impl Session {
     {
         let panel = panel_in(panels, shown.panel);
         panel.put_wanted(wanted, values, shown.message, shown.keep);
-        if shown.keep && !self.shadow.fits(wanted) {
+        if shown.keep && !self.may_keep(wanted) {
             panel.put_values(wanted, values, shown.message);
         }
     }

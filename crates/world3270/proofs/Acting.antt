@@ -15,13 +15,12 @@ use Rattle.panels.specs.Screen.{Values}
 use Rattle.shadow.specs.Belief.{Shadow}
 use Rattle.shadow.specs.Meets.{Meets}
 use Rattle.shadow.specs.TextUnknown.{NothingIsOpen}
-use Rattle.shadow.specs.Fits.{fits}
 use Rattle.shadow.specs.Paint.{paint}
 use Rattle.tn3270e_msg.specs.Talk.{Talk}
 use Rattle.tn3270e_msg.specs.declared.host_talk.HostState.{HostState}
 use Rattle.panels.specs.declared.next.Next.{Next}
 use Rattle.panels.specs.declared.next.Next.TheVariants.{Go, Ask, Again}
-use Rattle.host_core.specs.Acts.{Act, Decision, Sent as SentValue, after_key, decided, decision_on, first_panel, on_empty, wanted_by, done, may_act, acted, painted, known_despite, unheard_next, values_shown, when_shown}
+use Rattle.host_core.specs.Acts.{Act, Decision, Sent as SentValue, after_key, decided, decision_on, first_panel, on_empty, wanted_by, done, may_act, may_keep, acted, painted, known_despite, unheard_next, values_shown, when_shown}
 use Rattle.host_core.specs.Application.{Application, IsApplication, IsSizeOf}
 use Rattle.host_core.specs.Laws.{IsPaintable}
 use Rattle.host_core.specs.Takes.{may_have_changed}
@@ -150,7 +149,7 @@ wanted_if_fits false app panel message values = (false, refl)
 
 pub wanted_in_a_way : (app : Application) (conn : Session) (panel : ℕ) (message : Message) (keep : Bool) (values : Values)
     → (way : Bool) × (wanted_by app conn panel message keep values ≡ app.screen panel values message way)
-wanted_in_a_way app conn panel message true values = wanted_if_fits (fits conn.shadow (app.screen panel values message true)) app panel message values
+wanted_in_a_way app conn panel message true values = wanted_if_fits (may_keep conn (app.screen panel values message true)) app panel message values
 wanted_in_a_way app conn panel message false values = (false, refl)
 
 -- it is the one of the connection's panel from then on
@@ -197,7 +196,7 @@ reads_uncleared app conn (turn_reasons.Key pressed buffered) aid is e clear = ke
 reads_uncleared app conn turn_reasons.Refusal aid is e clear = absurd is
 
 -- and nothing before a panel was shown
-reads_later : (app : Application) (conn : Session) → decision_on app conn conn.turn_reason ≡ Decision.Do Act.Read → conn.turn_reason ≡ turn_reasons.Agreement → ⊥
+pub reads_later : (app : Application) (conn : Session) → decision_on app conn conn.turn_reason ≡ Decision.Do Act.Read → conn.turn_reason ≡ turn_reasons.Agreement → ⊥
 reads_later app conn e agreement =
     empty_unread app.start conn.values (app.next (first_panel app conn) NoAid) (sym (ap (λ (r : TurnReason). decision_on app conn r) agreement) ∙ e)
 
@@ -299,7 +298,7 @@ module _ (given : LowerLaws) (app : Application) (is : IsApplication app) (link 
       (wants_its app link.term.waits link.host link.term.display.screen panel message keep values choice knows meets)
 
   -- what it knows when it decides on a key
-  knows_its : ShownIn app link.term.waits link.host link.term.display.before_restored link.term.display.last_restored link.term.display.screen SessionPhase.Deciding → (link.host.turn_reason ≡ turn_reasons.Agreement → ⊥) → KnowsItsFields app link.host
+  pub knows_its : ShownIn app link.term.waits link.host link.term.display.before_restored link.term.display.last_restored link.term.display.screen SessionPhase.Deciding → (link.host.turn_reason ≡ turn_reasons.Agreement → ⊥) → KnowsItsFields app link.host
   knows_its showing later =
       let wanted = (showing.0 later).wanted_for in
       record {
@@ -401,7 +400,7 @@ module _ (given : LowerLaws) (app : Application) (is : IsApplication app) (link 
       by_panel (Some shown_next) is_panel =
           paints lu shown_next (Told said.message said.cursor) false (values_for app link.host said (Some shown_next)) closed at f (answer_choice said (Some shown_next) is_panel is_asked) (λ keeps. absurd (cc))
 
-  may_act_at : link.host.turn ≡ whose.Host → link.host.pending ≡ Pending.Nothing → is_agreed link.host.talk.state ≡ true → MayAct app link k.wanted
+  pub may_act_at : link.host.turn ≡ whose.Host → link.host.pending ≡ Pending.Nothing → is_agreed link.host.talk.state ≡ true → MayAct app link k.wanted
   may_act_at turns pends agrees = by_moment k.moment k.sizes k.at k.fact k.shown
     where
       by_talk : (talking : NegotiationPhase) → IsAt (view_of link) k.wanted (LinkPhase.Negotiating talking) → IsNew (local_state_of (view_of link)) → (lu : List ℕ) × (talking ≡ NegotiationPhase.Agreeing lu) → MayAct app link k.wanted

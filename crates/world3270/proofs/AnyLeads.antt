@@ -12,12 +12,11 @@ use Rattle.datastream.specs.InboundText.{InboundParts, stands_alone}
 use Rattle.datastream.specs.Screen.{Screen, is_char, last_attribute, text_before_attribute}
 use Rattle.datastream.specs.declared.inbound_part.Form.TheVariants.{Buffer, Modified}
 use Rattle.datastream.proofs.FieldViews.{no_attribute, none_listed}
-use Rattle.shadow.specs.Fits.{fits}
 use Rattle.panels.specs.Screen.{Values}
 use Rattle.panels.specs.declared.message.Message.{Message}
 use Rattle.panels.specs.declared.next.Next.{Next}
 use Rattle.panels.specs.declared.next.Next.TheVariants.{Go, Ask, Again}
-use Rattle.host_core.specs.Acts.{wanted_by, when_shown, Act, Decision, Sent, decided, decision_on, done, first_panel, acted, may_act, on_empty}
+use Rattle.host_core.specs.Acts.{may_keep, wanted_by, when_shown, Act, Decision, Sent, decided, decision_on, done, first_panel, acted, may_act, on_empty}
 use Rattle.host_core.specs.Application.{Application, IsApplication, IsShowable, message_place}
 use Rattle.host_core.specs.NoteLaws.{HasMessageRow, IsProtectedRow}
 use Rattle.host_core.specs.Messages.{ToHost, Verdict, ToTerminal}
@@ -92,7 +91,7 @@ row_there (cell ∷ cells) (suc place) row none = row_there cells place row none
 wanted_showable : (app : Application) → IsApplication app → (conn : Session) (panel : ℕ) (message : Message) (keep : Bool) (values : Values)
     → let wanted = wanted_by app conn panel message keep values in IsShowable wanted.size wanted
 wanted_showable app is conn panel message false values = is.showable panel values message false
-wanted_showable app is conn panel message true values = by_fit (fits conn.shadow (app.screen panel values message true))
+wanted_showable app is conn panel message true values = by_fit (may_keep conn (app.screen panel values message true))
   where
     by_fit : (b : Bool) → let wanted = if b then app.screen panel values message true else app.screen panel values message false in IsShowable wanted.size wanted
     by_fit true = is.showable panel values message true

@@ -34,7 +34,7 @@ use Rattle.host_core.specs.declared.question.Question.{Question}
 use Rattle.host_core.specs.declared.turn_reason.TurnReason.{TurnReason}
 use Rattle.host_core.specs.declared.turn_reason.TurnReason.TheVariants as turn_reasons
 use Rattle.world3270.specs.statement.Always.{Always, AlwaysOf}
-use Rattle.world3270.specs.statement.Asked.{AskedIsSeen, AreFieldsAsked, AreFieldsAskedIf, FieldsAreSeen, IsBoundFor, IsScreenAsLeft, IsSeen, ScreensAreAsLeft, ShowsItsFields, IsFieldText, IsPanelText}
+use Rattle.world3270.specs.statement.Asked.{AskedIsSeen, AreFieldsAsked, AreFieldsAskedIf, FieldsAreSeen, IsBoundFor, IsFieldShown, IsScreenAsLeft, IsSeen, ScreensAreAsLeft, ShowsItsFields, IsFieldText, IsPanelText}
 use Rattle.world3270.specs.refinement.LowerLaws.{LowerLaws}
 use Rattle.world3270.specs.model.Steps.{run}
 use Rattle.world3270.specs.model.Link.{Link}
@@ -340,13 +340,13 @@ uncleared_for : (reason : TurnReason) (aid : Aid) → IsOccasion reason aid → 
 uncleared_for reason aid occasion shown_now clear =
     absurd (let both : true ≡ false = sym (ap is_screen_empty (asked_key reason aid occasion ∙ clear)) ∙ shown_now in cc)
 
-later_for : (reason : TurnReason) → is_screen_empty (key_of reason) ≡ false → reason ≡ turn_reasons.Agreement → ⊥
+pub later_for : (reason : TurnReason) → is_screen_empty (key_of reason) ≡ false → reason ≡ turn_reasons.Agreement → ⊥
 later_for reason shown_now first = absurd (let both : true ≡ false = sym (ap (λ (r : TurnReason). is_screen_empty (key_of r)) first) ∙ shown_now in cc)
 
 -- ---- a question
 
 -- a question is there where one is open and an LU is agreed on
-question_is : (is_open : Bool) (lu : Option (List ℕ)) (ask : List ℕ → Question) (question : Question)
+pub question_is : (is_open : Bool) (lu : Option (List ℕ)) (ask : List ℕ → Question) (question : Question)
     → (if is_open then option_map ask lu else None) ≡ Some question → (is_open ≡ true) × (mine : List ℕ) × (lu ≡ Some mine) × (question ≡ ask mine)
 question_is true (Some lu) ask question is = (refl, lu, refl, let same : Some (ask lu) ≡ Some question = is in cc)
 question_is true None ask question is = absurd (cc)
@@ -379,6 +379,24 @@ abbrev question_if : Application → ℕ → Session → List ℕ → Bool → Q
 question_if app session conn lu empty =
     record (question_on app session conn lu) { values = (if empty then [] else learned conn.shadow (app.fields conn.panel) []) }
 
+text_of : (shadow : Shadow) (screen : Screen) (panel : List PanelField) (index : ℕ) (field : PanelField) → ListsFields shadow screen → Meets shadow screen → IsAmong screen.cells field.extent
+    → slice_get panel index ≡ Some field → (list_any (is_in_doubt shadow) panel ≡ false) ⊎ All IsTextKnown (fields_of shadow) → IsTextOf (belief_of shadow field)
+text_of shadow screen panel index field lists meets among at (inl sure) = sure_told shadow panel index field sure at
+text_of shadow screen panel index field lists meets among at (inr settled) = settled_on shadow screen field lists meets settled among
+
+-- when the host decides, each field of the panel is on the screen, with a text that is known unless it is in doubt
+pub field_there : (app : Application) → IsApplication app → ShowsItsFields app → (link : Link) → ConnectionInvariant app (view_of link) → Decides (local_state_of (view_of link)) link.host.shadow
+    → ShowsItsPanel app link.term.waits link.host link.term.display.before_restored link.term.display.last_restored → (link.term.display.screen.aid ≡ Clear → ⊥)
+    → (index : ℕ) (field : PanelField) → slice_get (app.fields link.host.panel) index ≡ Some field → (list_any (is_in_doubt link.host.shadow) (app.fields link.host.panel) ≡ false) ⊎ All IsTextKnown (fields_of link.host.shadow)
+    → (text : List ℕ) × (text_known link.host.shadow field ≡ Some text) × IsFieldShown field text link.term.display.screen
+field_there app is shows link k f shown uncleared index field at sure =
+    let same : SamePlaces link.term.display.last_restored.cells link.term.display.screen.cells = (k.unreturned uncleared).places in
+    let among : IsAmong link.term.display.screen.cells field.extent =
+    shown_among app is shows link.term.waits link.host link.term.display.before_restored link.term.display.last_restored link.term.display.screen index field shown same at in
+    let told : IsTextOf (belief_of link.host.shadow field) = text_of link.host.shadow link.term.display.screen (app.fields link.host.panel) index field f.sees.lists f.sees.meets among at sure in
+    let stands : IsFieldText field told.0 link.term.display.screen = stands_at link.host.shadow link.term.display.screen field told.0 f.sees.meets told.1 in
+    (told.0, told.1, record { stands = stands; length_is = listed-length link.term.display.screen.cells field.extent stands.index stands.on_screen stands.listed stands.place among })
+
 pub each_asked : LowerLaws → (app : Application) → IsApplication app → ShowsItsFields app → (link : Link) → ConnectionInvariant app (view_of link) → (session : ℕ) (question : Question)
     → question_in app session link.host ≡ Some question → AreFieldsAsked (app.fields question.panel) question link.term.display.screen
 each_asked given app is shows link k session question asked =
@@ -386,30 +404,15 @@ each_asked given app is shows link k session question asked =
     let asks = asks_when given app is link k there.0 in
     subst (λ (q : Question). AreFieldsAsked (app.fields q.panel) q link.term.display.screen) (sym there.3) (by_moment asks.0 asks.1 there.1)
   where
-    text_of : (shadow : Shadow) (screen : Screen) (panel : List PanelField) (index : ℕ) (field : PanelField) → ListsFields shadow screen → Meets shadow screen → IsAmong screen.cells field.extent
-        → slice_get panel index ≡ Some field → (list_any (is_in_doubt shadow) panel ≡ false) ⊎ All IsTextKnown (fields_of shadow) → IsTextOf (belief_of shadow field)
-    text_of shadow screen panel index field lists meets among at (inl sure) = sure_told shadow panel index field sure at
-    text_of shadow screen panel index field lists meets among at (inr settled) = settled_on shadow screen field lists meets settled among
-
     -- the panel is on the screen
     each_there : Decides (local_state_of (view_of link)) link.host.shadow
         → ShownIn app link.term.waits link.host link.term.display.before_restored link.term.display.last_restored link.term.display.screen SessionPhase.Deciding → is_ask (decision_on app link.host link.host.turn_reason) ≡ true
         → is_screen_empty (key_of link.host.turn_reason) ≡ false → (lu : List ℕ) → AreFieldsAskedIf false (app.fields link.host.panel) (question_if app session link.host lu false) link.term.display.screen
     each_there f showing asks shown_now lu =
-        let uncleared : link.term.display.screen.aid ≡ Clear → ⊥ = uncleared_for link.host.turn_reason link.term.display.screen.aid f.turn_reason shown_now in
-        let shown : ShowsItsPanel app link.term.waits link.host link.term.display.before_restored link.term.display.last_restored = showing.0 (later_for link.host.turn_reason shown_now) in
-        let same : SamePlaces link.term.display.last_restored.cells link.term.display.screen.cells = (k.unreturned uncleared).places in
-        let sure = asked_sure app link.host link.host.turn_reason shown_now showing.1 asks in
         λ index field at.
-        let among : IsAmong link.term.display.screen.cells field.extent =
-        shown_among app is shows link.term.waits link.host link.term.display.before_restored link.term.display.last_restored link.term.display.screen index field shown same at in
-        let told : IsTextOf (belief_of link.host.shadow field) = text_of link.host.shadow link.term.display.screen (app.fields link.host.panel) index field f.sees.lists f.sees.meets among at sure in
-        let stands : IsFieldText field told.0 link.term.display.screen = stands_at link.host.shadow link.term.display.screen field told.0 f.sees.meets told.1 in
-        record {
-          text = told.0;
-          given = learned_has link.host.shadow (app.fields link.host.panel) [] index field told.0 (shows.numbers link.host.panel) at told.1;
-          shown = record { stands = stands; length_is = listed-length link.term.display.screen.cells field.extent stands.index stands.on_screen stands.listed stands.place among };
-        }
+        let there = field_there app is shows link k f (showing.0 (later_for link.host.turn_reason shown_now)) (uncleared_for link.host.turn_reason link.term.display.screen.aid f.turn_reason shown_now) index field at
+        (asked_sure app link.host link.host.turn_reason shown_now showing.1 asks) in
+        record { text = there.0; given = learned_has link.host.shadow (app.fields link.host.panel) [] index field there.0 (shows.numbers link.host.panel) at there.1; shown = there.2 }
 
     by_deciding : Decides (local_state_of (view_of link)) link.host.shadow
         → ShownIn app link.term.waits link.host link.term.display.before_restored link.term.display.last_restored link.term.display.screen SessionPhase.Deciding → is_ask (decision_on app link.host link.host.turn_reason) ≡ true
@@ -435,7 +438,7 @@ each_asked given app is shows link k session question asked =
     by_moment (MayAct.deciding mine s at f showing) asks lu = by_deciding f showing asks lu (is_screen_empty (key_of link.host.turn_reason)) refl
 
 -- a question is asked where the host is
-asked_there : (here : Bool) (asked : Option Question) (question : Question) → (if here then asked else None) ≡ Some question → (here ≡ true) × (asked ≡ Some question)
+pub asked_there : (here : Bool) (asked : Option Question) (question : Question) → (if here then asked else None) ≡ Some question → (here ≡ true) × (asked ≡ Some question)
 asked_there true asked question is = (refl, is)
 asked_there false asked question is = absurd (cc)
 

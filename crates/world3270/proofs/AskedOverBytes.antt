@@ -5,6 +5,7 @@ use Rattle.codes3270.specs.Size.{ScreenSize}
 use Rattle.panels.specs.KeptFields.{FieldsAreOnTheScreen}
 use Rattle.panels.specs.Panel.{PanelParts, Panels, AreSound, HasItemsApart, HaveNumbersApart, IsLaidOut}
 use Rattle.panels.specs.declared.panel.Field.{Field as PanelField}
+use Rattle.telnet_wire.specs.Reading.{Rest}
 use Rattle.host_core.specs.Application.{Application, IsApplication, application_of, message_place, no_panel, panel_at}
 use Rattle.host_core.specs.Laws.{PanelsAreShown}
 use Rattle.host_core.specs.Questions.{question_in, question_of}
@@ -12,15 +13,17 @@ use Rattle.host_core.specs.Session.{Session}
 use Rattle.host_core.specs.State.{Service, state_at, session_at}
 use Rattle.host_core.specs.declared.question.Question.{Question}
 use Rattle.world3270.specs.statement.Always.{Always, AlwaysOf}
-use Rattle.world3270.specs.statement.Asked.{AskedIsSeen, AskedIsSeenOverBytes, FieldsAreSeen, IsPanelSeen, IsScreenAsLeft, IsSeen, ScreensAreAsLeft, ShowsItsFields, asked_at, asked_by, row_at}
+use Rattle.world3270.specs.statement.Asked.{AskedIsSeen, AskedIsSeenOverBytes, FieldsAreSeen, AreFieldsAsked, IsPanelSeen, IsScreenAsLeft, IsSeen, ScreensAreAsLeft, ShowsItsFields, asked_at, asked_by, row_at}
 use Rattle.world3270.specs.model.ByteWorld.{is_there}
 use Rattle.world3270.specs.model.Link.{Link}
 use Rattle.world3270.specs.refinement.Refines.{WorldSetup, after}
 use Rattle.world3270.specs.statement.Observation.{SeenLink, TerminalSeen, seen_link}
 use Rattle.world3270.specs.statement.ByteObservation.{seen_connection}
+use Rattle.world3270.specs.statement.Shown.{PanelIsShownOverBytes}
 use Rattle.world3270.specs.refinement.Representation.{conn_of, link_of}
 use Rattle.world3270.specs.refinement.Represents.{LinkRepresents}
 use Rattle.world3270.specs.model.World.{World}
+use Rattle.world3270.proofs.AskedPanels.{about_its_panel}
 use Rattle.world3270.proofs.SeenRepresents.{same_seen, size_seen}
 
 -- an open number has a question where its connection has one; no other number has any
@@ -31,13 +34,20 @@ same_question app session (Service.Closed cause) here conn question there same a
 same_question app session (Service.Open rest held) true conn question there same asked = ap (λ (c : Session). question_in app session c) (sym (same refl)) ∙ asked
 same_question app session (Service.Open rest held) false conn question there same asked = absurd (cc)
 
+-- it has one of an open connection
+open_for : (app : Application) (session : ℕ) (service : Service) (question : Question) → question_of app session service ≡ Some question
+    → (rest : Rest) × (host : Session) × (service ≡ Service.Open rest host) × (question_in app session host ≡ Some question)
+open_for app session Service.Free question asked = absurd (cc)
+open_for app session (Service.Closed cause) question asked = absurd (cc)
+open_for app session (Service.Open rest host) question asked = (rest, host, refl, asked)
+
 -- a panel that has fields is one of the set's
 pub panel_there : (panel : Option PanelParts) (index : ℕ) (field : PanelField) → slice_get (unwrap_or panel no_panel).fields index ≡ Some field → (there : PanelParts) × (panel ≡ Some there)
 panel_there None index field at = absurd (cc)
 panel_there (Some there) index field at = (there, refl)
 
 -- each screen that panels ask for has its panel's fields
-shows_its_fields : FieldsAreOnTheScreen → (set : Panels) → AreSound set → ShowsItsFields (application_of set)
+pub shows_its_fields : FieldsAreOnTheScreen → (set : Panels) → AreSound set → ShowsItsFields (application_of set)
 shows_its_fields on_screen set sound = record {
   on_screen = λ panel values message keep index field at.
       let there = panel_there (slice_get set.panels panel) index field at in
@@ -49,8 +59,8 @@ shows_its_fields on_screen set sound = record {
       (subst (λ (p : PanelParts). HaveNumbersApart p.fields) same (sound.numbers panel there.0 there.1)) i j one other below at_i at_j;
 }
 
-pub asked_over_bytes : PanelsAreShown → FieldsAreOnTheScreen → AlwaysOf AskedIsSeen → AlwaysOf FieldsAreSeen → Always ScreensAreAsLeft → AskedIsSeenOverBytes
-asked_over_bytes shown on_screen asked each as_left bytes is = record { questions = questions; screens = screens }
+pub asked_over_bytes : PanelsAreShown → FieldsAreOnTheScreen → PanelIsShownOverBytes → AlwaysOf AskedIsSeen → AlwaysOf FieldsAreSeen → Always ScreensAreAsLeft → AskedIsSeenOverBytes
+asked_over_bytes shown on_screen panel asked each as_left bytes is = record { questions = questions; screens = screens }
   where
     begin : WorldSetup
     begin = is.begin
@@ -74,7 +84,7 @@ asked_over_bytes shown on_screen asked each as_left bytes is = record { question
         (as_left app begin.serves begin.pool begin.models is.events is_app is.is_begin.pool is.is_begin.few is.reached.are_events number terminal (seen_there number terminal terminal_is))
 
     questions : (number : ℕ) (question : Question) (terminal : TerminalSeen) → asked_at number bytes ≡ Some question → (seen_connection number bytes).terminal ≡ Some terminal
-        → IsPanelSeen ((application_of bytes.host.panels).fields question.panel) (row_at terminal.number bytes) question terminal
+        → IsPanelSeen (application_of bytes.host.panels) (state_at number bytes.host) (row_at terminal.number bytes) question terminal
     questions number question terminal asked_now terminal_is =
         let link : Link = world.link number in
         let stands : LinkRepresents (link_of number bytes) link = is.reached.stands.links number in
@@ -86,10 +96,17 @@ asked_over_bytes shown on_screen asked each as_left bytes is = record { question
         let seen : IsSeen (app.fields question.panel) question terminal =
         asked app begin.serves begin.pool begin.models is.events is_app is.is_begin.pool is.is_begin.few is.reached.are_events number session question terminal over_messages
         (seen_there number terminal terminal_is) in
-        subst (λ (p : Panels). IsPanelSeen ((application_of p).fields question.panel) (row_at terminal.number bytes) question terminal) (sym is.reached.panels)
-        (record {
-          seen = seen;
-          fields = each app begin.serves begin.pool begin.models is.events is_app is.is_begin.pool is.is_begin.few is.reached.are_events
-              (shows_its_fields on_screen begin.panels is.is_begin.panels) number session question terminal over_messages (seen_there number terminal terminal_is);
+        let there = open_for (application_of bytes.host.panels) session (state_at number bytes.host) question asked_now in
+        record {
+          rest = there.0;
+          host = there.1;
+          is_open = there.2;
+          panel = λ on_now.
+              let its = about_its_panel (application_of bytes.host.panels) session there.1 question there.3 on_now in
+              record { same = its.0; shown = panel bytes is number there.0 there.1 terminal there.2 terminal_is its.1 };
+          seen = subst (λ (p : Panels). IsSeen ((application_of p).fields question.panel) question terminal) (sym is.reached.panels) seen;
+          fields = subst (λ (p : Panels). AreFieldsAsked ((application_of p).fields question.panel) question terminal.screen) (sym is.reached.panels)
+              (each app begin.serves begin.pool begin.models is.events is_app is.is_begin.pool is.is_begin.few is.reached.are_events
+              (shows_its_fields on_screen begin.panels is.is_begin.panels) number session question terminal over_messages (seen_there number terminal terminal_is));
           protected = screens number terminal terminal_is;
-        })
+        }

@@ -41,6 +41,7 @@ use Rattle.world3270.specs.refinement.Invariant.{Fact, FactsAreExact, IsNew, Con
 use Rattle.world3270.specs.model.Terminal.{Display, TermEnd, bound_to, new_display}
 use Rattle.world3270.specs.refinement.View.{view_of}
 use Rattle.world3270.proofs.Asked.{asked_seen, each_asked}
+use Rattle.world3270.proofs.AskedPanels.{about_its_panel}
 use Rattle.world3270.proofs.Obeys.{decides_new}
 use Rattle.world3270.proofs.Headline.{Knows, agrees, bound_agrees, host_attached, knows_at, nothing_waits}
 use Rattle.world3270.proofs.ReadsInput.{still_unformatted}
@@ -246,6 +247,9 @@ module _ (given : LowerLaws) (written : WrittenIsThere) (kept : KeptStaysThere) 
     fields_asked = λ shows session question asked.
         subst (λ (d : Display). AreFieldsAsked (app.fields question.panel) question d.screen) s.display
         (each_asked given app is shows end s.kept session question (is_asked session question asked));
+    panel_asked = λ wants number session question asked on_now.
+        let its = about_its_panel app session t.link.host question asked on_now in
+        record { same = its.0; shown = panel_shown wants its.1 };
     shown = λ wants has. panel_shown wants has;
     host_here = s.host_here;
     term_here = s.term_here;

@@ -1,5 +1,5 @@
 -- Whose turn it is, and what is pending, once a message of a session was heard; the talk stays.
-use Rattle.std.proofs.Common.{◌≡◌, true, false, ℕ, Option, List, [], ◌∷◌, None, Result, Ok, Err, IsOkAnd, refl, ap, sym, subst, ◌∙◌}
+use Rattle.std.proofs.Common.{◌≡◌, Bool, true, false, ℕ, Option, List, [], ◌∷◌, None, Result, Ok, Err, IsOkAnd, refl, ap, sym, subst, ◌∙◌}
 use Rattle.codes3270.specs.Size.{ScreenSize}
 use Rattle.codes3270.specs.declared.attention.Aid.TheVariants.{NoAid}
 use Rattle.datastream.specs.Grammar.{CommandParts}
@@ -28,15 +28,23 @@ use Rattle.world3270.proofs.SecondKeys.{pending_after, turn_after, unless_read}
 use Rattle.world3270.proofs.Up.{IsKeyTime, buffer_took, key_took, response_took, unbroken_read}
 use Rattle.world3270.proofs.TalkStates.{agreed_there}
 
+-- whether the message is data
+abbrev is_data : ToHost → Bool
+is_data (ToHost.Data parts) = true
+is_data (ToHost.Response number verdict) = false
+is_data (ToHost.TalksUp saying) = false
+
 pub record GoesOn (pool : Answers) (conn : Session) (message : ToHost) : Type 0 where
   pub turn : (took pool conn message).conn.turn ≡ turn_after message conn.turn
   pub pending : (took pool conn message).conn.pending ≡ pending_after message conn.pending
   pub talk : (took pool conn message).conn.talk ≡ conn.talk
+  pub pressed : is_data message ≡ true → (took pool conn message).conn.turn_reason ≡ turn_reasons.Agreement → ⊥
 
 -- what is believed leaves the turn to the host
 believed_turn : (P : Shadow → Type 0) (reason : TurnReason) (pending : Pending) (cursor : Option ℕ) (conn : Session) (r : Result Shadow HeardFault) → IsOkAnd r P
     → ((believed reason pending cursor conn r).conn.turn ≡ whose.Host) × ((believed reason pending cursor conn r).conn.pending ≡ pending) × ((believed reason pending cursor conn r).conn.talk ≡ conn.talk)
-believed_turn P reason pending cursor conn (Ok shadow) ok = (refl, refl, refl)
+    × ((believed reason pending cursor conn r).conn.turn_reason ≡ reason)
+believed_turn P reason pending cursor conn (Ok shadow) ok = (refl, refl, refl, refl)
 believed_turn P reason pending cursor conn (Err fault) ok = absurd ok
 
 no_read : (pending : Pending) → IsKeyTime pending → pending ≡ unless_read pending
@@ -52,16 +60,23 @@ key_goes P pool conn parts agrees turns time form some ok =
       turn = ap (λ (s : HostStep). s.conn.turn) is ∙ then_this.0;
       pending = ap (λ (s : HostStep). s.conn.pending) is ∙ then_this.1 ∙ no_read conn.pending time;
       talk = ap (λ (s : HostStep). s.conn.talk) is ∙ then_this.2;
+      pressed = λ of_data first. absurd (let both : turn_reasons.Key parts.aid false ≡ turn_reasons.Agreement = sym (ap (λ (s : HostStep). s.conn.turn_reason) is ∙ then_this.3) ∙ first in cc);
     }
 
 response_goes : (pool : Answers) (conn : Session) (kind : Kind) (number : ℕ) (command : CommandParts) → is_agreed conn.talk.state ≡ true → conn.pending ≡ awaiting kind number command → GoesOn pool conn (ToHost.Response number Verdict.Positive)
 response_goes pool conn kind number command agrees pends =
     let is = response_took pool conn kind number command agrees pends in
-    record { turn = ap (λ (s : HostStep). s.conn.turn) is; pending = ap (λ (s : HostStep). s.conn.pending) is; talk = ap (λ (s : HostStep). s.conn.talk) is }
+    record { turn = ap (λ (s : HostStep). s.conn.turn) is; pending = ap (λ (s : HostStep). s.conn.pending) is; talk = ap (λ (s : HostStep). s.conn.talk) is; pressed = λ of_data. absurd (cc) }
+
+-- a screen is read after a key alone
+read_later : (reason : TurnReason) → (reason ≡ turn_reasons.Agreement → ⊥) → once_read reason ≡ turn_reasons.Agreement → ⊥
+read_later turn_reasons.Agreement later first = later refl
+read_later (turn_reasons.Key aid buffered) later first = absurd (cc)
+read_later turn_reasons.Refusal later first = absurd (cc)
 
 buffer_goes : (P : Shadow → Type 0) (pool : Answers) (conn : Session) (size : ScreenSize) (screen : Screen) (number : ℕ) → is_agreed conn.talk.state ≡ true → conn.pending ≡ Pending.Reading number
-    → rule_break conn.shadow screen.cells ≡ None → IsOkAnd (hears (buffer_data size screen) conn) P → GoesOn pool conn (ToHost.Data (buffer_data size screen))
-buffer_goes P pool conn size screen number agrees pends unbroken ok =
+    → rule_break conn.shadow screen.cells ≡ None → (conn.turn_reason ≡ turn_reasons.Agreement → ⊥) → IsOkAnd (hears (buffer_data size screen) conn) P → GoesOn pool conn (ToHost.Data (buffer_data size screen))
+buffer_goes P pool conn size screen number agrees pends unbroken later ok =
     let read : InboundParts = buffer_data size screen in
     let is = buffer_took pool conn size screen number agrees pends (unbroken_read conn size screen unbroken) in
     let then_this = believed_turn P (once_read conn.turn_reason) Pending.Nothing read.cursor conn (hears read conn) ok in
@@ -69,6 +84,7 @@ buffer_goes P pool conn size screen number agrees pends unbroken ok =
       turn = ap (λ (s : HostStep). s.conn.turn) is ∙ then_this.0;
       pending = ap (λ (s : HostStep). s.conn.pending) is ∙ then_this.1 ∙ sym (ap unless_read pends);
       talk = ap (λ (s : HostStep). s.conn.talk) is ∙ then_this.2;
+      pressed = λ of_data first. read_later conn.turn_reason later (sym (ap (λ (s : HostStep). s.conn.turn_reason) is ∙ then_this.3) ∙ first);
     }
 
 pub goes_on : LowerLaws → (app : Application) (pool : Answers) (link : Link) (message : ToHost) (rest : List ToHost) → link.up ≡ message ∷ rest → ConnectionInvariant app (view_of link) → is_agreed link.host.talk.state ≡ true → GoesOn pool link.host message
@@ -88,7 +104,7 @@ goes_on given app pool link message rest e k agrees = by_moment k.moment k.sizes
         let first = front link.lost link.up message rest _ [] e at.goes_up in
         let said : Screen = record screen { aid = parts.aid } in
         as_it (ToHost.Data (buffer_data link.host.size said)) (first.0 ∙ ap (λ p. ToHost.Data p) f.says)
-        (buffer_goes (Believed false screen) pool link.host link.host.size said number agrees at.pending f.unbroken f.will)
+        (buffer_goes (Believed false screen) pool link.host link.host.size said number agrees at.pending f.unbroken f.not_first f.will)
     by_serving lu (SessionPhase.DecidingNoteAnswered number command) s at f =
         let first = front link.lost link.up message rest _ [] e at.goes_up in
         as_it (ToHost.Response number Verdict.Positive) first.0 (response_goes pool link.host Kind.ANote number command agrees at.pending)

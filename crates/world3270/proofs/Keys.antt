@@ -177,7 +177,7 @@ or_false true = refl
 or_false false = refl
 
 -- a key in Wait changes nothing that the headline speaks of
-key_waits : (key : Key) (link : Link) → link.term.display.keyboard.lock ≡ Wait → view_of (key_view key link) ≡ view_of link
+pub key_waits : (key : Key) (link : Link) → link.term.display.keyboard.lock ≡ Wait → view_of (key_view key link) ≡ view_of link
 key_waits key link e =
     let w = waits link.term.display.size.columns key link.term.display.keyboard link.term.display.screen e in
     let outcome : Outcome = outcome_of key link.term.display in

@@ -5,6 +5,9 @@ pub mod Sent
 pub mod Unreturned
 pub mod AsLeft
 pub mod Asked
+pub mod AskedPanels
+pub mod Leading
+pub mod Instances
 pub mod AskedOverBytes
 pub mod Down
 pub mod Obeys

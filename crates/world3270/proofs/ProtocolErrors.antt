@@ -2,13 +2,15 @@
 use Rattle.std.proofs.Common.{◌≡◌, lit≤, ℕ, true, Option, Some, List, [], ◌∷◌, ◌++◌, refl, ap, sym, subst, ◌∙◌}
 use Rattle.tn3270e_msg.specs.declared.term_talk.TermState.{TermState}
 use Rattle.tn3270e_msg.specs.declared.term_talk.TermState.TheVariants.{Waiting, Willing, TypeAsked, FunctionsAsked, Agreed, Refused, Closed}
-use Rattle.tn3270e_msg.specs.Header.{spelling}
+use Rattle.telnet_wire.specs.Reading.{Rest, IsRest, Delivers, nothing}
+use Rattle.tn3270e_msg.specs.Header.{record_limit, spelling}
 use Rattle.term_core.specs.Says.{outcome_code, response_header}
 use Rattle.term_core.specs.declared.outcome.Outcome.TheVariants as outcomes
 use Rattle.term_core.specs.State.{Link as LinkValue, Attached, phase_of, talk_phase}
 use Rattle.host_core.specs.Session.{Session}
 use Rattle.world3270.specs.model.ByteSteps.{Steps}
-use Rattle.world3270.specs.model.ByteWorld.{ByteWorld, host_there, is_there, slot_at, terminal_at}
+use Rattle.world3270.specs.model.ByteWorld.{ByteWorld, host_there, is_there, slot_at, terminal_at, up_of}
+use Rattle.world3270.specs.refinement.Deliveries.{host_rest}
 use Rattle.world3270.specs.refinement.MessageLaws.{WorldLaws}
 use Rattle.world3270.specs.model.Places.{EndsAgree}
 use Rattle.world3270.specs.statement.ProtocolErrors.{HasNotClosed, RefusalsAreNegative, RefusesNothing, WorldsHaveNoProtocolError, EventsMakeNoProtocolErrors}
@@ -54,14 +56,15 @@ worlds_have_no_error known bytes is =
     record {
       hosts = stands.none_closed;
       terminals = λ terminal. terminal_open bytes world stands facts.agree terminal (world.place terminal) refl (stands.places terminal);
-      responses = λ number. record {
-        read = (stands.links number).read;
-        holds = λ there. sym ((stands.links number).host (sym (stands.links number).host_here ∙ there)).rest_is;
-        is_rest = (stands.links number).up.is_rest;
-        items = (stands.links number).up.items;
-        delivers = (stands.links number).up.delivers;
-        none = none_negative (stands.links number).up.items (world.link number).up (stands.links number).up.each (facts.nobody_refuses.none_refused number);
-      };
+      responses = λ number there.
+          let link = stands.links number in
+          let holds : link.read ≡ host_rest number bytes = sym (link.host (sym link.host_here ∙ there)).rest_is in
+          record {
+            is_rest = subst (IsRest record_limit) holds link.up.is_rest;
+            items = link.up.items;
+            delivers = subst (λ (rest : Rest). Delivers record_limit rest (up_of number bytes) link.up.items nothing) holds link.up.delivers;
+            none = none_negative link.up.items (world.link number).up link.up.each (facts.nobody_refuses.none_refused number);
+          };
       turns = λ number rest conn open_there turn reason.
           let link = stands.links number in
           let there : host_there number bytes ≡ true = ap is_there open_there in

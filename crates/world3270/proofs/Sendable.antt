@@ -47,13 +47,12 @@ use Rattle.panels.specs.declared.panel.Value.{Value as PanelValue}
 use Rattle.presentation.proofs.Storable.{storable_unmodified}
 use Rattle.shadow.specs.Queries.{belief_with}
 use Rattle.shadow.specs.Belief.{Fact, Belief, Shadow}
-use Rattle.shadow.specs.Fits.{fits}
 use Rattle.shadow.specs.Laws.{PaintIsEncoded}
 use Rattle.shadow.specs.Meets.{Holds, FieldMeets, Meets, told}
 use Rattle.shadow.specs.Painted.{keeps_ahead, attr_or_kept, cells_under, painted_from, plainly_painted}
 use Rattle.shadow.specs.Pairs.{Pairwise}
 use Rattle.tn3270e_msg.specs.declared.cause.Cause.{Cause}
-use Rattle.host_core.specs.Acts.{Act, Decision, Sent, text_known, learned, first_missing, is_to_be_read, check_required, first_panel, once_filled_in, on_empty, on_key, after_key as after_the_key, decided, decision_on, wanted_by, done, may_act, acted, values_shown, when_shown}
+use Rattle.host_core.specs.Acts.{Act, Decision, Sent, text_known, learned, first_missing, is_to_be_read, check_required, first_panel, once_filled_in, on_empty, on_key, after_key as after_the_key, decided, decision_on, may_keep, wanted_by, done, may_act, acted, values_shown, when_shown}
 use Rattle.host_core.specs.Application.{Application, IsValidSize, IsApplication, WantsProperScreens, AreTexts}
 use Rattle.host_core.specs.Messages.{ToTerminal, ToHost, Verdict}
 use Rattle.host_core.specs.NoteLaws.{TakesNotes, IsProperNote}
@@ -338,7 +337,7 @@ answer_texts app conn said (Some panel) known are =
 
 wanted_is : (app : Application) (conn : Session) (panel : ℕ) (message : Message) (keep : Bool) (values : Values) → WantsProperScreens app → AreTexts values → IsScreen (wanted_by app conn panel message keep values)
 wanted_is app conn panel message false values asks texts = asks panel values message false texts
-wanted_is app conn panel message true values asks texts = by_fit (fits conn.shadow (app.screen panel values message true))
+wanted_is app conn panel message true values asks texts = by_fit (may_keep conn (app.screen panel values message true))
   where
     by_fit : (b : Bool) → IsScreen (if b then app.screen panel values message true else app.screen panel values message false)
     by_fit true = asks panel values message true texts

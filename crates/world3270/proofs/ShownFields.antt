@@ -29,14 +29,14 @@ use Rattle.panels.specs.declared.next.Next.{Next}
 use Rattle.panels.specs.declared.next.Next.TheVariants.{Go, Ask, Again}
 use Rattle.panels.specs.declared.panel.Field.{Field as PanelField}
 use Rattle.shadow.specs.Belief.{Belief, Shadow, fields_of}
-use Rattle.shadow.specs.Fits.{fields_fit, fits, is_keep, is_paintable}
+use Rattle.shadow.specs.Fits.{fields_fit, is_keep, is_paintable}
 use Rattle.shadow.specs.Heard.{after_attention}
 use Rattle.shadow.specs.Meets.{Meets}
 use Rattle.shadow.specs.Painted.{cells_under, painted_from, plainly_painted}
 use Rattle.shadow.specs.PaintedFields.{HasField, KeptStaysThere, WantsKept, WantsWritten, WrittenIsThere}
 use Rattle.shadow.proofs.Keeps.{no_keep, paintable_fits}
 use Rattle.shadow.proofs.Paints.{length-under}
-use Rattle.host_core.specs.Acts.{Act, Decision, after_key, belief_of, decision_on, first_missing, first_panel, is_in_doubt, is_to_be_read, learned, on_empty, on_key, once_filled_in, known_despite, check_required, wanted_by, when_shown}
+use Rattle.host_core.specs.Acts.{Act, Decision, after_key, belief_of, decision_on, first_missing, first_panel, is_in_doubt, is_to_be_read, learned, on_empty, on_key, once_filled_in, known_despite, check_required, may_keep, wanted_by, when_shown}
 use Rattle.host_core.specs.Application.{Application, IsApplication}
 use Rattle.host_core.specs.Questions.{act_by, has_value_of, panel_for}
 use Rattle.host_core.specs.Session.{Session, model_in}
@@ -159,7 +159,7 @@ is_character extent i below = (omega arith, omega (arith, below))
 -- ---- what is kept is known
 
 -- nothing of the panel is in doubt, or the screen was read
-abbrev IsSure : Application → Session → Type 0
+abbrev pub IsSure : Application → Session → Type 0
 IsSure app conn = (list_any (is_in_doubt conn.shadow) (app.fields conn.panel) ≡ false) ⊎ All IsTextKnown (fields_of conn.shadow)
 
 -- An act that keeps fields shows the same panel again, with the texts that are known as the values of its fields.
@@ -212,7 +212,7 @@ module _ (app : Application) (conn : Session) where
   empty_keeps panel values Ask = tt
 
   -- once the screen needn't be read
-  sure_then : (aid : Aid) (buffered : Bool) → IsKnownIfRead (turn_reasons.Key aid buffered) conn.shadow → (is_to_be_read app conn aid && not buffered) ≡ false → IsSure app conn
+  pub sure_then : (aid : Aid) (buffered : Bool) → IsKnownIfRead (turn_reasons.Key aid buffered) conn.shadow → (is_to_be_read app conn aid && not buffered) ≡ false → IsSure app conn
   sure_then aid true read unread = inr read
   sure_then (Pa key) false read unread = absurd (cc)
   sure_then NoAid false read unread = inl (unverified (is_verified conn) (list_any (is_in_doubt conn.shadow) (app.fields conn.panel)) unread)
@@ -352,6 +352,19 @@ stands_text field text screen attribute kept stands shows =
     let same : kept ≡ stands.on_screen.text = (listed_field screen.cells its shows).characters ∙ ap (field_text screen.cells) place ∙ sym (listed_field screen.cells stands.on_screen on).characters in
     ap without_nulls same ∙ stands.text_is
 
+-- and it is one text
+pub one_stands : (field : PanelField) (screen : Screen) (one other : List ℕ) → IsFieldText field one screen → IsFieldText field other screen → one ≡ other
+one_stands field screen one other first second =
+    let here = first.place in
+    let there = second.place in
+    let place : first.on_screen.place ≡ second.on_screen.place = omega (arith, here, there) in
+    sym first.text_is ∙ ap without_nulls (text_at first ∙ ap (field_text screen.cells) place ∙ sym (text_at second)) ∙ second.text_is
+  where
+    text_at : {text : List ℕ} (stands : IsFieldText field text screen) → stands.on_screen.text ≡ field_text screen.cells stands.on_screen.place
+    text_at stands =
+        (listed_field screen.cells stands.on_screen
+        (stands.index, slice_get_within (fields screen.cells) stands.index stands.on_screen stands.listed, get_or_from_slice_get (fields screen.cells) stands.index stands.on_screen stands.on_screen stands.listed)).characters
+
 -- ---- each field is shown
 
 module _ (app : Application) (is : IsApplication app) (wants : WantsItsFields app) (panel : ℕ) (values : Values) (message : Message) (index : ℕ) (field : PanelField) (at : slice_get (app.fields panel) index ≡ Some field) where
@@ -479,7 +492,7 @@ fields_shown written kept app is wants waits host before screen shown = by_keep 
         → AreShown waits (app.fields panel) values message before screen
     by_keep true same decided knows is_that =
         let so = kept_again app conn shown.wanted_for.asked message given decided in
-        if_fits (fits (when_shown conn).shadow (app.screen panel values message true))
+        if_fits (may_keep (when_shown conn) (app.screen panel values message true))
         (subst (Keeps app conn shown.wanted_for.asked) (same so) (act_keeps app conn shown.wanted_for.asked message given decided (knows refl))) (knows refl) so is_that
     by_keep false same decided knows is_that = in_full is_that
 
@@ -500,16 +513,21 @@ painted_char reset whole (want.Char char ∷ rest) (there ∷ cells) (suc place)
 painted_char reset whole (want.Keep ∷ rest) (there ∷ cells) (suc place) byte same at = painted_char reset whole rest cells place byte (omega arith) at
 painted_char reset whole (want.Attr attribute ∷ rest) (there ∷ cells) (suc place) byte same at = painted_char reset whole rest cells place byte (omega arith) at
 
+-- a character that the panel's screen has is on the screen that shows it
+pub char_shown : (app : Application) (waits : Bool) (host : Session) (before screen : Screen) → ShowsItsPanel app waits host before screen → (cell char : ℕ)
+    → ((keep : Bool) → slice_get (app.screen host.panel host.values host.message keep).cells cell ≡ Some (want.Char char)) → slice_get screen.cells cell ≡ Some (Char char)
+char_shown app waits host before screen shown cell char has =
+    let way = wanted_in_a_way app (when_shown shown.wanted_for.conn) host.panel host.message shown.wanted_for.keep host.values in
+    let wanted = shown.wanted in
+    let there : slice_get wanted.cells cell ≡ Some (want.Char char) = ap (λ (w : WantedScreen). slice_get w.cells cell) (shown.wanted_for.wanted_is ∙ way.1) ∙ has way.0 in
+    ap (λ (s : Screen). slice_get s.cells cell) shown.is
+    ∙ painted_char wanted.reset wanted.cells wanted.cells (cells_under (length wanted.cells) before.cells) cell char (length-under (length wanted.cells) before.cells) there
+
 pub values_shown : (app : Application) → WantsItsFields app → (waits : Bool) (host : Session) (before screen : Screen) → ShowsItsPanel app waits host before screen
     → ValuesAreShown (app.values host.panel) host.values screen
 values_shown app wants waits host before screen shown = λ index value at cell is.
-    let way = wanted_in_a_way app (when_shown shown.wanted_for.conn) host.panel host.message shown.wanted_for.keep host.values in
-    let wanted = shown.wanted in
-    let char = slice_index_or (unwrap_or (value_of host.values value.number) []) (cell - value.extent.first) 0 in
-    let there : slice_get wanted.cells cell ≡ Some (want.Char char) =
-    ap (λ (w : WantedScreen). slice_get w.cells cell) (shown.wanted_for.wanted_is ∙ way.1) ∙ wants.values host.panel host.values host.message way.0 index value cell at is in
-    ap (λ (s : Screen). slice_get s.cells cell) shown.is
-    ∙ painted_char wanted.reset wanted.cells wanted.cells (cells_under (length wanted.cells) before.cells) cell char (length-under (length wanted.cells) before.cells) there
+    char_shown app waits host before screen shown cell (slice_index_or (unwrap_or (value_of host.values value.number) []) (cell - value.extent.first) 0)
+    (λ keep. wants.values host.panel host.values host.message keep index value cell at is)
 
 -- ---- the cursor
 

@@ -139,7 +139,7 @@ shows_value written set sound p panel values message keep index value cell at_p 
     ∙ char_at item (unwrap_or (value_of values value.number) []) first cell is.0
 
 -- the panel that is shown to a model is shown to it as it is
-shown_again : (set : Panels) → HaveOtherwise set → (model : Model) (number : ℕ) → form_in set model (form_in set model number) ≡ form_in set model number
+pub shown_again : (set : Panels) → HaveOtherwise set → (model : Model) (number : ℕ) → form_in set model (form_in set model number) ≡ form_in set model number
 shown_again set otherwise model number = by_panel (slice_get set.panels number) refl
   where
     as_it_is : (number : ℕ) (panel : PanelParts) → slice_get set.panels number ≡ Some panel → is_shown panel.model model ≡ true → form_in set model number ≡ number

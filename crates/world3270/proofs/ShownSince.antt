@@ -40,7 +40,7 @@ use Rattle.world3270.proofs.HostSteps.{just_talks}
 use Rattle.world3270.proofs.Keys.{quiet_done, quiet_refused}
 use Rattle.world3270.proofs.Undecided.{Keeps, rests_hold, step_holds}
 
-same_panel : (conn : Session) → IsSamePanel conn conn
+pub same_panel : (conn : Session) → IsSamePanel conn conn
 same_panel conn = record { panel = refl; values = refl; message = refl }
 
 same_on : (one other third : Session) → IsSamePanel one other → IsSamePanel other third → IsSamePanel one third
@@ -50,7 +50,7 @@ same_on one other third first second =
 -- ---- one event
 
 -- the host has the same panel for the connection as here
-abbrev HasPanel : Session → Link → Type 0
+abbrev pub HasPanel : Session → Link → Type 0
 HasPanel conn link = IsSamePanel conn link.host
 
 noted_has : (conn : Session) (text : List ℕ) (link : Link) → HasPanel conn link → HasPanel conn (host_sent (noted text link.host) link)
@@ -60,7 +60,7 @@ noted_has conn text link has = by_test (may_note link.host.turn link.host.pendin
     by_test true = record { panel = has.panel; values = has.values; message = has.message }
     by_test false = has
 
-keeps_panel : (conn : Session) → Keeps (HasPanel conn)
+pub keeps_panel : (conn : Session) → Keeps (HasPanel conn)
 keeps_panel conn = record {
   up = λ pool link message rest is has.
       let talks = just_talks pool link.host message in
@@ -106,7 +106,7 @@ leads_to app conn said panel is =
     by_panel None true is = refl
     by_panel None false is = sym (same_asked app conn conn.turn_reason is)
 
-done_answer : (app : Application) (conn : Session) (said : ApplicationAnswer) (panel : Option ℕ) → panel_for app conn said ≡ panel → IsAnswered app conn said (shown_by app conn (act_by app conn said panel)).conn
+pub done_answer : (app : Application) (conn : Session) (said : ApplicationAnswer) (panel : Option ℕ) → panel_for app conn said ≡ panel → IsAnswered app conn said (shown_by app conn (act_by app conn said panel)).conn
 done_answer app conn said None is =
     record { panel = ap (app.shown (model_in conn)) (leads_to app conn said None is); values = ap (values_for app conn said) (sym is); message = refl }
 done_answer app conn said (Some panel) is =

@@ -69,7 +69,7 @@ pub record Simulated (app : Application) (lu : List ℕ) (t : LinkWithReport) : 
   pub simulates : Simulates told t.link
 
 -- where an LU was agreed on, both agreed
-has_agreed : (lu : List ℕ) (state : HostState) → agreed_lu state ≡ Some lu → is_agreed state ≡ true
+pub has_agreed : (lu : List ℕ) (state : HostState) → agreed_lu state ≡ Some lu → is_agreed state ≡ true
 has_agreed lu (Agreed device granted) is = refl
 has_agreed lu Offered is = absurd (cc)
 has_agreed lu Asked is = absurd (cc)

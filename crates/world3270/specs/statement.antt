@@ -4,7 +4,6 @@ pub mod Observation
 pub mod Headline
 pub mod AsLeft
 pub mod Always
-pub mod Asked
 pub mod History
 pub mod TurnReasons
 pub mod Skipped
@@ -15,10 +14,13 @@ pub mod Showing
 pub mod ShownFields
 pub mod Shown
 pub mod ByteObservation
+pub mod Asked
 pub mod OneOutcome
 pub mod Unbroken
 pub mod ShownSince
+pub mod Leading
 pub mod ScreensFound
 pub mod ProtocolErrors
 pub mod EveryTerminal
 pub mod EveryTerminalBytes
+pub mod Instances

@@ -1,11 +1,13 @@
 //! Laws of worlds over messages and over bytes. Each is the contract of a function that does nothing. Proofs use them,
 //! also those of other crates; no program calls them, and the root doesn't export them.
 ghost use Rattle.world3270.specs.statement.Always.{Always, AlwaysOf, HeadlineHolds, NoCommandIsRejected};
-ghost use Rattle.world3270.specs.statement.Asked.{AskedIsSeen, AskedIsSeenOverBytes, FieldsAreSeen, ScreensAreAsLeft};
+ghost use Rattle.world3270.specs.statement.Asked.{AskedIsSeen, AskedIsSeenOverBytes, FieldsAreSeen, OtherPanelsAreNotAsked, PanelsAreAsked, ScreensAreAsLeft};
 ghost use Rattle.world3270.specs.statement.EveryTerminal.{EveryTerminal};
 ghost use Rattle.world3270.specs.statement.EveryTerminalBytes.{EveryTerminalOverBytes};
+ghost use Rattle.world3270.specs.statement.Instances.{WorldsBeginOverBytes};
 ghost use Rattle.world3270.specs.examples.Example.{TheRunsEndSo};
 ghost use Rattle.world3270.specs.statement.Forms.{FormsAreAwaited};
+ghost use Rattle.world3270.specs.statement.Leading.{KeysLeadToOne};
 ghost use Rattle.world3270.specs.refinement.LowerLaws.{LowerLaws};
 ghost use Rattle.world3270.specs.model.Steps.{RunsCompose};
 ghost use Rattle.world3270.specs.statement.History.{HostsHistoryIsKept, TerminalsHistoryIsKept};
@@ -110,19 +112,24 @@ pub fn what_was_pressed_is_acted_on()
 /// the cursor address, and for no field another text than the screen shows, nulls removed. If each screen that the
 /// application asks for has its panel's fields, the question has a text for each field of the panel, and the field is
 /// on the screen, at its address and with its length. At connect, when no key was pressed, the message that binds the
-/// terminal may still be under way. At connect and after Clear the question has no field, nor has the screen. All this
-/// holds of each world over bytes that represents one over messages, since the screens of panels have their fields.
+/// terminal may still be under way. At connect and after Clear the question has no field, nor has the screen. Else it
+/// names the connection's panel, which the screen that the host's last restoring write left shows; so it names no panel
+/// of which a character isn't on that screen. All this holds of each world over bytes that represents one over messages,
+/// since the screens of panels have their fields.
 /// Unless Clear was pressed last, the protected part of an attached terminal's screen is as the host's last restoring
 /// write left it, but for the row of messages.
 pub fn what_is_asked_is_seen()
     ensures messages { AlwaysOf AskedIsSeen }
     ensures fields { AlwaysOf FieldsAreSeen }
+    ensures panels { AlwaysOf PanelsAreAsked }
     ensures screens { Always ScreensAreAsLeft }
     ensures bytes { AskedIsSeenOverBytes }
+    ensures others { OtherPanelsAreNotAsked }
 {
     what_is_given();
     panels_are_shown();
     fields_are_on_the_screen();
+    what_is_answered_is_shown();
 }
 
 /// Law: a panel whose paint is answered is on the screen. After any list of events, on each connection with both ends
@@ -335,8 +342,11 @@ pub fn bytes_follow_messages()
 /// again: after the paint is answered, panel, values, message and cursor field are those of the answer. A key that is
 /// pressed while the keyboard is locked for the host changes no screen. While the host has the turn and no note is
 /// under way, a screen stays until the host decides; and a paint finds the screen that the terminal had when the host
-/// decided to show the panel. So a field that is kept has the text that the operator had in it at the decision; a
-/// screen with another text in a field doesn't show the decision.
+/// decided to show the panel, and shows the decision of then. So a field that is kept has the text that the operator had
+/// in it at the decision; a screen with another text in a field doesn't show the decision. The panel is the one to which
+/// the key leads that was pressed on the screen (`Leading`): the target in `keys` of the panel that was on it, in the
+/// form for the model; the same panel, if the key isn't in `keys` or a required field was left blank; or the answer's.
+/// A key leads to one panel, with one message.
 pub fn what_is_shown_stays()
     ensures steps { StepsKeepPanels }
     ensures answers { AnswersAreShownOverBytes }
@@ -345,10 +355,12 @@ pub fn what_is_shown_stays()
     ensures turns_over_bytes { TurnsKeepTheScreenOverBytes }
     ensures found { AlwaysOf PaintsFindTheScreen }
     ensures decisions { DecisionsAreShownOverBytes }
+    ensures keys { KeysLeadToOne }
     ensures others { OtherTextsAreNotShown }
 {
     what_is_given();
     panels_are_shown();
+    fields_are_on_the_screen();
     bytes_follow_messages();
     what_is_answered_is_shown();
 }
@@ -420,4 +432,14 @@ pub fn every_terminal_over_bytes()
     sent_is_read();
     painted_fields_are_there();
     telnet_wire::laws::one_reading();
+}
+
+/// Law: worlds have the connections of which `every_terminal_over_bytes` speaks. Just after the host has agreed on an LU
+/// on a connection that isn't lost, and if it doesn't rely on the terminal's wait, host, terminal and the bytes under
+/// way are a begin as that theorem requires it.
+pub fn worlds_begin_so()
+    ensures { WorldsBeginOverBytes }
+{
+    what_is_given();
+    panels_are_shown();
 }

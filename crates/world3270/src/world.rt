@@ -172,7 +172,8 @@ impl World {
     /// returns has the key that the operator pressed, the LU that the terminal is bound to, the cursor address, and for
     /// each field of the panel the text that the screen shows in that field, nulls removed: the field is there, at its
     /// address and with its length. At connect, when no key was pressed, and after Clear neither the question nor the
-    /// screen has a field. At connect the terminal may still have to be bound. The protected part of the screen is as
+    /// screen has a field. Else the question names the connection's panel, and the screen that the host's last restoring
+    /// write left shows it. At connect the terminal may still have to be bound. The protected part of the screen is as
     /// the host's last restoring write left it, but for the row of messages. This part holds of each attached terminal,
     /// unless Clear was pressed last.
     pub fn what_is_asked_is_seen(&self)
@@ -212,6 +213,7 @@ impl World {
     /// decided to show a panel on a connection, by itself or by an application's answer, and has decided nothing there
     /// since: after the paint is answered, the terminal is the one that was there at the decision, and a field that is
     /// kept has, cell by cell, the attribute and the text that this terminal's screen had in it at the decision.
+    /// The panel is the one to which the key leads that was pressed on that screen, or the answer's (`specs/Leading`).
     pub fn decisions_are_shown(&self)
         ensures { DecisionsAreShown self.now }
     {

@@ -1,10 +1,13 @@
 -- What the application is asked is what the operator sees (our profile).
-use Rattle.std.specs.Prelude.{◌≡◌, ◌⊎◌, ◌+◌, ℕ, Bool, true, false, List, [], length, Option, Some, None, slice_get, if◌then◌else◌}
+use Rattle.std.specs.Prelude.{◌≡◌, ◌≢◌, ◌⊎◌, ◌+◌, ℕ, Bool, true, false, List, [], length, Option, Some, None, slice_get, if◌then◌else◌}
 use Rattle.codes3270.specs.declared.attention.Aid.{Aid}
 use Rattle.codes3270.specs.declared.attention.Aid.TheVariants.{NoAid, Enter, Clear, Pf, Pa}
+use Rattle.codes3270.specs.declared.attribute.Cell.TheVariants.{Char}
 use Rattle.datastream.specs.Fields.{Field, IsUnformatted, fields}
 use Rattle.datastream.specs.Inbound.{without_nulls}
 use Rattle.datastream.specs.Screen.{Screen}
+use Rattle.datastream.specs.declared.wanted.Want.TheVariants as want
+use Rattle.telnet_wire.specs.Reading.{Rest}
 use Rattle.panels.specs.KeptFields.{IsFieldOn}
 use Rattle.panels.specs.Panel.{HaveNumbersApart}
 use Rattle.panels.specs.Screen.{Values}
@@ -13,7 +16,8 @@ use Rattle.panels.specs.declared.message.Message.{Message}
 use Rattle.panels.specs.declared.panel.Field.{Field as PanelField}
 use Rattle.host_core.specs.Application.{Application, application_of, message_place}
 use Rattle.host_core.specs.Questions.{is_screen_empty, question_in, question_of}
-use Rattle.host_core.specs.State.{state_at, session_at}
+use Rattle.host_core.specs.Session.{Session}
+use Rattle.host_core.specs.State.{Service, state_at, session_at}
 use Rattle.host_core.specs.declared.question.Question.{Question}
 use Rattle.world3270.specs.statement.AsLeft.{ProtectedIsAsLeft}
 use Rattle.world3270.specs.model.ByteWorld.{ByteWorld, slot_at}
@@ -21,6 +25,8 @@ use Rattle.world3270.specs.model.Link.{Link}
 use Rattle.world3270.specs.refinement.Refines.{IsReached}
 use Rattle.world3270.specs.statement.Observation.{TerminalSeen, seen_link}
 use Rattle.world3270.specs.statement.ByteObservation.{seen_connection}
+use Rattle.world3270.specs.statement.Shown.{IsPanelShown}
+use Rattle.world3270.specs.statement.ShownFields.{WantsItsFields}
 use Rattle.world3270.specs.model.World.{World}
 
 -- ---- a text of a question is on the screen
@@ -86,6 +92,30 @@ AreFieldsAskedIf false panel question screen = (index : ℕ) (field : PanelField
 abbrev pub AreFieldsAsked : List PanelField → Question → Screen → Type 0
 AreFieldsAsked panel question screen = AreFieldsAskedIf (is_screen_empty question.aid) panel question screen
 
+-- ---- the panel of a question
+
+-- Holds if the question names the connection's panel, and the screen that the host's last restoring write left shows
+-- this panel, with the connection's values and message (`Shown`). `waits`: the terminal waits for the host.
+pub record IsAboutItsPanel (app : Application) (waits : Bool) (host : Session) (question : Question)
+    (terminal : TerminalSeen) : Type 0 where
+  pub same : question.panel ≡ host.panel
+  pub shown : IsPanelShown app waits host terminal.before_restored terminal.last_restored
+
+-- Holds if no panel is on the screen, at connect or after Clear; or if the question is about the panel that it shows.
+abbrev pub IsPanelAsked : Application → (waits : Bool) → Session → Question → TerminalSeen → Type 0
+IsPanelAsked app waits host question terminal = is_screen_empty question.aid ≡ false
+    → IsAboutItsPanel app waits host question terminal
+
+-- A question isn't about a panel if all screens of that panel have a character in some cell, and the screen that was
+-- left doesn't have it there. So panels with the same fields, or without fields, aren't confused.
+abbrev pub OtherPanelsAreNotAsked : Type 0
+OtherPanelsAreNotAsked = (app : Application) (waits : Bool) (host : Session) (question : Question)
+    (terminal : TerminalSeen) (cell char : ℕ)
+    → ((values : Values) (message : Message) (keep : Bool)
+    → slice_get (app.screen question.panel values message keep).cells cell ≡ Some (want.Char char))
+    → slice_get terminal.last_restored.cells cell ≢ Some (Char char)
+    → is_screen_empty question.aid ≡ false → IsPanelAsked app waits host question terminal → ⊥
+
 -- ---- the screen is the one that was left
 
 -- Holds if Clear was pressed last, or the protected part of the terminal's screen is as the host's last restoring write
@@ -123,6 +153,14 @@ FieldsAreSeen app world = ShowsItsFields app → (number session : ℕ) (questio
     → (seen_link (world.link number)).terminal ≡ Some terminal
     → AreFieldsAsked (app.fields question.panel) question terminal.screen
 
+-- Holds if such a question is about the panel that the screen shows, provided that each screen that the application asks
+-- for has its panel's fields.
+abbrev pub PanelsAreAsked : Application → World → Type 0
+PanelsAreAsked app world = WantsItsFields app → (number session : ℕ) (question : Question) (terminal : TerminalSeen)
+    → asked_by app session (world.link number) ≡ Some question
+    → (seen_link (world.link number)).terminal ≡ Some terminal
+    → IsPanelAsked app true (world.link number).host question terminal
+
 -- Holds if the protected part of each attached terminal's screen is as it was left, on a lost connection too.
 abbrev pub ScreensAreAsLeft : World → Type 0
 ScreensAreAsLeft world = (number : ℕ) (terminal : TerminalSeen)
@@ -140,12 +178,17 @@ abbrev pub asked_at : ℕ → ByteWorld → Option Question
 asked_at number world = question_of (application_of world.host.panels) (session_at number world.host)
     (state_at number world.host)
 
--- Holds if the question has the key, the LU, the cursor and each field of the panel as the terminal shows them, and,
--- unless Clear was pressed, the protected part of the screen is as it was left.
-pub record IsPanelSeen (panel : List PanelField) (row : ℕ) (question : Question)
+-- Holds if a question of this connection has the key, the LU, the cursor and each field of its panel as the terminal
+-- shows them; if it is about the panel that the screen shows; and if, unless Clear was pressed, the protected part of
+-- the screen is as it was left.
+pub record IsPanelSeen (app : Application) (service : Service) (row : ℕ) (question : Question)
     (terminal : TerminalSeen) : Type 0 where
-  pub seen : IsSeen panel question terminal
-  pub fields : AreFieldsAsked panel question terminal.screen
+  pub rest : Rest
+  pub host : Session
+  pub is_open : service ≡ Service.Open rest host
+  pub panel : IsPanelAsked app true host question terminal
+  pub seen : IsSeen (app.fields question.panel) question terminal
+  pub fields : AreFieldsAsked (app.fields question.panel) question terminal.screen
   pub protected : IsScreenAsLeft row terminal
 
 -- Holds if each open question has what its terminal shows; and the protected part of each attached terminal's screen
@@ -153,8 +196,8 @@ pub record IsPanelSeen (panel : List PanelField) (row : ℕ) (question : Questio
 pub record WhatIsAskedIsSeen (world : ByteWorld) : Type 0 where
   pub questions : (number : ℕ) (question : Question) (terminal : TerminalSeen)
       → asked_at number world ≡ Some question → (seen_connection number world).terminal ≡ Some terminal
-      → IsPanelSeen ((application_of world.host.panels).fields question.panel)
-      (row_at terminal.number world) question terminal
+      → IsPanelSeen (application_of world.host.panels) (state_at number world.host) (row_at terminal.number world)
+      question terminal
   pub screens : (number : ℕ) (terminal : TerminalSeen) → (seen_connection number world).terminal ≡ Some terminal
       → IsScreenAsLeft (row_at terminal.number world) terminal
 

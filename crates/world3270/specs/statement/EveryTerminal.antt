@@ -27,7 +27,7 @@ use Rattle.host_core.specs.declared.question.Answer.{Answer as ApplicationAnswer
 use Rattle.host_core.specs.declared.question.Question.{Question}
 use Rattle.host_core.specs.declared.terminals.Terminals.{Terminals}
 use Rattle.host_core.specs.declared.unheard.Unheard.TheVariants.{Input}
-use Rattle.world3270.specs.statement.Asked.{AreFieldsAsked, IsSeen, ShowsItsFields}
+use Rattle.world3270.specs.statement.Asked.{AreFieldsAsked, IsPanelAsked, IsSeen, ShowsItsFields}
 use Rattle.world3270.specs.statement.Headline.{Agrees, IsHostsTurn, SeesTheScreen}
 use Rattle.world3270.specs.model.Link.{Link, cut, host_sent, host_stepped, term_stepped}
 use Rattle.world3270.specs.model.Enabled.{is_queued}
@@ -202,7 +202,7 @@ told_link t = record t.link { term = record t.link.term { display = t.told } }
 -- but for the characters and MDT of input fields, is true of the terminal's present screen: it has the attributes and
 -- the protected characters that the host believes.
 -- An open question has the key, the cursor and the text of each field of its panel of what the host was told; at
--- connect and after Clear neither has a field.
+-- connect and after Clear neither has a field, and else the screen that the last paint left shows the panel.
 -- After a paint is answered, the screen that it left shows the panel, whatever was typed in the wait before it.
 -- Neither end has closed the connection for a cause: both are attached.
 pub record RightOf (app : Application) (lu : List ℕ) (t : LinkWithReport) : Type 0 where
@@ -215,6 +215,9 @@ pub record RightOf (app : Application) (lu : List ℕ) (t : LinkWithReport) : Ty
   pub fields_asked : ShowsItsFields app → (session : ℕ) (question : Question)
       → question_in app session t.link.host ≡ Some question
       → AreFieldsAsked (app.fields question.panel) question t.told.screen
+  pub panel_asked : WantsItsFields app → (number session : ℕ) (question : Question)
+      → question_in app session t.link.host ≡ Some question
+      → IsPanelAsked app false t.link.host question (end_seen number t.link.term)
   pub shown : WantsItsFields app → HasShown t.link.host
       → IsPanelShown app false t.link.host t.link.term.display.before_restored t.link.term.display.last_restored
   pub host_here : t.link.host_here ≡ true

@@ -35,22 +35,21 @@ HasNotClosed phase.Talking = ⊤
 HasNotClosed (phase.Refused reason) = ⊤
 HasNotClosed (phase.Bound lu) = ⊤
 
--- Holds if the bytes under way to the host, after what its decoder holds (`read`), are whole items, and none of these
--- is a negative response. If the host has left, `read` is the beginning of at most one item.
+-- Holds if the bytes under way to a host, after what its decoder holds, are whole items, and none of these is a
+-- negative response.
 pub record CarriesNoRefusal (number : ℕ) (world : ByteWorld) : Type 0 where
-  pub read : Rest
-  pub holds : host_there number world ≡ true → read ≡ host_rest number world
-  pub is_rest : IsRest record_limit read
+  pub is_rest : IsRest record_limit (host_rest number world)
   pub items : List WireItem
-  pub delivers : Delivers record_limit read (up_of number world) items nothing
+  pub delivers : Delivers record_limit (host_rest number world) (up_of number world) items nothing
   pub none : AllByRecursion IsNotNegative items
 
--- Holds if neither end of a connection has closed it for a cause, no negative response is under way, and none is the
--- reason why the host has the turn. (An end that closes leaves at once: so `MakesNoProtocolError` says more.)
+-- Holds if neither end of a connection has closed it for a cause, no negative response is under way to an attached
+-- host, and none is the reason why the host has the turn. (An end that closes leaves at once, and what is under way to a
+-- host that has left is never read: so `MakesNoProtocolError` says more.)
 pub record HasNoProtocolError (world : ByteWorld) : Type 0 where
   pub hosts : (number : ℕ) → IsNotClosed (state_at number world.host)
   pub terminals : (terminal : ℕ) → HasNotClosed (phase_of (slot_at terminal world).tracked.terminal.link)
-  pub responses : (number : ℕ) → CarriesNoRefusal number world
+  pub responses : (number : ℕ) → host_there number world ≡ true → CarriesNoRefusal number world
   pub turns : (number : ℕ) (rest : Rest) (conn : Session) → state_at number world.host ≡ Service.Open rest conn
       → conn.turn ≡ whose.Host
       → conn.turn_reason ≡ turn_reasons.Refusal → ⊥

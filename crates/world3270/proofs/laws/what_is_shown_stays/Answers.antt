@@ -1,3 +1,4 @@
+use Rattle.world3270.proofs.Leading.{keys_lead_to_one}
 use Rattle.world3270.proofs.ScreensFound.{decisions_are_shown, others_are_not_shown, paints_find}
 use Rattle.world3270.proofs.ScreensStay.{turns_keep, turns_keep_over_bytes}
 use Rattle.world3270.proofs.ShownSince.{answers_are_shown, steps_keep, waiting_keeps}
@@ -18,8 +19,11 @@ returns-clause-found c = paints_find c.what_is_given.ensures
 
 pub returns-clause-decisions : goal.returns-clause-decisions
 returns-clause-decisions c =
-    decisions_are_shown c.what_is_given.ensures c.panels_are_shown.ensures.application c.bytes_follow_messages.ensures.steps c.bytes_follow_messages.ensures.skipped
+    decisions_are_shown c.what_is_given.ensures c.panels_are_shown.ensures.application c.fields_are_on_the_screen.ensures c.bytes_follow_messages.ensures.steps c.bytes_follow_messages.ensures.skipped
     c.what_is_answered_is_shown.ensures.bytes
+
+pub returns-clause-keys : goal.returns-clause-keys
+returns-clause-keys c = keys_lead_to_one
 
 pub returns-clause-others : goal.returns-clause-others
 returns-clause-others c = others_are_not_shown c.what_is_answered_is_shown.ensures.others

@@ -1,0 +1,45 @@
+-- A world has connections of which `EveryTerminalOverBytes` speaks (our profile).
+use Rattle.std.specs.Prelude.{◌≡◌, ℕ, true, false, List, [], Some}
+use Rattle.telnet_wire.specs.Reading.{Rest}
+use Rattle.host_core.specs.Application.{application_of}
+use Rattle.host_core.specs.Session.{Pending, Session, agreed_lu}
+use Rattle.host_core.specs.State.{Service, state_at}
+use Rattle.host_core.specs.declared.turn.Turn.TheVariants as whose
+use Rattle.host_core.specs.declared.turn_reason.TurnReason.TheVariants.{Agreement}
+use Rattle.host_core.specs.declared.unheard.Unheard.TheVariants.{Input}
+use Rattle.world3270.specs.model.ByteSteps.{is_lost}
+use Rattle.world3270.specs.model.ByteWorld.{ByteWorld, slot_at, terminal_at, up_of}
+use Rattle.world3270.specs.refinement.Refines.{IsReached}
+use Rattle.world3270.specs.refinement.Representation.{with_out}
+use Rattle.world3270.specs.statement.EveryTerminalBytes.{BeginsOverBytes, IsHost, OverBytes}
+
+-- connection `number` of a world, at whose end this terminal is, before it was sent a panel
+abbrev pub over_bytes : (number terminal : ℕ) → ByteWorld → OverBytes
+over_bytes number terminal world = record {
+  host = world.host;
+  down = [];
+  up = up_of number world;
+  tracked = with_out [] (slot_at terminal world).tracked;
+  waits = true;
+}
+
+-- Holds just after the host has agreed on this LU on a connection that isn't lost, with this terminal at its other end;
+-- the host doesn't rely on the terminal's wait.
+pub record IsAgreedOn (number terminal : ℕ) (lu : List ℕ) (world : ByteWorld) : Type 0 where
+  pub rest : Rest
+  pub host : Session
+  pub is_open : state_at number world.host ≡ Service.Open rest host
+  pub agreed : agreed_lu host.talk.state ≡ Some lu
+  pub any : host.unheard ≡ Input
+  pub turn : host.turn ≡ whose.Host
+  pub pending : host.pending ≡ Pending.Nothing
+  pub first : host.turn_reason ≡ Agreement
+  pub there : terminal_at number world.slots ≡ Some terminal
+  pub live : is_lost number world ≡ false
+
+-- In each world whose bytes represent a world over messages, and whose host is one that its type allows, such a
+-- connection is a begin of `EveryTerminalOverBytes`.
+abbrev pub WorldsBeginOverBytes : Type 0
+WorldsBeginOverBytes = (number terminal : ℕ) (lu : List ℕ) (world : ByteWorld) → IsReached world → IsHost world.host
+    → IsAgreedOn number terminal lu world
+    → BeginsOverBytes (application_of world.host.panels) number lu (over_bytes number terminal world)
