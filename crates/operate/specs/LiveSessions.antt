@@ -1,5 +1,5 @@
 -- A live terminal with its connection and its tty: what a turn reads, sends and writes (our profile).
-use Rattle.std.specs.Prelude.{◌≡◌, ◌⊎◌, ◌==◌, ◌&&◌, ◌||◌, not, ℕ, Bool, true, false, List, [], length, None, Result, Ok, Err, Unit, drop}
+use Rattle.std.specs.Prelude.{◌≡◌, ◌⊎◌, ◌==◌, ◌&&◌, ◌||◌, not, ℕ, Bool, true, false, List, [], length, None, Result, Ok, Err, drop}
 use Rattle.std.specs.declared.io.Error.{Error}
 use Rattle.host_core.specs.declared.links.LinkRead.{LinkRead}
 use Rattle.host_core.specs.declared.links.LinkRead.TheVariants as read
