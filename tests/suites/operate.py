@@ -291,45 +291,48 @@ def the_screen_is_drawn_again():
 # ---- what a tty is written
 
 
+# The SGR of what is in no field, and of the status row: light grey on black, of the palette of 256.
+PLAIN = "\x1b[0;38;5;252;48;5;16m"
+
+
 def put(row: int, column: int, text: str) -> str:
-    return f"\x1b[{row:03};{column:03}H\x1b[0m{text}"
+    return f"\x1b[{row:03};{column:03}H{PLAIN}{text}"
 
 
 def at(row: int, column: int) -> str:
     return f"\x1b[{row:03};{column:03}H"
 
 
+def drawn_again(first: str, *last: str, rows: int = 24) -> str:
+    """What erases the tty and draws each cell: the first row of the screen, blank ones, and the last."""
+    texts = [first, *[""] * (rows - 1), *last]
+    return ERASE_ALL + "".join(put(row, 1, text.ljust(80)) for row, text in enumerate(texts, 1))
+
+
+def status(lock: str, lu: str, place: str) -> str:
+    return f"{'connected':16}{lock:16}{'':8}{lu:15}{'ESC ? shows keys':17}{place}"
+
+
 ERASE_ALL = "\x1b[0m\x1b[2J"
 WAITS, FREE = put(25, 17, "X") + put(25, 19, "SYSTEM"), put(25, 17, " ") + put(25, 19, " " * 6)
-CONNECTED = put(25, 1, "connected")
-# At first the whole screen, which is blank.
-HINT = put(25, 56, "ESC") + put(25, 60, "?") + put(25, 62, "shows") + put(25, 68, "keys")
-FIRST = ERASE_ALL + CONNECTED + WAITS + HINT + put(25, 73, "001/001") + at(1, 1)
-# Later all, with what was typed.
-ALL = (
-    ERASE_ALL
-    + put(1, 1, "HIABCDE")
-    + CONNECTED
-    + put(25, 41, "PNL01")
-    + HINT
-    + put(25, 73, "001/008")
-    + at(1, 8)
-)
+# At first the whole screen, which is blank. Later all, with what was typed.
+FIRST = drawn_again("", status("X SYSTEM", "", "001/001")) + at(1, 1)
+ALL = drawn_again("HIABCDE", status("", "PNL01", "001/008")) + at(1, 8)
 # Turns of a session: the bytes of the host, those that are typed, and those that the tty is written
 # then. What is written are CUP, SGR and ED (ECMA-48): the cells that changed, and then the cursor's
-# place. The status row is the 25th.
+# place; if the host sent bytes, first for these, and then for the keys. The status row is the 25th.
 TURNS = [
     # The terminal is bound.
     (
         DO + SEND_TYPE + device_type(4, "PNL01") + FUNCTIONS_IS,
         b"",
-        put(25, 41, "PNL01") + at(1, 1),
+        put(25, 41, "PNL01") + at(1, 1) * 2,
     ),
     # Erase/Write, number 0: `HI` without fields, the cursor after it; it restores the keyboard.
     (
         bytes.fromhex("0000020000 F5C3 114040 C8C9 13 FFEF"),
         b"",
-        put(1, 1, "HI") + FREE + put(25, 79, "3") + at(1, 3),
+        put(1, 1, "HI") + FREE + put(25, 79, "3") + at(1, 3) * 2,
     ),
     # Two keys, in one read.
     (b"", b"AB", put(1, 3, "AB") + put(25, 79, "5") + at(1, 5)),
@@ -343,11 +346,11 @@ TURNS = [
     (
         bytes.fromhex("0000020001 F1C3 FFEF"),
         b"",
-        put(1, 5, "CD") + FREE + put(25, 79, "7") + at(1, 7),
+        FREE + at(1, 5) + put(1, 5, "CD") + put(25, 79, "7") + at(1, 7),
     ),
     (b"", b"E", put(1, 7, "E") + put(25, 79, "8") + at(1, 8)),
     # The tty has 24 rows: all is drawn again, without a status row; and 25 again.
-    (b"", b"\x1b[24;80R", ERASE_ALL + put(1, 1, "HIABCDE") + at(1, 8)),
+    (b"", b"\x1b[24;80R", drawn_again("HIABCDE") + at(1, 8)),
     (b"", b"\x1b[25;080R", ALL),
     # The operator has the screen drawn again.
     (b"", b"\x0c", ALL),

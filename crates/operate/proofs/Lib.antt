@@ -1,2 +1,3 @@
 pub mod LiveLemmas
+mod LiveFaults
 pub mod LiveReads

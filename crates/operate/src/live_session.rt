@@ -1,8 +1,8 @@
 //! `operate`: a terminal at a host, for an operator at a tty.
-ghost use Rattle.std.specs.Prelude.{◌≡◌, ◌≤◌, ◌||◌, IfOk, OnOk, length, take};
+ghost use Rattle.std.specs.Prelude.{◌≡◌, ◌≤◌, ◌||◌, IfErr, IfOk, OnOk, length, take};
 ghost use Rattle.term_core.specs.State.{is_bound, phase_of};
-ghost use Rattle.jobs.specs.Counting.{chunk_size};
-ghost use Rattle.operate.specs.LiveSessions.{AfterRead, Loses, ReadsHost, ReadsKeys, Rests, SendsOver, TakesBytes, TakesInput, TakesTurnOver, TakesTurnTyped, Works, WritesTty, got_count, is_quiet};
+ghost use Rattle.jobs.specs.Counting.{CutShort, chunk_size};
+ghost use Rattle.operate.specs.LiveSessions.{AfterRead, BreaksTurnOver, BreaksTurnTyped, FailsToHear, FailsToReadKeys, FailsToTake, Loses, ReadsHost, ReadsKeys, Rests, SendsOver, TakesBytes, TakesInput, TakesTurnOver, TakesTurnTyped, Works, WritesTty, got_count, is_quiet, loss_result, phase_result, read_result};
 ghost use Rattle.host_core.specs.Serves.{GotWithin, bytes_got};
 ghost use Rattle.jobs.specs.Sockets.{Gives};
 
@@ -121,7 +121,8 @@ impl<S: RawRead + RawWrite + Drop, K: Drop, T: Drop> OperatorSession<S, K, T> {
 
     /// Ends the connection. Returns this fault if the terminal has never been bound to an LU.
     fn lose(&mut self, fault: Fault) -> Result<(), Fault>
-        ensures { OnOk result (Loses self.old self.new) }
+        ensures result { result ≡ loss_result self.old.was_bound fault }
+        ensures loses { Loses self.old self.new }
     {
         self.socket.close();
         self.live.lose();
@@ -134,6 +135,7 @@ impl<S: RawRead + RawWrite + Drop, K: Drop, T: Drop> OperatorSession<S, K, T> {
         requires { length came.old ≡ chunk_size }
         ensures within { IfOk result (λ count. count ≤ length came.new) }
         ensures reads { IfOk result (λ count. ReadsHost S.read_gave (take count came.new) self.old self.new) }
+        ensures fails { IfErr result (λ fault. FailsToHear S.read_gave fault self.old self.new) }
     {
         let answer = read_socket(&mut self.socket, came);
         self.follow(answer)?;
@@ -142,7 +144,8 @@ impl<S: RawRead + RawWrite + Drop, K: Drop, T: Drop> OperatorSession<S, K, T> {
 
     /// Ends the connection if a read found its end or failed.
     fn follow(&mut self, answer: LinkRead) -> Result<(), Fault>
-        ensures { OnOk result (AfterRead answer self.old self.new) }
+        ensures result { result ≡ read_result self.old.was_bound answer }
+        ensures after { AfterRead answer self.old self.new }
     {
         match answer {
             LinkRead::Got(_) | LinkRead::NotNow => Ok(()),
@@ -167,7 +170,8 @@ impl<S: RawRead + RawWrite + Drop, K: Drop, T: Drop> OperatorSession<S, K, T> {
 
     /// Takes the typed bytes, and draws nothing.
     fn rest(&mut self, typed: &[u8]) -> Result<(), Fault>
-        ensures { OnOk result (Rests typed.now self.old self.new) }
+        ensures rests { OnOk result (Rests typed.now self.old self.new) }
+        ensures memory { IfErr result (λ fault. fault ≡ Fault.NoMemory) }
     {
         self.live.take_typed(typed)?;
         Ok(())
@@ -176,9 +180,10 @@ impl<S: RawRead + RawWrite + Drop, K: Drop, T: Drop> OperatorSession<S, K, T> {
     /// Notes whether the terminal is bound. A fault if the host rejected the terminal's request for an LU, or if the
     /// terminal closed the connection.
     fn check_phase(&mut self) -> Result<(), Fault>
-        ensures { OnOk result (self.new ≡ record self.old {
+        ensures result { result ≡ phase_result (phase_of self.old.live.seat.terminal.link) }
+        ensures noted { self.new ≡ record self.old {
           was_bound = self.old.was_bound || is_bound (phase_of self.old.live.seat.terminal.link);
-        }) }
+        } }
     {
         let phase = self.live.phase();
         self.was_bound |= phase.is_bound();
@@ -197,8 +202,9 @@ impl<S: RawRead + RawWrite + Drop, K: Drop, T: Drop> OperatorSession<S, K, T> {
         typed: &[u8],
         drawn: &mut Vec<u8>,
     ) -> Result<(), Fault>
-        ensures { OnOk result
+        ensures takes { OnOk result
             (TakesBytes came.now typed.now self.old self.new drawn.old.items drawn.new.items) }
+        ensures memory { IfErr result (λ fault. fault ≡ Fault.NoMemory) }
     {
         if is_quiet(came, typed, self.stale) {
             return self.rest(typed);
@@ -217,7 +223,9 @@ impl<S: RawRead + RawWrite + Drop, K: Drop, T: Drop> OperatorSession<S, K, T> {
         typed: &[u8],
         drawn: &mut Vec<u8>,
     ) -> Result<bool, Fault>
-        ensures { OnOk result (TakesTurnTyped S.read_gave S.write_took typed.now self.old self.new
+        ensures takes { OnOk result (TakesTurnTyped S.read_gave S.write_took typed.now self.old self.new
+            drawn.old.items drawn.new.items) }
+        ensures breaks { IfErr result (BreaksTurnTyped S.read_gave S.write_took typed.now self.old self.new
             drawn.old.items drawn.new.items) }
     {
         let mut came = [0; CHUNK];
@@ -249,6 +257,7 @@ impl<S: RawRead + RawWrite + Drop, K: Source + Drop, T: Sink + Drop> OperatorSes
         requires { length typed.old ≡ chunk_size }
         ensures within { IfOk result (λ count. count ≤ length typed.new) }
         ensures reads { IfOk result (λ count. ReadsKeys K.gave (take count typed.new) self.old self.new) }
+        ensures fails { IfErr result (λ fault. (fault ≡ Fault.InputNotRead) × FailsToReadKeys K.gave self.old self.new) }
     {
         match read_chunk(&mut self.keys, typed) {
             Answer::Gave(count) => Ok(count),
@@ -259,7 +268,9 @@ impl<S: RawRead + RawWrite + Drop, K: Source + Drop, T: Sink + Drop> OperatorSes
 
     /// Writes `drawn` to the tty.
     fn write_tty(&mut self) -> Result<(), Fault>
-        ensures { OnOk result (WritesTty T.seen self.old self.new) }
+        ensures writes { OnOk result (WritesTty T.seen self.old self.new) }
+        ensures fails { IfErr result (λ fault. (fault ≡ Fault.OutputFailed)
+            × CutShort (T.seen self.old.tty) (T.seen self.new.tty) self.old.drawn) }
     {
         if self.tty.write_all(self.drawn.as_slice()).is_err() {
             return Err(Fault::OutputFailed);
@@ -270,7 +281,8 @@ impl<S: RawRead + RawWrite + Drop, K: Source + Drop, T: Sink + Drop> OperatorSes
 
     /// Takes the bytes received and those typed, and draws the screen, unless nothing happened.
     fn take(&mut self, alloc: Global, came: &[u8], typed: &[u8]) -> Result<(), Fault>
-        ensures { OnOk result (TakesInput T.seen came.now typed.now self.old self.new) }
+        ensures takes { OnOk result (TakesInput T.seen came.now typed.now self.old self.new) }
+        ensures fails { IfErr result (λ fault. FailsToTake T.seen fault self.old self.new) }
     {
         if is_quiet(came, typed, self.stale) {
             self.rest(typed)
@@ -281,7 +293,8 @@ impl<S: RawRead + RawWrite + Drop, K: Source + Drop, T: Sink + Drop> OperatorSes
 
     /// Takes a turn of the live terminal, and writes to the tty.
     fn work(&mut self, alloc: Global, came: &[u8], typed: &[u8]) -> Result<(), Fault>
-        ensures { OnOk result (Works T.seen came.now typed.now self.old self.new) }
+        ensures works { OnOk result (Works T.seen came.now typed.now self.old self.new) }
+        ensures fails { IfErr result (λ fault. FailsToTake T.seen fault self.old self.new) }
     {
         self.live.turn(alloc, came, typed, &mut self.drawn)?;
         self.stale = false;
@@ -296,7 +309,8 @@ impl<S: RawRead + RawWrite + Drop, K: Source + Drop, T: Sink + Drop> OperatorSes
     /// connection; LiveFault::HostEnded or SocketFailed if the connection ended or failed before the terminal was first
     /// bound; InputNotRead or OutputFailed if the tty fails; NoMemory if memory is refused.
     pub fn turn(&mut self, alloc: Global) -> Result<bool, Fault>
-        ensures { OnOk result (TakesTurnOver S.read_gave S.write_took K.gave T.seen self.old self.new) }
+        ensures takes { OnOk result (TakesTurnOver S.read_gave S.write_took K.gave T.seen self.old self.new) }
+        ensures breaks { IfErr result (BreaksTurnOver S.read_gave S.write_took K.gave T.seen self.old self.new) }
     {
         let mut came = [0; CHUNK];
         let mut typed = [0; CHUNK];

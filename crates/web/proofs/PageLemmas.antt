@@ -1,5 +1,5 @@
 -- A frame that closes nothing, and what holds of a result.
-use Rattle.std.proofs.Common.{◌≡◌, false, refl, IfOk, Result, Ok, Err}
+use Rattle.std.proofs.Common.{◌≡◌, false, refl, IfErr, IfOk, Result, Ok, Err}
 use Rattle.web_wire.specs.Steps.{is_closed}
 use Rattle.web_wire.specs.declared.received.Closing.{Closing}
 use Rattle.web_wire.specs.declared.received.Received.{Received}
@@ -17,3 +17,8 @@ not_closed (Closed closing) never = absurd (never closing refl)
 pub when_ok : {A E : Type 0} {P Q : A → Type 0} (result : Result A E) → ((value : A) → P value → Q value) → IfOk result P → IfOk result Q
 when_ok (Ok value) leads holds = leads value holds
 when_ok (Err error) leads holds = tt
+
+-- and so of an error
+pub when_err : {A E : Type 0} {P Q : E → Type 0} (result : Result A E) → ((error : E) → P error → Q error) → IfErr result P → IfErr result Q
+when_err (Ok value) leads holds = tt
+when_err (Err error) leads holds = leads error holds

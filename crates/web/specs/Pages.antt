@@ -5,12 +5,15 @@ use Rattle.host_core.specs.declared.links.LinkRead.{LinkRead}
 use Rattle.host_core.specs.declared.links.LinkRead.TheVariants as read
 use Rattle.host_core.specs.declared.links.LinkWrite.{LinkWrite}
 use Rattle.host_core.specs.declared.links.LinkWrite.TheVariants as write
-use Rattle.operate.specs.LiveSessions.{Session, TakesTurnTyped}
+use Rattle.jobs.specs.declared.fault.Fault.{Fault}
+use Rattle.operate.specs.LiveSessions.{BreaksTurnTyped, Session, TakesTurnTyped}
 use Rattle.web_wire.specs.Sockets.{IsRead}
 use Rattle.web_wire.specs.Steps.{is_closed}
 use Rattle.web_wire.specs.declared.received.Closing.{Closing}
 use Rattle.web_wire.specs.declared.received.Received.{Received}
 use Rattle.web_wire.specs.declared.received.Received.TheVariants as received
+use Rattle.web_wire.specs.declared.socket.SendFault.{SendFault}
+use Rattle.web_wire.specs.declared.socket.SendFault.TheVariants as send
 use Rattle.web.specs.Links.{Link, Receives, SendsPage, has_output, with_drawing}
 use Rattle.web.specs.declared.page_turn.PageTurn.{PageTurn}
 use Rattle.web.specs.declared.page_turn.PageTurn.TheVariants as turned
@@ -35,6 +38,11 @@ has_moved _ = true
 abbrev pub redraw_key : ℕ
 redraw_key = 12
 
+-- the fault that ends a session whose drawing can't be sent
+abbrev pub fault_of : SendFault → Fault
+fault_of send.Memory = Fault.NoMemory
+fault_of send.Full = Fault.OutputFailed
+
 -- what a turn is in which output waits after this write
 abbrev pub waiting : LinkWrite → PageTurn
 waiting (write.Took count) = turned.Going false true
@@ -54,6 +62,15 @@ module _ {B H : Type 0} (gave : H → ℕ → List ℕ → Result ℕ Error → 
     pub drawing : List ℕ
     pub turned : TakesTurnTyped gave took typed old_terminal new_terminal [] drawing
     pub sent : new_page ≡ with_drawing drawing old_page
+
+  -- Holds if a turn in which these bytes were typed fails: it breaks off by this fault, and the page is sent nothing; or
+  -- the drawing is made and can't be sent, for want of memory or since it is too long for a page.
+  pub data FailsToDraw (typed : List ℕ) (old_page : Link B) (old_terminal : Terminal H) (new_page : Link B)
+      (new_terminal : Terminal H) : Fault → Type 0 where
+    at_turn : (fault : Fault) (drawn : List ℕ) → BreaksTurnTyped gave took typed old_terminal new_terminal [] drawn fault
+        → new_page ≡ old_page → FailsToDraw typed old_page old_terminal new_page new_terminal fault
+    at_page : (drawn : List ℕ) (why : SendFault) → TakesTurnTyped gave took typed old_terminal new_terminal [] drawn
+        → new_page ≡ old_page → FailsToDraw typed old_page old_terminal new_page new_terminal (fault_of why)
 
   -- holds if this frame is a close, or breaks a rule: the terminal isn't touched
   abbrev pub IsClosedBy : Received → (read_page : Link B) → (old_terminal : Terminal H) → PageTurn → (new_page : Link B)
@@ -80,7 +97,26 @@ module _ {B H : Type 0} (gave : H → ℕ → List ℕ → Result ℕ Error → 
     pub served : IsClosedBy frame read_page old_terminal turn new_page new_terminal
         ⊎ IsPressed frame keys heard read_page old_terminal turn new_page new_terminal
 
+  -- Holds if the next frame is read, and the turn with its keys fails by this fault.
+  pub record FailsToServe (fault : Fault) (old_page : Link B) (old_terminal : Terminal H) (new_page : Link B)
+      (new_terminal : Terminal H) : Type 0 where
+    pub frame : Received
+    pub keys : List ℕ
+    pub read_page : Link B
+    pub reads : IsRead old_page.frames frame [] keys read_page.frames
+    pub same_socket : read_page.socket ≡ old_page.socket
+    pub fails : FailsToDraw keys read_page old_terminal new_page new_terminal fault
+
   module _ (page_gave : B → ℕ → List ℕ → Result ℕ Error → B → Type 0) where
+    -- holds if the page's socket is read, and serving the page fails by this fault
+    pub record FailsToExchange (fault : Fault) (old_page : Link B) (old_terminal : Terminal H) (new_page : Link B)
+        (new_terminal : Terminal H) : Type 0 where
+      pub came : LinkRead
+      pub heard_page : Link B
+      pub receives : Receives page_gave old_page came heard_page
+      pub goes_on : is_lost came ≡ false
+      pub fails : FailsToServe fault heard_page old_terminal new_page new_terminal
+
     -- holds if the page's socket is read, and then the page is served, unless the socket has ended
     pub record Exchanges (old_page : Link B) (old_terminal : Terminal H) (turn : PageTurn) (new_page : Link B)
         (new_terminal : Terminal H) : Type 0 where
@@ -110,3 +146,12 @@ module _ {B H : Type 0} (gave : H → ℕ → List ℕ → Result ℕ Error → 
             ((has_output flushed ≡ true) × (turn ≡ waiting wrote) × (new_page ≡ flushed)
             × (new_terminal ≡ old_terminal))
             ⊎ ((has_output flushed ≡ false) × ServesAndSends flushed old_terminal turn new_page new_terminal)
+
+      -- Holds if a turn fails by this fault: what waited was sent, all of it, and then serving the page failed.
+      pub record BreaksPageTurn (fault : Fault) (old_page : Link B) (old_terminal : Terminal H) (new_page : Link B)
+          (new_terminal : Terminal H) : Type 0 where
+        pub flushed : Link B
+        pub wrote : LinkWrite
+        pub flushes : SendsPage page_took old_page wrote flushed
+        pub none_waits : has_output flushed ≡ false
+        pub fails : FailsToExchange fault flushed old_terminal new_page new_terminal

@@ -1,6 +1,6 @@
 //! The turn of a page and its terminal.
-ghost use Rattle.std.specs.Prelude.{◌≡◌, ◌∷◌, [], IfOk, OnOk};
-ghost use Rattle.web.specs.Pages.{DrawsTurn, Exchanges, Serves, TakesPageTurn, has_moved, is_got, is_lost, redraw_key, waiting};
+ghost use Rattle.std.specs.Prelude.{◌≡◌, ◌∷◌, [], IfErr, IfOk, OnOk};
+ghost use Rattle.web.specs.Pages.{BreaksPageTurn, DrawsTurn, Exchanges, FailsToDraw, FailsToExchange, FailsToServe, Serves, fault_of, TakesPageTurn, has_moved, is_got, is_lost, redraw_key, waiting};
 
 use crate::page_link::PageLink;
 use host_core::{LinkRead, LinkWrite};
@@ -48,7 +48,9 @@ fn has_moved(received: &Received) -> bool
 }
 
 /// The fault that ends a session whose drawing can't be sent.
-fn fault_of(fault: SendFault) -> Fault {
+fn fault_of(fault: SendFault) -> Fault
+    ensures { result ≡ fault_of fault }
+{
     match fault {
         SendFault::Memory => Fault::NoMemory,
         SendFault::Full => Fault::OutputFailed,
@@ -63,8 +65,10 @@ pub(crate) fn draw_turn<B: RawRead + RawWrite + Drop, H: RawRead + RawWrite + Dr
     page: &mut PageLink<B>,
     terminal: &mut PageTerminal<H>,
 ) -> Result<bool, Fault>
-    ensures { OnOk result
+    ensures draws { OnOk result
         (DrawsTurn H.read_gave H.write_took typed.now page.old terminal.old page.new terminal.new) }
+    ensures fails { IfErr result
+        (FailsToDraw H.read_gave H.write_took typed.now page.old terminal.old page.new terminal.new) }
 {
     let mut drawing = Vec::new(alloc);
     let moved = terminal.turn_typed(alloc, typed, &mut drawing)?;
@@ -80,7 +84,9 @@ pub(crate) fn draw_again<B: RawRead + RawWrite + Drop, H: RawRead + RawWrite + D
     page: &mut PageLink<B>,
     terminal: &mut PageTerminal<H>,
 ) -> Result<bool, Fault>
-    ensures { OnOk result (DrawsTurn H.read_gave H.write_took (redraw_key ∷ []) page.old terminal.old page.new
+    ensures draws { OnOk result (DrawsTurn H.read_gave H.write_took (redraw_key ∷ []) page.old terminal.old page.new
+        terminal.new) }
+    ensures fails { IfErr result (FailsToDraw H.read_gave H.write_took (redraw_key ∷ []) page.old terminal.old page.new
         terminal.new) }
 {
     draw_turn(alloc, &[REDRAW], page, terminal)
@@ -93,8 +99,10 @@ fn serve<B: RawRead + RawWrite + Drop, H: RawRead + RawWrite + Drop>(
     page: &mut PageLink<B>,
     terminal: &mut PageTerminal<H>,
 ) -> Result<PageTurn, Fault>
-    ensures { IfOk result
+    ensures serves { IfOk result
         (λ turn. Serves H.read_gave H.write_took heard page.old terminal.old turn page.new terminal.new) }
+    ensures fails { IfErr result
+        (λ fault. FailsToServe H.read_gave H.write_took fault page.old terminal.old page.new terminal.new) }
 {
     let mut keys = Vec::new(alloc);
     let received = page.read_frame(&mut keys);
@@ -114,8 +122,10 @@ fn exchange<B: RawRead + RawWrite + Drop, H: RawRead + RawWrite + Drop>(
     page: &mut PageLink<B>,
     terminal: &mut PageTerminal<H>,
 ) -> Result<PageTurn, Fault>
-    ensures { IfOk result (λ turn. Exchanges H.read_gave H.write_took B.read_gave page.old terminal.old turn page.new
-        terminal.new) }
+    ensures exchanges { IfOk result (λ turn. Exchanges H.read_gave H.write_took B.read_gave page.old terminal.old turn
+        page.new terminal.new) }
+    ensures fails { IfErr result (λ fault. FailsToExchange H.read_gave H.write_took B.read_gave fault page.old
+        terminal.old page.new terminal.new) }
 {
     let came = page.receive();
     if is_lost(came) {
@@ -152,8 +162,10 @@ pub(crate) fn take_page_turn<B: RawRead + RawWrite + Drop, H: RawRead + RawWrite
     page: &mut PageLink<B>,
     terminal: &mut PageTerminal<H>,
 ) -> Result<PageTurn, Fault>
-    ensures { IfOk result (λ turn. TakesPageTurn H.read_gave H.write_took B.read_gave B.write_took page.old
+    ensures takes { IfOk result (λ turn. TakesPageTurn H.read_gave H.write_took B.read_gave B.write_took page.old
         terminal.old turn page.new terminal.new) }
+    ensures breaks { IfErr result (λ fault. BreaksPageTurn H.read_gave H.write_took B.read_gave B.write_took fault
+        page.old terminal.old page.new terminal.new) }
 {
     let wrote = page.send();
     if page.has_output() {
