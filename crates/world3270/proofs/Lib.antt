@@ -40,6 +40,7 @@ pub mod RunsOfNotes
 pub mod RunsOfTargets
 pub mod RunsOfQuestions
 pub mod RunsOfLosses
+pub mod RunsOfBytes
 pub mod Runs
 pub mod RepresentsFits
 pub mod Represents
