@@ -21,7 +21,7 @@ use Rattle.tn3270e_msg.specs.Talk.{NegotiationMessage}
 use Rattle.tn3270e_msg.specs.TermTable.{Term}
 use Rattle.tn3270e_msg.specs.declared.reply.OwnedMessage.TheVariants.{FunIs}
 use Rattle.host_core.specs.Answering.{number_of}
-use Rattle.host_core.specs.Acts.{Act, Decision, decision_in, decision_on, may_act}
+use Rattle.host_core.specs.Acts.{Act as HostAct, Decision, decision_in, decision_on, may_act}
 use Rattle.host_core.specs.Application.{Application, IsApplication, message_place}
 use Rattle.host_core.specs.Messages.{ToHost, ToTerminal}
 use Rattle.host_core.specs.Questions.{question_in}
@@ -175,13 +175,13 @@ module _ (given : LowerLaws) (app : Application) (is : IsApplication app) (lu : 
 -- ---- what is read off
 
 -- the host decides by itself, in its turn
-record DecidesItself (app : Application) (conn : Session) (act : Act) : Type 0 where
+record DecidesItself (app : Application) (conn : Session) (act : HostAct) : Type 0 where
   turns : conn.turn ≡ whose.Host
   pends : conn.pending ≡ Pending.Nothing
   agrees : is_agreed conn.talk.state ≡ true
   decides : decision_on app conn conn.turn_reason ≡ Decision.Do act
 
-decided_itself : (app : Application) (conn : Session) (act : Act) → decision_in app conn ≡ Some (Decision.Do act) → DecidesItself app conn act
+decided_itself : (app : Application) (conn : Session) (act : HostAct) → decision_in app conn ≡ Some (Decision.Do act) → DecidesItself app conn act
 decided_itself app conn act = by_may (may_act conn.turn conn.pending (is_agreed conn.talk.state)) refl
   where
     by_may : (b : Bool) → may_act conn.turn conn.pending (is_agreed conn.talk.state) ≡ b → (if b then Some (decision_on app conn conn.turn_reason) else None) ≡ Some (Decision.Do act) → DecidesItself app conn act
@@ -273,7 +273,7 @@ module _ (given : LowerLaws) (written : WrittenIsThere) (kept : KeptStaysThere) 
         let its = about_its_panel app session t.link.host question asked on_now in
         record { same = its.0; shown = panel_shown wants its.1 };
     leads = λ shows wants asked message keep given_values decided.
-        let its = decided_itself app end.host (Act.Show asked message keep given_values)
+        let its = decided_itself app end.host (HostAct.Show asked message keep given_values)
         (ap (decision_in app) (sym same_host) ∙ decided) in
         let may = may_act_at given app is end s.kept its.turns its.pends its.agrees in
         let leads = subst (Leads app end.host end.term.display.screen (panel_with_keys app end.host end.term.display.screen.aid)) its.decides (leads_now given app is shows wants.again end s.kept may) in

@@ -58,7 +58,7 @@ sound_panels = record {
   });
   numbers = each_panel (λ (x : PanelParts). HaveNumbersApart x.fields) (λ i j one other below at_i at_j. absurd (cc));
   values = record {
-    values = λ p i j panel one other below at at_i at_j. (each_panel (λ (x : PanelParts). slice_get x.values i ≡ Some one → ⊥) (λ none. absurd (cc)) p panel at) at_i;
+    values = λ p i j panel one other below at at_i at_j. absurd ((each_panel (λ (x : PanelParts). slice_get x.values i ≡ Some one → ⊥) (λ none. absurd (cc)) p panel at) at_i);
     fields = λ p q i j panel other field value at at_q at_i at_j. absurd ((each_panel (λ (x : PanelParts). slice_get x.fields i ≡ Some field → ⊥) (λ none. absurd (cc)) p panel at) at_i);
   };
   shown = each_panel ShowsItsValues (λ j value at. absurd (cc));
@@ -103,7 +103,7 @@ shown_on (suc number) = subst (IsShown one_panel) (sym (free_there number)) tt
 sound_host : IsSound agreed_host
 sound_host = record {
   connections = ap suc (length-replicate 63 unused);
-  sessions = length-replicate 64 0;
+  sessions = length-replicate {A = ℕ} 64 0;
   held = λ number below. held number;
   shown = shown_on;
 }

@@ -18,7 +18,7 @@ use Rattle.shadow.specs.Paint.{paint}
 use Rattle.tn3270e_msg.specs.Device.{model_of}
 use Rattle.tn3270e_msg.specs.declared.device.Device.{Device}
 use Rattle.tn3270e_msg.specs.declared.host_talk.HostState.TheVariants.{Agreed as HostAgreed}
-use Rattle.host_core.specs.Acts.{Act, Decision, acted, decision_in}
+use Rattle.host_core.specs.Acts.{Act as HostAct, Decision, acted, decision_in}
 use Rattle.host_core.specs.Application.{Application, IsApplication}
 use Rattle.host_core.specs.Messages.{ToTerminal, ToHost, Verdict}
 use Rattle.host_core.specs.Notes.{IsNoteText, noted}
@@ -223,7 +223,7 @@ pub record RightOf (app : Application) (lu : List ℕ) (t : LinkWithReport) : Ty
       → question_in app session t.link.host ≡ Some question
       → IsPanelAsked app false t.link.host question (end_seen number t.link.term)
   pub leads : ShowsItsFields app → WantsItsFields app → (asked : ℕ) (message : Message) (keep : Bool) (given : Values)
-      → decision_in app t.link.host ≡ Some (Decision.Do (Act.Show asked message keep given))
+      → decision_in app t.link.host ≡ Some (Decision.Do (HostAct.Show asked message keep given))
       → IsLedTo app (model_in t.link.host) (panel_with_keys app t.link.host t.told.screen.aid) t.told.screen
       (app.shown (model_in t.link.host) asked) message keep
   pub shown : WantsItsFields app → HasShown t.link.host
