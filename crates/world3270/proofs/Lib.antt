@@ -28,6 +28,7 @@ pub mod SimulatedDown
 pub mod EveryTerminal
 pub mod KeyMoves
 pub mod Worlds
+pub mod Moved
 pub mod Headline
 pub mod RunsInPieces
 pub mod SignedOn
