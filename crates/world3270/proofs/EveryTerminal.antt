@@ -1,7 +1,8 @@
 -- Every terminal: the connection is simulated from agreement on, by each move; and what holds is read off the waiting terminal's.
-use Rattle.std.proofs.Common.{◌≡◌, ◌<◌, Bool, false, ℕ, Option, None, Some, List, [], ◌∷◌, append-nil, inl, length, refl, ap, sym, subst, ◌∙◌}
+use Rattle.std.proofs.Common.{◌≡◌, ◌<◌, Bool, true, false, if◌then◌else◌, ℕ, Option, None, Some, List, [], ◌∷◌, append-nil, inl, length, refl, ap, sym, subst, ◌∙◌}
 use Rattle.std.specs.Prelude.{replicate}
 use Rattle.std.proofs.lemmas.List.{length-replicate}
+use Rattle.std.proofs.lemmas.Option.{same_Some}
 use Rattle.codes3270.specs.Size.{cells_in}
 use Rattle.codes3270.specs.declared.attribute.Cell.TheVariants.{Char}
 use Rattle.datastream.specs.Fields.{Field, fields}
@@ -20,14 +21,17 @@ use Rattle.tn3270e_msg.specs.Talk.{NegotiationMessage}
 use Rattle.tn3270e_msg.specs.TermTable.{Term}
 use Rattle.tn3270e_msg.specs.declared.reply.OwnedMessage.TheVariants.{FunIs}
 use Rattle.host_core.specs.Answering.{number_of}
+use Rattle.host_core.specs.Acts.{Act as HostAct, Decision, decision_in, decision_on, may_act}
 use Rattle.host_core.specs.Application.{Application, IsApplication, message_place}
 use Rattle.host_core.specs.Messages.{ToHost, ToTerminal}
 use Rattle.host_core.specs.Questions.{question_in}
-use Rattle.host_core.specs.Session.{Session, agreed_lu, new_conn}
+use Rattle.host_core.specs.Session.{Pending, Session, agreed_lu, is_agreed, model_in, new_conn}
 use Rattle.host_core.specs.Takes.{may_have_changed}
 use Rattle.host_core.specs.declared.question.Question.{Question}
+use Rattle.host_core.specs.declared.turn.Turn.TheVariants as whose
 use Rattle.world3270.specs.statement.Asked.{AreFieldsAsked, IsSeen}
 use Rattle.world3270.specs.statement.EveryTerminal.{AreByTheRules, FirstPaint, EveryTerminal, IsByTheRules, Move, RightOf, LinkWithReport, after_moves, came_down, came_up, moved, told_link}
+use Rattle.world3270.specs.statement.Leading.{IsLedTo, panel_with_keys}
 use Rattle.world3270.specs.refinement.LowerLaws.{LowerLaws}
 use Rattle.world3270.specs.statement.Headline.{Agrees, IsHostsTurn, SeesTheScreen}
 use Rattle.world3270.specs.model.Link.{Link}
@@ -40,9 +44,11 @@ use Rattle.world3270.specs.statement.ShownFields.{WantsItsFields}
 use Rattle.world3270.specs.refinement.Invariant.{Fact, FactsAreExact, IsNew, ConnectionInvariant, ShownAt, local_state_of}
 use Rattle.world3270.specs.model.Terminal.{Display, TermEnd, bound_to, new_display}
 use Rattle.world3270.specs.refinement.View.{view_of}
+use Rattle.world3270.proofs.Acting.{may_act_at, may_act_when}
 use Rattle.world3270.proofs.Asked.{asked_seen, each_asked}
 use Rattle.world3270.proofs.AskedPanels.{about_its_panel}
 use Rattle.world3270.proofs.Obeys.{decides_new}
+use Rattle.world3270.proofs.Leading.{Leads, leads_now}
 use Rattle.world3270.proofs.Headline.{Knows, agrees, bound_agrees, host_attached, knows_at, nothing_waits}
 use Rattle.world3270.proofs.ReadsInput.{still_unformatted}
 use Rattle.world3270.proofs.ShownFields.{cursor_shown, fields_shown, values_shown}
@@ -168,6 +174,22 @@ module _ (given : LowerLaws) (app : Application) (is : IsApplication app) (lu : 
 
 -- ---- what is read off
 
+-- the host decides by itself, in its turn
+record DecidesItself (app : Application) (conn : Session) (act : HostAct) : Type 0 where
+  turns : conn.turn ≡ whose.Host
+  pends : conn.pending ≡ Pending.Nothing
+  agrees : is_agreed conn.talk.state ≡ true
+  decides : decision_on app conn conn.turn_reason ≡ Decision.Do act
+
+decided_itself : (app : Application) (conn : Session) (act : HostAct) → decision_in app conn ≡ Some (Decision.Do act) → DecidesItself app conn act
+decided_itself app conn act = by_may (may_act conn.turn conn.pending (is_agreed conn.talk.state)) refl
+  where
+    by_may : (b : Bool) → may_act conn.turn conn.pending (is_agreed conn.talk.state) ≡ b → (if b then Some (decision_on app conn conn.turn_reason) else None) ≡ Some (Decision.Do act) → DecidesItself app conn act
+    by_may true may is =
+        let when = may_act_when conn.turn conn.pending (is_agreed conn.talk.state) may in
+        record { turns = when.0; pends = when.1; agrees = when.2; decides = same_Some (decision_on app conn conn.turn_reason) (Decision.Do act) is }
+    by_may false may is = absurd (cc)
+
 -- an end is seen by its talk, and by what it displays but for the keyboard
 seen_alike : (number : ℕ) (one other : TermEnd) → one.talk ≡ other.talk → one.display ≡ record other.display { keyboard = one.display.keyboard } → end_seen number one ≡ end_seen number other
 seen_alike number one other talk display =
@@ -250,6 +272,13 @@ module _ (given : LowerLaws) (written : WrittenIsThere) (kept : KeptStaysThere) 
     panel_asked = λ wants number session question asked on_now.
         let its = about_its_panel app session t.link.host question asked on_now in
         record { same = its.0; shown = panel_shown wants its.1 };
+    leads = λ shows wants asked message keep given_values decided.
+        let its = decided_itself app end.host (HostAct.Show asked message keep given_values)
+        (ap (decision_in app) (sym same_host) ∙ decided) in
+        let may = may_act_at given app is end s.kept its.turns its.pends its.agrees in
+        let leads = subst (Leads app end.host end.term.display.screen (panel_with_keys app end.host end.term.display.screen.aid)) its.decides (leads_now given app is shows wants.again end s.kept may) in
+        subst (λ (host : Session). IsLedTo app (model_in host) (panel_with_keys app host t.told.screen.aid) t.told.screen (app.shown (model_in host) asked) message keep) (sym same_host)
+        (subst (λ (d : Display). IsLedTo app (model_in end.host) (panel_with_keys app end.host d.screen.aid) d.screen (app.shown (model_in end.host) asked) message keep) s.display leads);
     shown = λ wants has. panel_shown wants has;
     host_here = s.host_here;
     term_here = s.term_here;

@@ -34,17 +34,25 @@ is_data (ToHost.Data parts) = true
 is_data (ToHost.Response number verdict) = false
 is_data (ToHost.TalksUp saying) = false
 
+-- whether it is said to the talk
+abbrev is_talk : ToHost → Bool
+is_talk (ToHost.Data parts) = false
+is_talk (ToHost.Response number verdict) = false
+is_talk (ToHost.TalksUp saying) = true
+
 pub record GoesOn (pool : Answers) (conn : Session) (message : ToHost) : Type 0 where
   pub turn : (took pool conn message).conn.turn ≡ turn_after message conn.turn
   pub pending : (took pool conn message).conn.pending ≡ pending_after message conn.pending
   pub talk : (took pool conn message).conn.talk ≡ conn.talk
+  pub unheard : (took pool conn message).conn.unheard ≡ conn.unheard
+  pub no_talk : is_talk message ≡ false
   pub pressed : is_data message ≡ true → (took pool conn message).conn.turn_reason ≡ turn_reasons.Agreement → ⊥
 
 -- what is believed leaves the turn to the host
 believed_turn : (P : Shadow → Type 0) (reason : TurnReason) (pending : Pending) (cursor : Option ℕ) (conn : Session) (r : Result Shadow HeardFault) → IsOkAnd r P
     → ((believed reason pending cursor conn r).conn.turn ≡ whose.Host) × ((believed reason pending cursor conn r).conn.pending ≡ pending) × ((believed reason pending cursor conn r).conn.talk ≡ conn.talk)
-    × ((believed reason pending cursor conn r).conn.turn_reason ≡ reason)
-believed_turn P reason pending cursor conn (Ok shadow) ok = (refl, refl, refl, refl)
+    × ((believed reason pending cursor conn r).conn.turn_reason ≡ reason) × ((believed reason pending cursor conn r).conn.unheard ≡ conn.unheard)
+believed_turn P reason pending cursor conn (Ok shadow) ok = (refl, refl, refl, refl, refl)
 believed_turn P reason pending cursor conn (Err fault) ok = absurd ok
 
 no_read : (pending : Pending) → IsKeyTime pending → pending ≡ unless_read pending
@@ -60,13 +68,15 @@ key_goes P pool conn parts agrees turns time form some ok =
       turn = ap (λ (s : HostStep). s.conn.turn) is ∙ then_this.0;
       pending = ap (λ (s : HostStep). s.conn.pending) is ∙ then_this.1 ∙ no_read conn.pending time;
       talk = ap (λ (s : HostStep). s.conn.talk) is ∙ then_this.2;
+      unheard = ap (λ (s : HostStep). s.conn.unheard) is ∙ then_this.4;
+      no_talk = refl;
       pressed = λ of_data first. absurd (let both : turn_reasons.Key parts.aid false ≡ turn_reasons.Agreement = sym (ap (λ (s : HostStep). s.conn.turn_reason) is ∙ then_this.3) ∙ first in cc);
     }
 
 response_goes : (pool : Answers) (conn : Session) (kind : Kind) (number : ℕ) (command : CommandParts) → is_agreed conn.talk.state ≡ true → conn.pending ≡ awaiting kind number command → GoesOn pool conn (ToHost.Response number Verdict.Positive)
 response_goes pool conn kind number command agrees pends =
     let is = response_took pool conn kind number command agrees pends in
-    record { turn = ap (λ (s : HostStep). s.conn.turn) is; pending = ap (λ (s : HostStep). s.conn.pending) is; talk = ap (λ (s : HostStep). s.conn.talk) is; pressed = λ of_data. absurd (cc) }
+    record { turn = ap (λ (s : HostStep). s.conn.turn) is; pending = ap (λ (s : HostStep). s.conn.pending) is; talk = ap (λ (s : HostStep). s.conn.talk) is; unheard = ap (λ (s : HostStep). s.conn.unheard) is; no_talk = refl; pressed = λ of_data. absurd (cc) }
 
 -- a screen is read after a key alone
 read_later : (reason : TurnReason) → (reason ≡ turn_reasons.Agreement → ⊥) → once_read reason ≡ turn_reasons.Agreement → ⊥
@@ -84,6 +94,8 @@ buffer_goes P pool conn size screen number agrees pends unbroken later ok =
       turn = ap (λ (s : HostStep). s.conn.turn) is ∙ then_this.0;
       pending = ap (λ (s : HostStep). s.conn.pending) is ∙ then_this.1 ∙ sym (ap unless_read pends);
       talk = ap (λ (s : HostStep). s.conn.talk) is ∙ then_this.2;
+      unheard = ap (λ (s : HostStep). s.conn.unheard) is ∙ then_this.4;
+      no_talk = refl;
       pressed = λ of_data first. read_later conn.turn_reason later (sym (ap (λ (s : HostStep). s.conn.turn_reason) is ∙ then_this.3) ∙ first);
     }
 

@@ -34,7 +34,7 @@ use Rattle.host_core.specs.Messages.{ToHost, ToTerminal}
 use Rattle.host_core.specs.Notes.{may_note, noted, noted_as}
 use Rattle.host_core.specs.Questions.{act_by, answered_on, has_its_panel, is_asking, panel_for}
 use Rattle.host_core.specs.Rejections.{lu_asked}
-use Rattle.host_core.specs.Session.{Pending, Session, agreed_lu, is_agreed, new_conn}
+use Rattle.host_core.specs.Session.{Pending, Session, agreed_lu, is_agreed, new_conn, unheard_of}
 use Rattle.host_core.specs.State.{Connection, Host, Service, connection_at, most_connections, state_at, unused}
 use Rattle.host_core.specs.Takes.{Answers, HostStep, asked, data_came, once_agreed, response_came, talked_on, took as host_took}
 use Rattle.host_core.specs.declared.question.Answer.{Answer as ApplicationAnswer}
@@ -42,6 +42,7 @@ use Rattle.host_core.specs.declared.terminals.Terminals.{Terminals}
 use Rattle.host_core.specs.declared.turn.Turn.{Turn}
 use Rattle.host_core.specs.declared.turn.Turn.TheVariants as whose
 use Rattle.host_core.specs.declared.turn_reason.TurnReason.TheVariants as turn_reasons
+use Rattle.host_core.specs.declared.unheard.Unheard.TheVariants.{Input}
 use Rattle.world3270.specs.model.ByteWorld.{Transit, down_of, host_out, is_live, is_there, transits_at, under_way}
 use Rattle.world3270.specs.model.Link.{Link, host_left_if, host_sent, sent, term_stepped}
 use Rattle.world3270.specs.model.Terminal.{Display, after_key, key_came, new_display, took as term_took}
@@ -73,10 +74,10 @@ use Rattle.world3270.proofs.Worlds.{GoodWorld, new_good, run_good}
 -- ---- until a panel is shown
 
 -- both ends are as at the begin of a connection, but for the negotiation and the keyboard
-record IsFresh (app : Application) (host : Session) (display : Display) : Type 0 where
-  serves : Terminals
-  host_is : host ≡ record (new_conn serves app) { talk = host.talk }
-  display_is : display ≡ record (new_display display.model app.begins) { keyboard = display.keyboard }
+pub record IsFresh (app : Application) (host : Session) (display : Display) : Type 0 where
+  pub serves : Terminals
+  pub host_is : host ≡ record (new_conn serves app) { talk = host.talk }
+  pub display_is : display ≡ record (new_display display.model app.begins) { keyboard = display.keyboard }
 
 -- a panel was shown, or a key was pressed
 abbrev IsPast : Session → Type 0
@@ -86,20 +87,20 @@ abbrev IsFreshOrPast : Application → Link → Type 0
 IsFreshOrPast app link = IsFresh app link.host link.term.display ⊎ IsPast link.host
 
 module _ (app : Application) where
-  fresh_turn : (host : Session) (display : Display) → IsFresh app host display → host.turn ≡ whose.Host
+  pub fresh_turn : (host : Session) (display : Display) → IsFresh app host display → host.turn ≡ whose.Host
   fresh_turn host display f = ap (λ (h : Session). h.turn) f.host_is
 
-  fresh_pending : (host : Session) (display : Display) → IsFresh app host display → host.pending ≡ Pending.Nothing
+  pub fresh_pending : (host : Session) (display : Display) → IsFresh app host display → host.pending ≡ Pending.Nothing
   fresh_pending host display f = ap (λ (h : Session). h.pending) f.host_is
 
-  fresh_reason : (host : Session) (display : Display) → IsFresh app host display → host.turn_reason ≡ turn_reasons.Agreement
+  pub fresh_reason : (host : Session) (display : Display) → IsFresh app host display → host.turn_reason ≡ turn_reasons.Agreement
   fresh_reason host display f = ap (λ (h : Session). h.turn_reason) f.host_is
 
   -- another state of the negotiation, another keyboard
   talks_fresh : (host : Session) (display : Display) (talk : Talk HostState) → IsFresh app host display → IsFresh app (record host { talk = talk }) display
   talks_fresh host display talk f = record { serves = f.serves; host_is = ap (λ (h : Session). record h { talk = talk }) f.host_is; display_is = f.display_is }
 
-  same_fresh : (host new : Session) (display : Display) → new ≡ record host { talk = new.talk } → IsFresh app host display → IsFresh app new display
+  pub same_fresh : (host new : Session) (display : Display) → new ≡ record host { talk = new.talk } → IsFresh app host display → IsFresh app new display
   same_fresh host new display same f = subst (λ (h : Session). IsFresh app h display) (sym same) (talks_fresh host display new.talk f)
 
   same_past : (host new : Session) → new ≡ record host { talk = new.talk } → IsPast host → IsPast new
@@ -128,7 +129,7 @@ replies_talk pool conn lu talk reply.Agreed = refl
 replies_talk pool conn lu talk (reply.Refused reason) = refl
 replies_talk pool conn lu talk (reply.Close cause) = refl
 
-said_talk : (pool : Answers) (conn : Session) (saying : NegotiationMessage) → let new = (host_took pool conn (ToHost.TalksUp saying)).conn in new ≡ record conn { talk = new.talk }
+pub said_talk : (pool : Answers) (conn : Session) (saying : NegotiationMessage) → let new = (host_took pool conn (ToHost.TalksUp saying)).conn in new ≡ record conn { talk = new.talk }
 said_talk pool conn saying =
     let next : Talk HostState × Reply = follow Closed conn.talk (host_transition conn.talk.state (says saying)) in
     replies_talk pool conn (lu_asked (says saying)) next.0 next.1
@@ -139,7 +140,7 @@ left_either app None link either = either
 left_either app (Some cause) link either = either
 
 module _ (given : LowerLaws) (app : Application) (link : Link) (k : ConnectionInvariant app (view_of link)) where
-  quiet_fresh : IsFresh app link.host link.term.display → IsQuiet link.term.display.keyboard.lock link.down link.up
+  pub quiet_fresh : IsFresh app link.host link.term.display → IsQuiet link.term.display.keyboard.lock link.down link.up
   quiet_fresh f = is_quiet app link k (fresh_turn app link.host link.term.display f) (fresh_pending app link.host link.term.display f)
 
   -- the host takes a message
@@ -211,19 +212,22 @@ module _ (given : LowerLaws) (app : Application) (link : Link) (k : ConnectionIn
   down_either (ToTerminal.ReadBuffer number) rest e (inl f) = absurd (subst AreTalk e (quiet_fresh f).goes_down)
   down_either (ToTerminal.Note number command) rest e (inl f) = absurd (subst AreTalk e (quiet_fresh f).goes_down)
 
-  key_either : (key : Key) → IsFreshOrPast app link → IsFreshOrPast app (term_stepped (key_came key link.term) link.down link)
-  key_either key (inr past) = inr past
-  key_either key (inl f) =
+  pub key_fresh : (key : Key) → IsFresh app link.host link.term.display → IsFresh app link.host (after_key key link.term.display)
+  key_fresh key f =
       let now : Display = after_key key link.term.display in
       let same = key_waits key link (quiet_fresh f).waits in
       let screen_is : now.screen ≡ link.term.display.screen = ap (λ (v : View). v.screen) same in
       let erased_is : now.erased ≡ link.term.display.erased = ap (λ (v : View). v.erased) same in
-      inl (record {
+      record {
         serves = f.serves;
         host_is = f.host_is;
         display_is = ap (λ (s : Screen). record now { screen = s }) screen_is ∙ ap (λ (e : Bool). record now { screen = link.term.display.screen; erased = e }) erased_is
             ∙ ap (λ (d : Display). record d { keyboard = now.keyboard }) f.display_is;
-      })
+      }
+
+  key_either : (key : Key) → IsFreshOrPast app link → IsFreshOrPast app (term_stepped (key_came key link.term) link.down link)
+  key_either key (inr past) = inr past
+  key_either key (inl f) = inl (key_fresh key f)
 
 fresh_steps : LowerLaws → (app : Application) → Steps app (λ event. ⊤) (IsFreshOrPast app) (λ display. ⊤)
 fresh_steps given app = record {
@@ -248,17 +252,17 @@ fresh_steps given app = record {
 -- ---- at agreement
 
 -- both ends over messages just after the host has agreed on an LU
-record IsAgreedHere (app : Application) (lu : List ℕ) (link : Link) : Type 0 where
-  device : Device
-  agreed : link.host.talk.state ≡ Agreed device lu
-  model : model_of device ≡ link.term.display.model
-  binds : Binds lu link.term.talk.talk.state link.down
-  nothing_up : link.up ≡ []
+pub record IsAgreedHere (app : Application) (lu : List ℕ) (link : Link) : Type 0 where
+  pub device : Device
+  pub agreed : link.host.talk.state ≡ Agreed device lu
+  pub model : model_of device ≡ link.term.display.model
+  pub binds : Binds lu link.term.talk.talk.state link.down
+  pub nothing_up : link.up ≡ []
 
 all_there : {X : Type 0} (lost : Bool) (queue messages : List X) → lost ≡ false → IsInFlight lost queue messages → queue ≡ messages
 all_there lost queue messages live way = sym (append-nil queue) ∙ ap (λ (behind : List _). queue ++ behind) (sym (way.none live)) ∙ way.whole
 
-agreed_here : (app : Application) (link : Link) (wanted : Option (List ℕ)) (lu : List ℕ) → link.lost ≡ false → agreed_lu link.host.talk.state ≡ Some lu → MayAct app link wanted → IsAgreedHere app lu link
+pub agreed_here : (app : Application) (link : Link) (wanted : Option (List ℕ)) (lu : List ℕ) → link.lost ≡ false → agreed_lu link.host.talk.state ≡ Some lu → MayAct app link wanted → IsAgreedHere app lu link
 agreed_here app link wanted lu live agreed (MayAct.agreeing mine at n) =
     let talk : IsAgreed link.term.display.model mine link.host.talk = at.host_talk in
     let same : mine ≡ lu = same_Some mine lu (sym (agreed_on link.host.talk talk) ∙ agreed) in
@@ -279,6 +283,31 @@ agreed_here app link wanted lu live agreed (MayAct.deciding mine s at f showing)
       binds = Binds.bound (at.term_talk ∙ ap BoundTo same) (all_there link.lost link.down [] live at.goes_down);
       nothing_up = all_there link.lost link.up [] live at.goes_up;
     }
+
+-- the begin at this connection
+abbrev pub begin_of : Link → LinkWithReport
+begin_of link = record { link = record link { term_here = Some 0; term = record link.term { waits = false } }; told = link.term.display; waits = true }
+
+pub blank_of : (app : Application) (lu : List ℕ) (link : Link) → IsFresh app link.host link.term.display → (now : IsAgreedHere app lu link)
+    → link.term.display ≡ record (new_display (model_of now.device) app.begins) { keyboard = link.term.display.keyboard }
+blank_of app lu link fresh now = fresh.display_is ∙ ap (λ (m : Model). record (new_display m app.begins) { keyboard = link.term.display.keyboard }) (sym now.model)
+
+pub first_of : (app : Application) (lu : List ℕ) (link : Link) → (fresh : IsFresh app link.host link.term.display) → unheard_of fresh.serves ≡ Input → link.host_here ≡ true → IsAgreedHere app lu link
+    → FirstPaint app lu (begin_of link)
+first_of app lu link fresh any here now = record {
+  device = now.device;
+  agreed = now.agreed;
+  serves = fresh.serves;
+  any = any;
+  host = fresh.host_is;
+  binds = now.binds;
+  blank = blank_of app lu link fresh now;
+  nothing_up = now.nothing_up;
+  host_here = here;
+  term_here = refl;
+  told = refl;
+  waits = refl;
+}
 
 -- nothing under way is nothing, whichever items represent messages
 nothing_read : (items : List WireItem) (messages : List ToHost) → messages ≡ [] → Pairwise RepresentsUp items messages → Pairwise IsReadAs (without_commands items) messages
@@ -363,26 +392,13 @@ worlds_begin given panels number terminal lu bytes is is_host a =
         (may_act_at given app is_app link (good.links number) (fresh_turn app link.host link.term.display fresh) (fresh_pending app link.host link.term.display fresh) (has_agreed lu link.host.talk.state agreed))
 
     begins : LinkWithReport
-    begins = record { link = record link { term_here = Some 0; term = record link.term { waits = false } }; told = link.term.display; waits = true }
+    begins = begin_of link
 
     blank_is : link.term.display ≡ record (new_display (model_of now.device) app.begins) { keyboard = link.term.display.keyboard }
-    blank_is = fresh.display_is ∙ ap (λ (m : Model). record (new_display m app.begins) { keyboard = link.term.display.keyboard }) (sym now.model)
+    blank_is = blank_of app lu link fresh now
 
     first : FirstPaint app lu begins
-    first = record {
-      device = now.device;
-      agreed = now.agreed;
-      serves = fresh.serves;
-      any = sym (ap (λ (h : Session). h.unheard) fresh.host_is) ∙ sym (ap (λ (h : Session). h.unheard) same) ∙ a.any;
-      host = fresh.host_is;
-      binds = now.binds;
-      blank = blank_is;
-      nothing_up = now.nothing_up;
-      host_here = here;
-      term_here = refl;
-      told = refl;
-      waits = refl;
-    }
+    first = first_of app lu link fresh (sym (ap (λ (h : Session). h.unheard) fresh.host_is) ∙ sym (ap (λ (h : Session). h.unheard) same) ∙ a.any) here now
 
     term : TermRepresents (link_with (Some terminal) number bytes) link
     term = subst (λ (h : Option ℕ). TermRepresents (link_with h number bytes) link) a.there (stands.term terminal there)

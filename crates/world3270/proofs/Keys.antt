@@ -53,11 +53,11 @@ use Rattle.world3270.proofs.Unreturned.{as_left_of, kept_of}
 -- ---- in Wait
 
 -- nothing is sent and the screen stays
-record Waits (key : Key) (screen : Screen) (outcome : Outcome) : Type 0 where
-  same : outcome.screen ≡ screen
-  lock : outcome.keyboard.lock ≡ Wait
-  keeps : erases_if outcome.answer key ≡ false
-  silent : (bound : Bool) (shape : ScreenSize) (now : Screen) → data_of bound outcome.answer shape now ≡ []
+pub record Waits (key : Key) (screen : Screen) (outcome : Outcome) : Type 0 where
+  pub same : outcome.screen ≡ screen
+  pub lock : outcome.keyboard.lock ≡ Wait
+  pub keeps : erases_if outcome.answer key ≡ false
+  pub silent : (bound : Bool) (shape : ScreenSize) (now : Screen) → data_of bound outcome.answer shape now ≡ []
 
 pub quiet_refused : (bound : Bool) (why : Refusal) (shape : ScreenSize) (now : Screen) → data_of bound (Refused why) shape now ≡ []
 quiet_refused true why shape now = refl
@@ -88,7 +88,7 @@ waits_by columns (Pf number) keyboard screen e = record { same = refl; lock = e;
 waits_by columns (Pa number) keyboard screen e = record { same = refl; lock = e; keeps = refl; silent = λ b shape now. quiet_refused b Locked shape now }
 waits_by columns Clear keyboard screen e = record { same = refl; lock = e; keeps = refl; silent = λ b shape now. quiet_refused b Locked shape now }
 
-waits : (columns : ℕ) (key : Key) (keyboard : Keyboard) (screen : Screen) → keyboard.lock ≡ Wait → Waits key screen (pressed columns key keyboard screen)
+pub waits : (columns : ℕ) (key : Key) (keyboard : Keyboard) (screen : Screen) → keyboard.lock ≡ Wait → Waits key screen (pressed columns key keyboard screen)
 waits columns key keyboard screen e = subst (λ l. Waits key screen (at_lock l columns key keyboard screen)) (sym e) (waits_by columns key keyboard screen e)
 
 -- ---- in the operator's turn

@@ -28,6 +28,7 @@ pub mod SimulatedDown
 pub mod EveryTerminal
 pub mod KeyMoves
 pub mod Worlds
+pub mod Moved
 pub mod Headline
 pub mod RunsInPieces
 pub mod SignedOn
@@ -40,6 +41,7 @@ pub mod RunsOfNotes
 pub mod RunsOfTargets
 pub mod RunsOfQuestions
 pub mod RunsOfLosses
+pub mod RunsOfBytes
 pub mod Runs
 pub mod RepresentsFits
 pub mod Represents

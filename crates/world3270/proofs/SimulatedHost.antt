@@ -133,7 +133,7 @@ act_unheard : (app : Application) (conn : Session) (act : Act) → may_have_chan
 act_unheard app conn Act.Read any = any
 act_unheard app conn (Act.Show panel message keep values) any = still_unheard conn.unheard any
 
-act_talk : (app : Application) (conn : Session) (act : Act) → (done app conn act).conn.talk ≡ conn.talk
+pub act_talk : (app : Application) (conn : Session) (act : Act) → (done app conn act).conn.talk ≡ conn.talk
 act_talk app conn Act.Read = refl
 act_talk app conn (Act.Show panel message keep values) = refl
 

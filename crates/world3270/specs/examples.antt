@@ -9,4 +9,5 @@ pub mod ExampleNotes
 pub mod ExampleTargets
 pub mod ExampleQuestions
 pub mod ExampleLosses
+pub mod ExampleBytes
 pub mod Example

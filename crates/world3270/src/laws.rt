@@ -4,8 +4,9 @@ ghost use Rattle.world3270.specs.statement.Always.{Always, AlwaysOf, HeadlineHol
 ghost use Rattle.world3270.specs.statement.Asked.{AskedIsSeen, AskedIsSeenOverBytes, FieldsAreSeen, OtherPanelsAreNotAsked, PanelsAreAsked, ScreensAreAsLeft};
 ghost use Rattle.world3270.specs.statement.EveryTerminal.{EveryTerminal};
 ghost use Rattle.world3270.specs.statement.EveryTerminalBytes.{EveryTerminalOverBytes};
-ghost use Rattle.world3270.specs.statement.Instances.{WorldsBeginOverBytes};
+ghost use Rattle.world3270.specs.statement.Instances.{ConnectionsAreMoved, WorldsBeginOverBytes};
 ghost use Rattle.world3270.specs.examples.Example.{TheRunsEndSo};
+ghost use Rattle.world3270.specs.examples.ExampleBytes.{ABeginIsThere};
 ghost use Rattle.world3270.specs.statement.Forms.{FormsAreAwaited};
 ghost use Rattle.world3270.specs.statement.Leading.{KeysLeadToOne};
 ghost use Rattle.world3270.specs.refinement.LowerLaws.{LowerLaws};
@@ -407,7 +408,8 @@ pub fn terminals_keep_the_rules()
 /// AID with exactly the modified fields. Then it is bound to that LU alone. Whenever the host decides, parts (b) to (d)
 /// of the headline hold of what it was told: the screen when the first key since the last paint was pressed, or as it
 /// was read since; and the present screen has the attributes and the protected characters that the host believes. Each
-/// open question has the key, the cursor and the fields of what the host was told.
+/// open question has the key, the cursor and the fields of what the host was told, and names the panel that the screen
+/// shows as the last paint left it. If the host itself decides what to show, it is where the key leads on that screen.
 /// After a paint is answered, the screen that it left shows the panel, whatever was typed before. Neither
 /// end closes the connection for a cause. The terminal need not wait for the host: meanwhile its operator
 /// may type, and press any key but Clear, since the host closes the connection if Clear crosses a command.
@@ -434,12 +436,20 @@ pub fn every_terminal_over_bytes()
     telnet_wire::laws::one_reading();
 }
 
-/// Law: worlds have the connections of which `every_terminal_over_bytes` speaks. Just after the host has agreed on an LU
-/// on a connection that isn't lost, and if it doesn't rely on the terminal's wait, host, terminal and the bytes under
-/// way are a begin as that theorem requires it.
+/// Law: the premises of `every_terminal_over_bytes` can be met. Just after the host has agreed on an LU on a connection of
+/// a world that isn't lost, and if it doesn't rely on the terminal's wait, host, terminal and the bytes under way are a
+/// begin as that theorem requires it. Also, a begin is there: of a host with one panel, and a terminal that is bound.
+/// Over messages, what happens then on the connection, until it is lost, are moves that keep the rules; so
+/// `every_terminal` holds of each such connection of a world.
 pub fn worlds_begin_so()
-    ensures { WorldsBeginOverBytes }
+    ensures worlds { WorldsBeginOverBytes }
+    ensures example { ABeginIsThere }
+    ensures moves { AlwaysOf ConnectionsAreMoved }
 {
+    what_is_known();
     what_is_given();
     panels_are_shown();
+    every_terminal();
+    terminals_keep_the_rules();
+    sent_keys_wait();
 }

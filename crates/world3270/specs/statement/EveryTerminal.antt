@@ -10,18 +10,20 @@ use Rattle.keyboard.specs.State.{freed}
 use Rattle.lu_pool.specs.Asking.{answer_to}
 use Rattle.lu_pool.specs.HolderLaws.{IsSound}
 use Rattle.lu_pool.specs.declared.entry.Entry.{Entry}
+use Rattle.panels.specs.Screen.{Values}
+use Rattle.panels.specs.declared.message.Message.{Message}
 use Rattle.shadow.specs.Belief.{Shadow}
 use Rattle.shadow.specs.Doubt.{doubted}
 use Rattle.shadow.specs.Paint.{paint}
 use Rattle.tn3270e_msg.specs.Device.{model_of}
 use Rattle.tn3270e_msg.specs.declared.device.Device.{Device}
 use Rattle.tn3270e_msg.specs.declared.host_talk.HostState.TheVariants.{Agreed as HostAgreed}
-use Rattle.host_core.specs.Acts.{acted}
+use Rattle.host_core.specs.Acts.{Act as HostAct, Decision, acted, decision_in}
 use Rattle.host_core.specs.Application.{Application, IsApplication}
 use Rattle.host_core.specs.Messages.{ToTerminal, ToHost, Verdict}
 use Rattle.host_core.specs.Notes.{IsNoteText, noted}
 use Rattle.host_core.specs.Questions.{answered_on, question_in}
-use Rattle.host_core.specs.Session.{agreed_lu, new_conn, unheard_of}
+use Rattle.host_core.specs.Session.{agreed_lu, model_in, new_conn, unheard_of}
 use Rattle.host_core.specs.Takes.{took as host_took}
 use Rattle.host_core.specs.declared.question.Answer.{Answer as ApplicationAnswer}
 use Rattle.host_core.specs.declared.question.Question.{Question}
@@ -31,6 +33,7 @@ use Rattle.world3270.specs.statement.Asked.{AreFieldsAsked, IsPanelAsked, IsSeen
 use Rattle.world3270.specs.statement.Headline.{Agrees, IsHostsTurn, SeesTheScreen}
 use Rattle.world3270.specs.model.Link.{Link, cut, host_sent, host_stepped, term_stepped}
 use Rattle.world3270.specs.model.Enabled.{is_queued}
+use Rattle.world3270.specs.statement.Leading.{IsLedTo, panel_with_keys}
 use Rattle.world3270.specs.statement.Rules.{Binds, Operates}
 use Rattle.world3270.specs.statement.Observation.{end_seen, seen_link}
 use Rattle.world3270.specs.statement.Shown.{HasShown, IsPanelShown}
@@ -202,7 +205,8 @@ told_link t = record t.link { term = record t.link.term { display = t.told } }
 -- but for the characters and MDT of input fields, is true of the terminal's present screen: it has the attributes and
 -- the protected characters that the host believes.
 -- An open question has the key, the cursor and the text of each field of its panel of what the host was told; at
--- connect and after Clear neither has a field, and else the screen that the last paint left shows the panel.
+-- connect and after Clear neither has a field, and else the screen that the last paint left shows the panel. If the
+-- host itself decides to show a panel, the key that was pressed on what it was told leads there.
 -- After a paint is answered, the screen that it left shows the panel, whatever was typed in the wait before it.
 -- Neither end has closed the connection for a cause: both are attached.
 pub record RightOf (app : Application) (lu : List ℕ) (t : LinkWithReport) : Type 0 where
@@ -218,6 +222,10 @@ pub record RightOf (app : Application) (lu : List ℕ) (t : LinkWithReport) : Ty
   pub panel_asked : WantsItsFields app → (number session : ℕ) (question : Question)
       → question_in app session t.link.host ≡ Some question
       → IsPanelAsked app false t.link.host question (end_seen number t.link.term)
+  pub leads : ShowsItsFields app → WantsItsFields app → (asked : ℕ) (message : Message) (keep : Bool) (given : Values)
+      → decision_in app t.link.host ≡ Some (Decision.Do (HostAct.Show asked message keep given))
+      → IsLedTo app (model_in t.link.host) (panel_with_keys app t.link.host t.told.screen.aid) t.told.screen
+      (app.shown (model_in t.link.host) asked) message keep
   pub shown : WantsItsFields app → HasShown t.link.host
       → IsPanelShown app false t.link.host t.link.term.display.before_restored t.link.term.display.last_restored
   pub host_here : t.link.host_here ≡ true

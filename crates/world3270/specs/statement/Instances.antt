@@ -1,16 +1,21 @@
--- A world has connections of which `EveryTerminalOverBytes` speaks (our profile).
+-- The connections of worlds are such as `EveryTerminal` and `EveryTerminalOverBytes` speak of (our profile).
 use Rattle.std.specs.Prelude.{◌≡◌, ℕ, true, false, List, [], Some}
+use Rattle.keyboard.specs.declared.key.Lock.TheVariants.{Wait}
 use Rattle.telnet_wire.specs.Reading.{Rest}
-use Rattle.host_core.specs.Application.{application_of}
+use Rattle.host_core.specs.Application.{Application, application_of}
 use Rattle.host_core.specs.Session.{Pending, Session, agreed_lu}
 use Rattle.host_core.specs.State.{Service, state_at}
+use Rattle.host_core.specs.Takes.{may_have_changed}
 use Rattle.host_core.specs.declared.turn.Turn.TheVariants as whose
 use Rattle.host_core.specs.declared.turn_reason.TurnReason.TheVariants.{Agreement}
 use Rattle.host_core.specs.declared.unheard.Unheard.TheVariants.{Input}
 use Rattle.world3270.specs.model.ByteSteps.{is_lost}
 use Rattle.world3270.specs.model.ByteWorld.{ByteWorld, slot_at, terminal_at, up_of}
+use Rattle.world3270.specs.model.Link.{Link}
+use Rattle.world3270.specs.model.World.{World}
 use Rattle.world3270.specs.refinement.Refines.{IsReached}
 use Rattle.world3270.specs.refinement.Representation.{with_out}
+use Rattle.world3270.specs.statement.EveryTerminal.{AreByTheRules, FirstPaint, LinkWithReport, Move, RightOf, after_moves}
 use Rattle.world3270.specs.statement.EveryTerminalBytes.{BeginsOverBytes, IsHost, OverBytes}
 
 -- connection `number` of a world, at whose end this terminal is, before it was sent a panel
@@ -43,3 +48,26 @@ abbrev pub WorldsBeginOverBytes : Type 0
 WorldsBeginOverBytes = (number terminal : ℕ) (lu : List ℕ) (world : ByteWorld) → IsReached world → IsHost world.host
     → IsAgreedOn number terminal lu world
     → BeginsOverBytes (application_of world.host.panels) number lu (over_bytes number terminal world)
+
+-- ---- what happens on it then
+
+-- Holds if this is the connection of a world, but for the terminal's number, and without its promise to wait. It does
+-- wait: while `EveryTerminal` says that a 3278's keyboard would be locked, this one is.
+pub record IsTheSame (link : Link) (t : LinkWithReport) : Type 0 where
+  pub link_is : t.link ≡ record link { term_here = Some 0; term = record link.term { waits = false } }
+  pub waits : t.waits ≡ true → link.term.display.keyboard.lock ≡ Wait
+
+-- Holds if from a begin of `EveryTerminal` on moves that keep the rules lead to the connection; so `RightOf` holds of it.
+pub record IsMoved (app : Application) (lu : List ℕ) (link : Link) : Type 0 where
+  pub begin : LinkWithReport
+  pub begins : FirstPaint app lu begin
+  pub moves : List Move
+  pub by_the_rules : AreByTheRules app moves begin
+  pub same : IsTheSame link (after_moves app moves begin)
+  pub right : RightOf app lu (after_moves app moves begin)
+
+-- After any list of events each connection that isn't lost is so, if the host has agreed on an LU there, and doesn't
+-- rely on the terminal's wait.
+abbrev pub ConnectionsAreMoved : Application → World → Type 0
+ConnectionsAreMoved app world = (number : ℕ) (lu : List ℕ) → let link = world.link number in link.lost ≡ false
+    → agreed_lu link.host.talk.state ≡ Some lu → may_have_changed link.host.unheard ≡ true → IsMoved app lu link

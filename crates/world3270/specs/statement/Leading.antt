@@ -58,7 +58,7 @@ panel_with_keys app conn (Pf key) = conn.panel
 panel_with_keys app conn (Pa key) = conn.panel
 
 -- Holds if the key whose AID the screen has leads from the panel `from` to this panel and this message, for a terminal
--- of this model. With `keep` the fields keep what the operator left in them, if that fits the belief. (`app.next` is
+-- of this model. With `keep` the fields keep what the operator left in them, if the host may keep fields. (`app.next` is
 -- where the `keys` of a panel lead: `next_of` of panels.)
 --
 -- target: the key has a target, and after Enter no required field is left blank. The target is shown fresh.

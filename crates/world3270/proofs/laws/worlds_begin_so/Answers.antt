@@ -1,5 +1,13 @@
 use Rattle.world3270.proofs.Instances.{worlds_begin}
+use Rattle.world3270.proofs.Moved.{connections_are_moved}
+use Rattle.world3270.proofs.RunsOfBytes.{a_begin}
 use Rattle.world3270.proofs.laws.worlds_begin_so.Goals as goal
 
-pub returns : goal.returns
-returns c = worlds_begin c.what_is_given.ensures c.panels_are_shown.ensures.application
+pub returns-clause-worlds : goal.returns-clause-worlds
+returns-clause-worlds c = worlds_begin c.what_is_given.ensures c.panels_are_shown.ensures.application
+
+pub returns-clause-example : goal.returns-clause-example
+returns-clause-example c = a_begin c.what_is_known.ensures c.panels_are_shown.ensures.application
+
+pub returns-clause-moves : goal.returns-clause-moves
+returns-clause-moves c = connections_are_moved c.what_is_given.ensures c.every_terminal.ensures c.terminals_keep_the_rules.ensures.ours c.sent_keys_wait.ensures.sends
