@@ -126,7 +126,7 @@ pub record GoesBy (app : Application) (Good : LinkWithReport → Type 0) (number
 
 -- ---- what is said
 
-pairs_become : {X Y : Type 0} (R S : X → Y → Type 0) → ((x : X) (y : Y) → R x y → S x y) → (xs : List X) (ys : List Y) → Pairwise R xs ys → Pairwise S xs ys
+pub pairs_become : {X Y : Type 0} (R S : X → Y → Type 0) → ((x : X) (y : Y) → R x y → S x y) → (xs : List X) (ys : List Y) → Pairwise R xs ys → Pairwise S xs ys
 pairs_become R S becomes [] [] h = tt
 pairs_become R S becomes [] (y ∷ ys) h = absurd h
 pairs_become R S becomes (x ∷ xs) [] h = absurd h

@@ -35,7 +35,7 @@ use Rattle.host_core.specs.Notes.{may_note, noted, noted_as}
 use Rattle.host_core.specs.Questions.{act_by, answered_on, has_its_panel, is_asking, panel_for}
 use Rattle.host_core.specs.Rejections.{lu_asked}
 use Rattle.host_core.specs.Session.{Pending, Session, agreed_lu, is_agreed, new_conn, unheard_of}
-use Rattle.host_core.specs.State.{Connection, Host, Service, connection_at, most_connections, state_at, unused}
+use Rattle.host_core.specs.State.{Connection, Host, Service, most_connections, state_at, unused}
 use Rattle.host_core.specs.Takes.{Answers, HostStep, asked, data_came, once_agreed, response_came, talked_on, took as host_took}
 use Rattle.host_core.specs.declared.question.Answer.{Answer as ApplicationAnswer}
 use Rattle.host_core.specs.declared.terminals.Terminals.{Terminals}
@@ -43,7 +43,9 @@ use Rattle.host_core.specs.declared.turn.Turn.{Turn}
 use Rattle.host_core.specs.declared.turn.Turn.TheVariants as whose
 use Rattle.host_core.specs.declared.turn_reason.TurnReason.TheVariants as turn_reasons
 use Rattle.host_core.specs.declared.unheard.Unheard.TheVariants.{Input}
-use Rattle.world3270.specs.model.ByteWorld.{Transit, down_of, host_out, is_live, is_there, transits_at, under_way}
+use Rattle.world3270.specs.model.ByteSteps.{is_lost}
+use Rattle.world3270.proofs.HostItems.{stands_read}
+use Rattle.world3270.specs.model.ByteWorld.{Transit, host_out, is_live, is_there, transits_at, under_way, ByteWorld, terminal_at}
 use Rattle.world3270.specs.model.Link.{Link, host_left_if, host_sent, sent, term_stepped}
 use Rattle.world3270.specs.model.Terminal.{Display, after_key, key_came, new_display, took as term_took}
 use Rattle.world3270.specs.model.World.{World, new_world}
@@ -53,19 +55,21 @@ use Rattle.world3270.specs.refinement.Phases.{IsAgreed, IsInFlight}
 use Rattle.world3270.specs.refinement.Readings.{IsReadAs}
 use Rattle.world3270.specs.refinement.Refines.{WorldSetup, after}
 use Rattle.world3270.specs.refinement.Representation.{conn_of, link_of, link_with}
-use Rattle.world3270.specs.refinement.Represents.{BytesDown, LinkRepresents, RepresentsUp, TermRepresents, without_commands}
+use Rattle.world3270.specs.refinement.Represents.{BytesDown, LinkRepresents, RepresentsUp, TermRepresents, without_commands, LinkRepresentsBy}
 use Rattle.world3270.specs.refinement.View.{View, view_of}
 use Rattle.world3270.specs.statement.EveryTerminal.{FirstPaint, LinkWithReport}
-use Rattle.world3270.specs.statement.EveryTerminalBytes.{BeginsOverBytes, Represents}
+use Rattle.world3270.specs.statement.EveryTerminalBytes.{BeginsOverBytes, Represents, link_over}
 use Rattle.world3270.specs.statement.Instances.{WorldsBeginOverBytes, over_bytes}
 use Rattle.world3270.specs.statement.Rules.{Binds}
 use Rattle.world3270.proofs.Acting.{MayAct, may_act_at, reads_later}
+use Rattle.world3270.proofs.AnyTerminal.{pairs_become}
 use Rattle.world3270.proofs.Down.{term_view}
 use Rattle.world3270.proofs.Everywhere.{Steps, everywhere}
 use Rattle.world3270.proofs.HeardTurns.{goes_on}
 use Rattle.world3270.proofs.HostSteps.{just_talks}
 use Rattle.world3270.proofs.Keys.{key_waits}
 use Rattle.world3270.proofs.ScreensFound.{AreTalk, AreTalkUp, IsQuiet, is_quiet}
+use Rattle.world3270.proofs.Represents.{all_heard}
 use Rattle.world3270.proofs.Sendable.{blank_sendable}
 use Rattle.world3270.proofs.Simulation.{has_agreed}
 use Rattle.world3270.proofs.TalkStates.{agreed_on}
@@ -284,9 +288,13 @@ agreed_here app link wanted lu live agreed (MayAct.deciding mine s at f showing)
       nothing_up = all_there link.lost link.up [] live at.goes_up;
     }
 
+-- the connection as `EveryTerminal` has it
+abbrev pub as_moved : Link → Link
+as_moved link = record link { term_here = Some 0; term = record link.term { waits = false } }
+
 -- the begin at this connection
 abbrev pub begin_of : Link → LinkWithReport
-begin_of link = record { link = record link { term_here = Some 0; term = record link.term { waits = false } }; told = link.term.display; waits = true }
+begin_of link = record { link = as_moved link; told = link.term.display; waits = true }
 
 pub blank_of : (app : Application) (lu : List ℕ) (link : Link) → IsFresh app link.host link.term.display → (now : IsAgreedHere app lu link)
     → link.term.display ≡ record (new_display (model_of now.device) app.begins) { keyboard = link.term.display.keyboard }
@@ -309,12 +317,6 @@ first_of app lu link fresh any here now = record {
   waits = refl;
 }
 
--- nothing under way is nothing, whichever items represent messages
-nothing_read : (items : List WireItem) (messages : List ToHost) → messages ≡ [] → Pairwise RepresentsUp items messages → Pairwise IsReadAs (without_commands items) messages
-nothing_read [] [] none each = tt
-nothing_read (item ∷ items) [] none each = absurd each
-nothing_read items (message ∷ messages) none each = absurd (cc)
-
 live_bytes : (transit : Transit) (out : List ℕ) → not (is_live transit) ≡ false → under_way transit out ≡ out
 live_bytes Transit.Live out live = refl
 live_bytes (Transit.Cut kept) out live = absurd (cc)
@@ -328,7 +330,45 @@ open_below number host rest conn count is = by_place (cases_lt number (length ho
     by_place (inl below) = subst (λ (n : ℕ). number < n) count below
     by_place (inr past) = absurd (let free : Service.Free ≡ Service.Open rest conn = sym (ap (λ (c : Connection). c.service) (get_or_past host.connections number unused past)) ∙ is in cc)
 
-is_open_now : (service : Service) (rest : Rest) (conn : Session) → service ≡ Service.Open rest conn → IsOpen service
+-- the bytes represent it
+pub stands_moved : (number terminal : ℕ) (bytes : ByteWorld) (link : Link) → LinkRepresents (link_of number bytes) link → terminal_at number bytes.slots ≡ Some terminal → is_lost number bytes ≡ false
+    → LinkRepresentsBy without_commands IsReadAs (link_over number (over_bytes number terminal bytes)) (as_moved link)
+stands_moved number terminal bytes link stands there live =
+    let term : TermRepresents (link_with (Some terminal) number bytes) link =
+    subst (λ (h : Option ℕ). TermRepresents (link_with h number bytes) link) there (stands.term terminal (sym stands.term_here ∙ there)) in
+    record {
+      lost = sym live ∙ stands.lost;
+      host_here = stands.host_here;
+      term_here = refl;
+      read = stands.read;
+      up = record {
+        is_rest = stands.up.is_rest;
+        items = stands.up.items;
+        delivers = stands.up.delivers;
+        each = subst (λ (items : List WireItem). Pairwise IsReadAs items link.up) (sym (all_heard stands.up.items link.up stands.up.each))
+            (pairs_become RepresentsUp IsReadAs stands_read stands.up.items link.up stands.up.each);
+      };
+      host = λ host_here. record { host = (stands.host host_here).host; rest_is = (stands.host host_here).rest_is };
+      term = λ n is_n. record {
+        rest = term.rest;
+        holds = record {
+          talk = term.holds.talk;
+          attached = term.holds.attached;
+          is_end = record {
+            talk_is = term.holds.is_end.talk_is;
+            screen_is = term.holds.is_end.screen_is;
+            keyboard_is = term.holds.is_end.keyboard_is;
+            last_restored_is = term.holds.is_end.last_restored_is;
+            before_restored_is = term.holds.is_end.before_restored_is;
+            erased_is = term.holds.is_end.erased_is;
+          };
+        };
+        silent = refl;
+        down = subst (λ (out : List ℕ). BytesDown term.rest out link.down) (live_bytes (transits_at number bytes).down (host_out number bytes) live) term.down;
+      };
+    }
+
+pub is_open_now : (service : Service) (rest : Rest) (conn : Session) → service ≡ Service.Open rest conn → IsOpen service
 is_open_now service rest conn is = subst IsOpen (sym is) tt
 
 pub worlds_begin : LowerLaws → PanelsAreShown → WorldsBeginOverBytes
@@ -370,9 +410,6 @@ worlds_begin given panels number terminal lu bytes is is_host a =
     same : a.host ≡ link.host
     same = sym (ap conn_of a.is_open) ∙ (stands.host here).host
 
-    there : link.term_here ≡ Some terminal
-    there = sym stands.term_here ∙ a.there
-
     live : link.lost ≡ false
     live = sym stands.lost ∙ a.live
 
@@ -400,45 +437,10 @@ worlds_begin given panels number terminal lu bytes is is_host a =
     first : FirstPaint app lu begins
     first = first_of app lu link fresh (sym (ap (λ (h : Session). h.unheard) fresh.host_is) ∙ sym (ap (λ (h : Session). h.unheard) same) ∙ a.any) here now
 
-    term : TermRepresents (link_with (Some terminal) number bytes) link
-    term = subst (λ (h : Option ℕ). TermRepresents (link_with h number bytes) link) a.there (stands.term terminal there)
-
-    down_is : down_of number bytes ≡ (connection_at number bytes.host).out
-    down_is = live_bytes (transits_at number bytes).down (host_out number bytes) a.live
-
     represents : Represents number (over_bytes number terminal bytes) begins
     represents = record {
       is_open = is_open_now (state_at number bytes.host) a.rest a.host a.is_open;
-      stands = record {
-        lost = sym live;
-        host_here = stands.host_here;
-        term_here = refl;
-        read = stands.read;
-        up = record {
-          is_rest = stands.up.is_rest;
-          items = stands.up.items;
-          delivers = stands.up.delivers;
-          each = nothing_read stands.up.items link.up now.nothing_up stands.up.each;
-        };
-        host = λ host_here. record { host = (stands.host host_here).host; rest_is = (stands.host host_here).rest_is };
-        term = λ n is_n. record {
-          rest = term.rest;
-          holds = record {
-            talk = term.holds.talk;
-            attached = term.holds.attached;
-            is_end = record {
-              talk_is = term.holds.is_end.talk_is;
-              screen_is = term.holds.is_end.screen_is;
-              keyboard_is = term.holds.is_end.keyboard_is;
-              last_restored_is = term.holds.is_end.last_restored_is;
-              before_restored_is = term.holds.is_end.before_restored_is;
-              erased_is = term.holds.is_end.erased_is;
-            };
-          };
-          silent = refl;
-          down = subst (λ (out : List ℕ). BytesDown term.rest out link.down) down_is term.down;
-        };
-      };
+      stands = stands_moved number terminal bytes link stands a.there a.live;
       waits = refl;
       unnamed = refl;
       stored = record {

@@ -18,16 +18,18 @@ use Rattle.keyboard.specs.declared.key.Pressed.{Pressed}
 use Rattle.keyboard.specs.declared.key.Pressed.TheVariants.{Done, Refused, Send}
 use Rattle.lu_pool.specs.Asking.{answer_to}
 use Rattle.lu_pool.specs.HolderLaws.{IsSound}
+use Rattle.panels.specs.Panel.{Panels}
 use Rattle.tn3270e_msg.specs.Talk.{Talk}
 use Rattle.tn3270e_msg.specs.declared.cause.Cause.{Cause}
 use Rattle.tn3270e_msg.specs.declared.host_talk.HostState.{HostState}
 use Rattle.tn3270e_msg.specs.declared.host_talk.HostState.TheVariants.{Offered, Asked, Asking, Named, Countered, Agreed, Closed}
 use Rattle.host_core.specs.Acts.{Act, Decision, Sent, acted, decided, decision_on, done as done_act, may_act, unheard_next}
-use Rattle.host_core.specs.Application.{Application, IsApplication}
+use Rattle.host_core.specs.Application.{Application, IsApplication, application_of}
 use Rattle.host_core.specs.Messages.{ToHost, ToTerminal, Verdict}
 use Rattle.host_core.specs.Notes.{IsNoteText, may_note, noted, noted_as}
 use Rattle.host_core.specs.Questions.{act_by, answered_on, has_its_panel, is_asking, panel_for}
 use Rattle.host_core.specs.Session.{Pending, Session, agreed_lu, is_agreed, unheard_of}
+use Rattle.host_core.specs.State.{state_at}
 use Rattle.host_core.specs.Takes.{Answers, HostStep, data_came, may_have_changed, once_agreed, response_came, took as host_took}
 use Rattle.host_core.specs.declared.question.Answer.{Answer as ApplicationAnswer}
 use Rattle.host_core.specs.declared.terminals.Terminals.{Terminals}
@@ -36,17 +38,24 @@ use Rattle.host_core.specs.declared.turn.Turn.{Turn}
 use Rattle.host_core.specs.declared.turn.Turn.TheVariants as whose
 use Rattle.host_core.specs.declared.unheard.Unheard.{Unheard}
 use Rattle.host_core.specs.declared.unheard.Unheard.TheVariants as unheards
+use Rattle.world3270.specs.model.ByteWorld.{is_there}
 use Rattle.world3270.specs.model.Enabled.{is_queued}
 use Rattle.world3270.specs.model.Link.{Link, host_left_if, host_sent, host_stepped, sent, term_left_if, term_stepped}
 use Rattle.world3270.specs.model.Steps.{run}
 use Rattle.world3270.specs.model.Terminal.{TermEnd, TermStep, data_of, erases_if, is_bound, key_came, note_came, once_bound, outcome_of, paint_came, read_came, took as term_took}
-use Rattle.world3270.specs.model.World.{AreEvents, Event, IsEvent, World, new_world}
+use Rattle.world3270.specs.model.World.{AreEvents, Event, IsEvent, World, new_world, Place, display_at}
 use Rattle.world3270.specs.refinement.Invariant.{ConnectionInvariant}
 use Rattle.world3270.specs.refinement.LowerLaws.{LowerLaws}
+use Rattle.world3270.specs.refinement.MessageLaws.{MessageLaws}
+use Rattle.world3270.specs.refinement.Refines.{WorldSetup, after}
+use Rattle.world3270.specs.refinement.Representation.{conn_of, link_of}
+use Rattle.world3270.specs.refinement.Represents.{LinkRepresents}
+use Rattle.world3270.specs.refinement.Sendable.{CanBeSent}
 use Rattle.world3270.specs.refinement.View.{view_of}
 use Rattle.world3270.specs.statement.Always.{AlwaysOf}
 use Rattle.world3270.specs.statement.EveryTerminal.{AreByTheRules, EveryTerminal, FirstPaint, IsByTheRules, LinkWithReport, Move, after_moves, came_down, came_up, executed, key_pressed, moved, paint_executed, told_if}
-use Rattle.world3270.specs.statement.Instances.{ConnectionsAreMoved, IsMoved, IsTheSame}
+use Rattle.world3270.specs.statement.EveryTerminalBytes.{Represents}
+use Rattle.world3270.specs.statement.Instances.{ConnectionsAreMoved, IsMoved, IsMovedOverBytes, IsTheSame, WorldsGoOnOverBytes, over_bytes}
 use Rattle.world3270.specs.statement.RuleLaws.{KeepsTheRules}
 use Rattle.world3270.specs.statement.Rules.{Operates}
 use Rattle.world3270.proofs.Acting.{asking_parts, may_act_at, may_act_when}
@@ -55,18 +64,15 @@ use Rattle.world3270.proofs.ComesDown.{PaintComes, paint_comes}
 use Rattle.world3270.proofs.Down.{term_view}
 use Rattle.world3270.proofs.Everywhere.{Steps, everywhere}
 use Rattle.world3270.proofs.HeardTurns.{goes_on}
-use Rattle.world3270.proofs.Instances.{IsAgreedHere, IsFresh, agreed_here, begin_of, first_of, fresh_pending, fresh_turn, key_fresh, quiet_fresh, said_talk, same_fresh}
+use Rattle.world3270.proofs.Instances.{IsAgreedHere, IsFresh, agreed_here, as_moved, begin_of, first_of, fresh_pending, fresh_turn, key_fresh, quiet_fresh, said_talk, same_fresh, is_open_now, stands_moved}
 use Rattle.world3270.proofs.KeyMoves.{stepped}
 use Rattle.world3270.proofs.Keys.{Waits, quiet_done, quiet_refused, waits}
+use Rattle.world3270.proofs.Known.{Facts, facts_now, is_application}
 use Rattle.world3270.proofs.Obeys.{obeys}
 use Rattle.world3270.proofs.ScreensFound.{AreTalk, AreTalkUp}
 use Rattle.world3270.proofs.Simulation.{has_agreed}
 use Rattle.world3270.proofs.SimulatedHost.{act_talk}
 use Rattle.world3270.proofs.Worlds.{GoodWorld, new_good, run_good}
-
--- the connection as `EveryTerminal` has it
-abbrev as_moved : Link → Link
-as_moved link = record link { term_here = Some 0; term = record link.term { waits = false } }
 
 -- ---- a connection that was moved
 
@@ -528,3 +534,64 @@ connections_are_moved given every rules sending app serves pool models events is
         })
     by_case (inr (inl lost)) = absurd (let wrong : false ≡ true = sym live ∙ lost in cc)
     by_case (inr (inr relies)) = absurd (let wrong : true ≡ false = sym any ∙ relies in cc)
+
+-- ---- over bytes
+
+-- the bytes of a world represent such a connection
+pub worlds_go_on : MessageLaws → EveryTerminal → KeepsTheRules key_came → SendingWaits → WorldsGoOnOverBytes
+worlds_go_on known every rules sending number terminal lu bytes is a =
+    subst (λ (p : Panels). IsMovedOverBytes (application_of p) number lu (over_bytes number terminal bytes)) (sym is.reached.panels)
+    (record {
+      begin = goes.begin;
+      begins = goes.begins;
+      moves = goes.moves;
+      by_the_rules = goes.by_the_rules;
+      represents = subst (λ (l : Link). Represents number (record (over_bytes number terminal bytes) { waits = t.waits }) (record t { link = l })) (sym goes.same.link_is)
+          (record {
+            is_open = is_open_now (state_at number bytes.host) a.rest a.host a.is_open;
+            stands = stands_moved number terminal bytes link stands a.there a.live;
+            waits = refl;
+            unnamed = refl;
+            stored = subst (λ (p : Place). let display = display_at world p in CanBeSent display.size display.screen) place (world_facts.sendable terminal);
+          });
+      right = goes.right;
+    })
+  where
+    setup : WorldSetup
+    setup = is.begin
+
+    app : Application
+    app = application_of setup.panels
+
+    is_app : IsApplication app
+    is_app = is_application known.worlds setup is.is_begin
+
+    world : World
+    world = after setup is.events
+
+    link : Link
+    link = world.link number
+
+    world_facts : Facts world
+    world_facts = facts_now known.worlds setup is.events bytes is.is_begin is.reached
+
+    stands : LinkRepresents (link_of number bytes) link
+    stands = is.reached.stands.links number
+
+    here : link.host_here ≡ true
+    here = sym stands.host_here ∙ ap is_there a.is_open
+
+    same : a.host ≡ link.host
+    same = sym (ap conn_of a.is_open) ∙ (stands.host here).host
+
+    place : world.place terminal ≡ Place.At number
+    place = (world_facts.agree terminal number).1 (sym stands.term_here ∙ a.there)
+
+    goes : IsMoved app lu link
+    goes = connections_are_moved known.worlds.given every rules sending app setup.serves setup.pool setup.models is.events is_app is.is_begin.pool is.is_begin.few is.reached.are_events number lu
+        (sym stands.lost ∙ a.live)
+        (sym (ap (λ (h : Session). agreed_lu h.talk.state) same) ∙ a.agreed)
+        (sym (ap (λ (h : Session). may_have_changed h.unheard) same) ∙ a.any)
+
+    t : LinkWithReport
+    t = after_moves app goes.moves goes.begin

@@ -4,7 +4,7 @@ ghost use Rattle.world3270.specs.statement.Always.{Always, AlwaysOf, HeadlineHol
 ghost use Rattle.world3270.specs.statement.Asked.{AskedIsSeen, AskedIsSeenOverBytes, FieldsAreSeen, OtherPanelsAreNotAsked, PanelsAreAsked, ScreensAreAsLeft};
 ghost use Rattle.world3270.specs.statement.EveryTerminal.{EveryTerminal};
 ghost use Rattle.world3270.specs.statement.EveryTerminalBytes.{EveryTerminalOverBytes};
-ghost use Rattle.world3270.specs.statement.Instances.{ConnectionsAreMoved, WorldsBeginOverBytes};
+ghost use Rattle.world3270.specs.statement.Instances.{ConnectionsAreMoved, WorldsBeginOverBytes, WorldsGoOnOverBytes};
 ghost use Rattle.world3270.specs.examples.Example.{TheRunsEndSo};
 ghost use Rattle.world3270.specs.examples.ExampleBytes.{ABeginIsThere};
 ghost use Rattle.world3270.specs.statement.Forms.{FormsAreAwaited};
@@ -439,12 +439,13 @@ pub fn every_terminal_over_bytes()
 /// Law: the premises of `every_terminal_over_bytes` can be met. Just after the host has agreed on an LU on a connection of
 /// a world that isn't lost, and if it doesn't rely on the terminal's wait, host, terminal and the bytes under way are a
 /// begin as that theorem requires it. Also, a begin is there: of a host with one panel, and a terminal that is bound.
-/// Over messages, what happens then on the connection, until it is lost, are moves that keep the rules; so
-/// `every_terminal` holds of each such connection of a world.
+/// What happens then on the connection, until it is lost, are moves over messages that keep the rules; so `every_terminal`
+/// holds of each such connection of a world. In a world over bytes its bytes represent it.
 pub fn worlds_begin_so()
     ensures worlds { WorldsBeginOverBytes }
     ensures example { ABeginIsThere }
     ensures moves { AlwaysOf ConnectionsAreMoved }
+    ensures bytes { WorldsGoOnOverBytes }
 {
     what_is_known();
     what_is_given();

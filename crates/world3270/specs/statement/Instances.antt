@@ -16,9 +16,10 @@ use Rattle.world3270.specs.model.World.{World}
 use Rattle.world3270.specs.refinement.Refines.{IsReached}
 use Rattle.world3270.specs.refinement.Representation.{with_out}
 use Rattle.world3270.specs.statement.EveryTerminal.{AreByTheRules, FirstPaint, LinkWithReport, Move, RightOf, after_moves}
-use Rattle.world3270.specs.statement.EveryTerminalBytes.{BeginsOverBytes, IsHost, OverBytes}
+use Rattle.world3270.specs.statement.EveryTerminalBytes.{BeginsOverBytes, IsHost, OverBytes, Represents}
 
--- connection `number` of a world, at whose end this terminal is, before it was sent a panel
+-- Connection `number` of a world, at whose end this terminal is: what the host has to send is under way. No panel was
+-- sent yet (`waits`).
 abbrev pub over_bytes : (number terminal : ℕ) → ByteWorld → OverBytes
 over_bytes number terminal world = record {
   host = world.host;
@@ -71,3 +72,33 @@ pub record IsMoved (app : Application) (lu : List ℕ) (link : Link) : Type 0 wh
 abbrev pub ConnectionsAreMoved : Application → World → Type 0
 ConnectionsAreMoved app world = (number : ℕ) (lu : List ℕ) → let link = world.link number in link.lost ≡ false
     → agreed_lu link.host.talk.state ≡ Some lu → may_have_changed link.host.unheard ≡ true → IsMoved app lu link
+
+-- ---- over bytes
+
+-- Holds if the host has agreed on this LU on a connection that isn't lost, with this terminal at its other end; the host
+-- doesn't rely on the terminal's wait.
+pub record HasAgreedOn (number terminal : ℕ) (lu : List ℕ) (world : ByteWorld) : Type 0 where
+  pub rest : Rest
+  pub host : Session
+  pub is_open : state_at number world.host ≡ Service.Open rest host
+  pub agreed : agreed_lu host.talk.state ≡ Some lu
+  pub any : may_have_changed host.unheard ≡ true
+  pub there : terminal_at number world.slots ≡ Some terminal
+  pub live : is_lost number world ≡ false
+
+-- Holds if from a begin of `EveryTerminal` on moves that keep the rules lead to a connection that these bytes represent,
+-- as `EveryTerminalOverBytes` has it of its bytes, whatever their `waits`; so `RightOf` holds of it.
+pub record IsMovedOverBytes (app : Application) (number : ℕ) (lu : List ℕ) (bytes : OverBytes) : Type 0 where
+  pub begin : LinkWithReport
+  pub begins : FirstPaint app lu begin
+  pub moves : List Move
+  pub by_the_rules : AreByTheRules app moves begin
+  pub represents : let now = after_moves app moves begin in Represents number (record bytes { waits = now.waits }) now
+  pub right : RightOf app lu (after_moves app moves begin)
+
+-- In each world whose bytes represent a world over messages, such a connection is so: as long as it isn't lost, whatever
+-- happens on it.
+abbrev pub WorldsGoOnOverBytes : Type 0
+WorldsGoOnOverBytes = (number terminal : ℕ) (lu : List ℕ) (world : ByteWorld) → IsReached world
+    → HasAgreedOn number terminal lu world
+    → IsMovedOverBytes (application_of world.host.panels) number lu (over_bytes number terminal world)

@@ -1,5 +1,5 @@
 use Rattle.world3270.proofs.Instances.{worlds_begin}
-use Rattle.world3270.proofs.Moved.{connections_are_moved}
+use Rattle.world3270.proofs.Moved.{connections_are_moved, worlds_go_on}
 use Rattle.world3270.proofs.RunsOfBytes.{a_begin}
 use Rattle.world3270.proofs.laws.worlds_begin_so.Goals as goal
 
@@ -11,3 +11,6 @@ returns-clause-example c = a_begin c.what_is_known.ensures c.panels_are_shown.en
 
 pub returns-clause-moves : goal.returns-clause-moves
 returns-clause-moves c = connections_are_moved c.what_is_given.ensures c.every_terminal.ensures c.terminals_keep_the_rules.ensures.ours c.sent_keys_wait.ensures.sends
+
+pub returns-clause-bytes : goal.returns-clause-bytes
+returns-clause-bytes c = worlds_go_on c.what_is_known.ensures c.every_terminal.ensures c.terminals_keep_the_rules.ensures.ours c.sent_keys_wait.ensures.sends
