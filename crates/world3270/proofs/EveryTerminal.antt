@@ -31,7 +31,7 @@ use Rattle.host_core.specs.declared.question.Question.{Question}
 use Rattle.host_core.specs.declared.turn.Turn.TheVariants as whose
 use Rattle.world3270.specs.statement.Asked.{AreFieldsAsked, IsSeen}
 use Rattle.world3270.specs.statement.EveryTerminal.{AreByTheRules, FirstPaint, EveryTerminal, IsByTheRules, Move, RightOf, LinkWithReport, after_moves, came_down, came_up, moved, told_link}
-use Rattle.world3270.specs.statement.Leading.{IsLedTo, panel_with_keys}
+use Rattle.world3270.specs.statement.Leading.{IsKeyAsked, IsLedTo, panel_with_keys}
 use Rattle.world3270.specs.refinement.LowerLaws.{LowerLaws}
 use Rattle.world3270.specs.statement.Headline.{Agrees, IsHostsTurn, SeesTheScreen}
 use Rattle.world3270.specs.model.Link.{Link}
@@ -48,7 +48,7 @@ use Rattle.world3270.proofs.Acting.{may_act_at, may_act_when}
 use Rattle.world3270.proofs.Asked.{asked_seen, each_asked}
 use Rattle.world3270.proofs.AskedPanels.{about_its_panel}
 use Rattle.world3270.proofs.Obeys.{decides_new}
-use Rattle.world3270.proofs.Leading.{Leads, leads_now}
+use Rattle.world3270.proofs.Leading.{Leads, key_asked_now, leads_now}
 use Rattle.world3270.proofs.Headline.{Knows, agrees, bound_agrees, host_attached, knows_at, nothing_waits}
 use Rattle.world3270.proofs.ReadsInput.{still_unformatted}
 use Rattle.world3270.proofs.ShownFields.{cursor_shown, fields_shown, values_shown}
@@ -272,6 +272,9 @@ module _ (given : LowerLaws) (written : WrittenIsThere) (kept : KeptStaysThere) 
     panel_asked = λ wants number session question asked on_now.
         let its = about_its_panel app session t.link.host question asked on_now in
         record { same = its.0; shown = panel_shown wants its.1 };
+    key_asked = λ shows wants session question asked.
+        subst (λ (host : Session). IsKeyAsked app host question t.told.screen) (sym same_host)
+        (subst (λ (d : Display). IsKeyAsked app end.host question d.screen) s.display (key_asked_now given app is shows wants.again end s.kept session question (is_asked session question asked)));
     leads = λ shows wants asked message keep given_values decided.
         let its = decided_itself app end.host (HostAct.Show asked message keep given_values)
         (ap (decision_in app) (sym same_host) ∙ decided) in

@@ -16,8 +16,9 @@ use Rattle.panels.specs.declared.next.Next.TheVariants.{Go, Ask, Again}
 use Rattle.panels.specs.declared.panel.Field.{Field as PanelField}
 use Rattle.host_core.specs.Acts.{Act, Decision, check_required, decision_on, first_missing, first_panel, is_blank, is_missing, is_to_be_read, learned, on_empty, on_key}
 use Rattle.host_core.specs.Application.{Application, IsApplication}
-use Rattle.host_core.specs.Questions.{is_ask, is_screen_empty}
-use Rattle.host_core.specs.Session.{Session, model_in}
+use Rattle.host_core.specs.Questions.{is_ask, is_asking, is_screen_empty, panel_asked, question_in, question_on}
+use Rattle.host_core.specs.Session.{Session, agreed_lu, is_agreed, model_in}
+use Rattle.host_core.specs.declared.question.Question.{Question}
 use Rattle.host_core.specs.declared.turn_reason.TurnReason.{TurnReason}
 use Rattle.host_core.specs.declared.turn_reason.TurnReason.TheVariants as turn_reasons
 use Rattle.world3270.specs.model.Link.{Link}
@@ -26,11 +27,11 @@ use Rattle.world3270.specs.refinement.LowerLaws.{LowerLaws}
 use Rattle.world3270.specs.refinement.Phases.{SessionPhase}
 use Rattle.world3270.specs.refinement.View.{view_of}
 use Rattle.world3270.specs.statement.Asked.{IsFieldShown, ShowsItsFields}
-use Rattle.world3270.specs.statement.Leading.{AreFilledIn, IsAskedAbout, IsFilledIn, IsFirstLeftBlank, IsLedTo, IsLeftBlank, KeysLeadToOne, panel_with_keys}
+use Rattle.world3270.specs.statement.Leading.{AreFilledIn, IsAskedAbout, IsFilledIn, IsFirstLeftBlank, IsKeyAsked, IsLedTo, IsLeftBlank, KeysLeadToOne, panel_with_keys}
 use Rattle.world3270.specs.statement.Showing.{IsKnownIfRead, KnowsItsFields}
 use Rattle.world3270.specs.statement.TurnReasons.{IsOccasion}
-use Rattle.world3270.proofs.Acting.{MayAct, knows_its}
-use Rattle.world3270.proofs.Asked.{field_there, learned_has}
+use Rattle.world3270.proofs.Acting.{MayAct, asking_parts, knows_its, may_act_at, may_act_when}
+use Rattle.world3270.proofs.Asked.{field_there, learned_has, question_is}
 use Rattle.world3270.proofs.ShownFields.{IsSure, one_stands, sure_then}
 
 -- ---- required fields
@@ -158,6 +159,19 @@ module _ (app : Application) (conn : Session) (screen : Screen) where
     key_leads NoAid Ask aid_is full next_is = absurd (cc)
     key_leads Clear Ask aid_is full next_is = absurd (cc)
 
+-- a question names the panel whose keys count
+names_it : (app : Application) (conn : Session) (reason : TurnReason) (aid : Aid) → IsOccasion reason aid → panel_asked app conn reason ≡ panel_with_keys app conn aid
+names_it app conn turn_reasons.Agreement aid occasion = sym (ap (panel_with_keys app conn) occasion)
+names_it app conn turn_reasons.Refusal aid occasion = absurd occasion
+names_it app conn (turn_reasons.Key pressed buffered) aid occasion = by_aid pressed occasion.0
+  where
+    by_aid : (key : Aid) → key ≡ aid → conn.panel ≡ panel_with_keys app conn aid
+    by_aid NoAid is = absurd (occasion.1 (sym is))
+    by_aid Enter is = ap (panel_with_keys app conn) is
+    by_aid Clear is = ap (panel_with_keys app conn) is
+    by_aid (Pf key) is = ap (panel_with_keys app conn) is
+    by_aid (Pa key) is = ap (panel_with_keys app conn) is
+
 -- ---- the moment
 
 module _ (given : LowerLaws) (app : Application) (is : IsApplication app) (shows : ShowsItsFields app) (again : (model : Model) (panel : ℕ) → app.shown model (app.shown model panel) ≡ app.shown model panel) (link : Link)
@@ -202,32 +216,13 @@ module _ (given : LowerLaws) (app : Application) (is : IsApplication app) (shows
     pressed_leads (Pf key) buffered aid_is some read = unread_leads (Pf key) buffered (is_to_be_read app conn (Pf key) && not buffered) aid_is refl (sure_then app conn (Pf key) buffered read)
     pressed_leads (Pa key) buffered aid_is some read = unread_leads (Pa key) buffered (is_to_be_read app conn (Pa key) && not buffered) aid_is refl (sure_then app conn (Pa key) buffered read)
 
-  -- the panel whose keys count, by the reason of the turn
-  abbrev keys_for : TurnReason → ℕ
-  keys_for turn_reasons.Agreement = first_panel app conn
-  keys_for (turn_reasons.Key aid buffered) = conn.panel
-  keys_for turn_reasons.Refusal = conn.panel
-
   by_reason : (reason : TurnReason) → conn.turn_reason ≡ reason → IsOccasion reason screen.aid → Decides (local_state_of (view_of link)) conn.shadow
-      → ShownIn app link.term.waits conn link.term.display.before_restored link.term.display.last_restored screen SessionPhase.Deciding → LeadsFrom (keys_for reason) reason
+      → ShownIn app link.term.waits conn link.term.display.before_restored link.term.display.last_restored screen SessionPhase.Deciding → LeadsFrom (panel_asked app conn reason) reason
   by_reason turn_reasons.Agreement reason_is occasion f showing = first_leads occasion
   by_reason turn_reasons.Refusal reason_is occasion f showing = absurd occasion
   by_reason (turn_reasons.Key aid buffered) reason_is occasion f showing =
       pressed_leads f showing (λ first. absurd (let both = sym first ∙ reason_is in cc)) aid buffered (sym occasion.0) (λ none. occasion.1 (sym occasion.0 ∙ none))
       (subst (λ (r : TurnReason). IsKnownIfRead r conn.shadow) reason_is showing.1)
-
-  -- it is the panel whose keys count by the AID
-  keys_are : (reason : TurnReason) (aid : Aid) → IsOccasion reason aid → keys_for reason ≡ panel_with_keys app conn aid
-  keys_are turn_reasons.Agreement aid occasion = sym (ap (panel_with_keys app conn) occasion)
-  keys_are turn_reasons.Refusal aid occasion = absurd occasion
-  keys_are (turn_reasons.Key pressed buffered) aid occasion = by_aid pressed occasion.0
-    where
-      by_aid : (key : Aid) → key ≡ aid → conn.panel ≡ panel_with_keys app conn aid
-      by_aid NoAid is = absurd (occasion.1 (sym is))
-      by_aid Enter is = ap (panel_with_keys app conn) is
-      by_aid Clear is = ap (panel_with_keys app conn) is
-      by_aid (Pf key) is = ap (panel_with_keys app conn) is
-      by_aid (Pa key) is = ap (panel_with_keys app conn) is
 
   pub occasion_now : MayAct app link k.wanted → IsOccasion conn.turn_reason screen.aid
   occasion_now (MayAct.agreeing lu at n) = subst (λ (r : TurnReason). IsOccasion r screen.aid) (sym n.turn_reason) n.aid
@@ -235,16 +230,35 @@ module _ (given : LowerLaws) (app : Application) (is : IsApplication app) (shows
 
   pub leads_now : MayAct app link k.wanted → Leads app conn screen (panel_with_keys app conn screen.aid) (decision_on app conn conn.turn_reason)
   leads_now may =
-      subst (λ (from : ℕ). LeadsFrom from conn.turn_reason) (keys_are conn.turn_reason screen.aid (occasion_now may)) (by_moment may)
+      subst (λ (from : ℕ). LeadsFrom from conn.turn_reason) (names_it app conn conn.turn_reason screen.aid (occasion_now may)) (by_moment may)
     where
-      by_moment : MayAct app link k.wanted → LeadsFrom (keys_for conn.turn_reason) conn.turn_reason
-      by_moment (MayAct.agreeing lu at n) = subst (λ (r : TurnReason). LeadsFrom (keys_for r) r) (sym n.turn_reason) (first_leads n.aid)
+      by_moment : MayAct app link k.wanted → LeadsFrom (panel_asked app conn conn.turn_reason) conn.turn_reason
+      by_moment (MayAct.agreeing lu at n) = subst (λ (r : TurnReason). LeadsFrom (panel_asked app conn r) r) (sym n.turn_reason) (first_leads n.aid)
       by_moment (MayAct.deciding lu s at f showing) = by_reason conn.turn_reason refl f.turn_reason f showing
 
 -- a decision to ask is about such a key
 pub asked_about : (app : Application) (conn : Session) (screen : Screen) (from : ℕ) (decision : Decision) → is_ask decision ≡ true → Leads app conn screen from decision → IsAskedAbout app from screen
 asked_about app conn screen from (Decision.Do act) is leads = absurd (cc)
 asked_about app conn screen from Decision.Asks is leads = leads
+
+-- ---- an open question
+
+pub key_asked_now : LowerLaws → (app : Application) → IsApplication app → ShowsItsFields app → ((model : Model) (panel : ℕ) → app.shown model (app.shown model panel) ≡ app.shown model panel) → (link : Link)
+    → ConnectionInvariant app (view_of link) → (session : ℕ) (question : Question) → question_in app session link.host ≡ Some question → IsKeyAsked app link.host question link.term.display.screen
+key_asked_now given app is shows again link k session question asked =
+    let conn : Session = link.host in
+    let screen : Screen = link.term.display.screen in
+    let there = question_is (is_asking app conn) (agreed_lu conn.talk.state) (question_on app session conn) question asked in
+    let asks = asking_parts app conn there.0 in
+    let when = may_act_when conn.turn conn.pending (is_agreed conn.talk.state) asks.0 in
+    let may = may_act_at given app is link k when.0 when.1 when.2 in
+    let named : question.panel ≡ panel_with_keys app conn screen.aid =
+    ap (λ (q : Question). q.panel) there.3 ∙ names_it app conn conn.turn_reason screen.aid (occasion_now given app is shows again link k may) in
+    record {
+      panel = named;
+      about = subst (λ (panel : ℕ). IsAskedAbout app panel screen) (sym named)
+          (asked_about app conn screen (panel_with_keys app conn screen.aid) (decision_on app conn conn.turn_reason) asks.1 (leads_now given app is shows again link k may));
+    }
 
 -- ---- a key leads to one panel
 

@@ -7,6 +7,7 @@ pub mod AsLeft
 pub mod Asked
 pub mod AskedPanels
 pub mod Leading
+pub mod KeysAsked
 pub mod Instances
 pub mod AskedOverBytes
 pub mod Down

@@ -8,7 +8,7 @@ ghost use Rattle.world3270.specs.statement.Instances.{ConnectionsAreMoved, World
 ghost use Rattle.world3270.specs.examples.Example.{TheRunsEndSo};
 ghost use Rattle.world3270.specs.examples.ExampleBytes.{ABeginIsThere};
 ghost use Rattle.world3270.specs.statement.Forms.{FormsAreAwaited};
-ghost use Rattle.world3270.specs.statement.Leading.{KeysLeadToOne};
+ghost use Rattle.world3270.specs.statement.Leading.{KeysAreAsked, KeysAreAskedOverBytes, KeysLeadToOne};
 ghost use Rattle.world3270.specs.refinement.LowerLaws.{LowerLaws};
 ghost use Rattle.world3270.specs.model.Steps.{RunsCompose};
 ghost use Rattle.world3270.specs.statement.History.{HostsHistoryIsKept, TerminalsHistoryIsKept};
@@ -115,8 +115,9 @@ pub fn what_was_pressed_is_acted_on()
 /// on the screen, at its address and with its length. At connect, when no key was pressed, the message that binds the
 /// terminal may still be under way. At connect and after Clear the question has no field, nor has the screen. Else it
 /// names the connection's panel, which the screen that the host's last restoring write left shows; so it names no panel
-/// of which a character isn't on that screen. All this holds of each world over bytes that represents one over messages,
-/// since the screens of panels have their fields.
+/// of which a character isn't on that screen. The application decides on the key on that panel, at connect on the first
+/// one, and after Enter no required field is left blank. All this holds of each world over bytes that represents one over
+/// messages, since the screens of panels have their fields.
 /// Unless Clear was pressed last, the protected part of an attached terminal's screen is as the host's last restoring
 /// write left it, but for the row of messages.
 pub fn what_is_asked_is_seen()
@@ -124,7 +125,9 @@ pub fn what_is_asked_is_seen()
     ensures fields { AlwaysOf FieldsAreSeen }
     ensures panels { AlwaysOf PanelsAreAsked }
     ensures screens { Always ScreensAreAsLeft }
+    ensures keys { AlwaysOf KeysAreAsked }
     ensures bytes { AskedIsSeenOverBytes }
+    ensures keys_over_bytes { KeysAreAskedOverBytes }
     ensures others { OtherPanelsAreNotAsked }
 {
     what_is_given();
@@ -409,7 +412,7 @@ pub fn terminals_keep_the_rules()
 /// of the headline hold of what it was told: the screen when the first key since the last paint was pressed, or as it
 /// was read since; and the present screen has the attributes and the protected characters that the host believes. Each
 /// open question has the key, the cursor and the fields of what the host was told, and names the panel that the screen
-/// shows as the last paint left it. If the host itself decides what to show, it is where the key leads on that screen.
+/// shows as the last paint left it, on which the application decides on the key. If the host itself decides what to show, it is where the key leads on that screen.
 /// After a paint is answered, the screen that it left shows the panel, whatever was typed before. Neither
 /// end closes the connection for a cause. The terminal need not wait for the host: meanwhile its operator
 /// may type, and press any key but Clear, since the host closes the connection if Clear crosses a command.

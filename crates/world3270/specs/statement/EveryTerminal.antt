@@ -33,7 +33,7 @@ use Rattle.world3270.specs.statement.Asked.{AreFieldsAsked, IsPanelAsked, IsSeen
 use Rattle.world3270.specs.statement.Headline.{Agrees, IsHostsTurn, SeesTheScreen}
 use Rattle.world3270.specs.model.Link.{Link, cut, host_sent, host_stepped, term_stepped}
 use Rattle.world3270.specs.model.Enabled.{is_queued}
-use Rattle.world3270.specs.statement.Leading.{IsLedTo, panel_with_keys}
+use Rattle.world3270.specs.statement.Leading.{IsKeyAsked, IsLedTo, panel_with_keys}
 use Rattle.world3270.specs.statement.Rules.{Binds, Operates}
 use Rattle.world3270.specs.statement.Observation.{end_seen, seen_link}
 use Rattle.world3270.specs.statement.Shown.{HasShown, IsPanelShown}
@@ -205,8 +205,9 @@ told_link t = record t.link { term = record t.link.term { display = t.told } }
 -- but for the characters and MDT of input fields, is true of the terminal's present screen: it has the attributes and
 -- the protected characters that the host believes.
 -- An open question has the key, the cursor and the text of each field of its panel of what the host was told; at
--- connect and after Clear neither has a field, and else the screen that the last paint left shows the panel. If the
--- host itself decides to show a panel, the key that was pressed on what it was told leads there.
+-- connect and after Clear neither has a field, and else the screen that the last paint left shows the panel. The
+-- application decides on the key there, and after Enter no required field is left blank. If the host itself decides to
+-- show a panel, the key that was pressed on what it was told leads there.
 -- After a paint is answered, the screen that it left shows the panel, whatever was typed in the wait before it.
 -- Neither end has closed the connection for a cause: both are attached.
 pub record RightOf (app : Application) (lu : List ℕ) (t : LinkWithReport) : Type 0 where
@@ -222,6 +223,9 @@ pub record RightOf (app : Application) (lu : List ℕ) (t : LinkWithReport) : Ty
   pub panel_asked : WantsItsFields app → (number session : ℕ) (question : Question)
       → question_in app session t.link.host ≡ Some question
       → IsPanelAsked app false t.link.host question (end_seen number t.link.term)
+  pub key_asked : ShowsItsFields app → WantsItsFields app → (session : ℕ) (question : Question)
+      → question_in app session t.link.host ≡ Some question
+      → IsKeyAsked app t.link.host question t.told.screen
   pub leads : ShowsItsFields app → WantsItsFields app → (asked : ℕ) (message : Message) (keep : Bool) (given : Values)
       → decision_in app t.link.host ≡ Some (Decision.Do (HostAct.Show asked message keep given))
       → IsLedTo app (model_in t.link.host) (panel_with_keys app t.link.host t.told.screen.aid) t.told.screen

@@ -9,12 +9,21 @@ use Rattle.panels.specs.declared.message.Message.{Message}
 use Rattle.panels.specs.declared.message.Message.TheVariants.{Fresh, KeyNotActive, Required}
 use Rattle.panels.specs.declared.next.Next.TheVariants.{Go, Ask, Again}
 use Rattle.panels.specs.declared.panel.Field.{Field as PanelField}
+use Rattle.telnet_wire.specs.Reading.{Rest}
 use Rattle.host_core.specs.Acts.{first_panel, is_blank}
-use Rattle.host_core.specs.Application.{Application}
+use Rattle.host_core.specs.Application.{Application, application_of}
 use Rattle.host_core.specs.Questions.{is_screen_empty}
 use Rattle.host_core.specs.Session.{Session, model_in}
+use Rattle.host_core.specs.State.{Service, state_at}
 use Rattle.host_core.specs.declared.question.Answer.{Answer as ApplicationAnswer}
-use Rattle.world3270.specs.statement.Asked.{IsFieldShown}
+use Rattle.host_core.specs.declared.question.Question.{Question}
+use Rattle.world3270.specs.model.ByteWorld.{ByteWorld}
+use Rattle.world3270.specs.model.World.{World}
+use Rattle.world3270.specs.refinement.Refines.{IsReached}
+use Rattle.world3270.specs.statement.Asked.{IsFieldShown, ShowsItsFields, asked_at, asked_by}
+use Rattle.world3270.specs.statement.ByteObservation.{seen_connection}
+use Rattle.world3270.specs.statement.Observation.{TerminalSeen, seen_link}
+use Rattle.world3270.specs.statement.ShownFields.{WantsItsFields}
 use Rattle.world3270.specs.statement.ShownSince.{IsAnswered}
 
 -- ---- required fields
@@ -83,6 +92,11 @@ pub record IsAskedAbout (app : Application) (from : ℕ) (screen : Screen) : Typ
   pub asks : app.next from screen.aid ≡ Ask
   pub filled : screen.aid ≡ Enter → AreFilledIn (app.fields from) screen
 
+-- Holds if the question names the panel whose keys count, and the application decides on the key there.
+pub record IsKeyAsked (app : Application) (host : Session) (question : Question) (screen : Screen) : Type 0 where
+  pub panel : question.panel ≡ panel_with_keys app host screen.aid
+  pub about : IsAskedAbout app question.panel screen
+
 -- Holds if the session `conn` decided on the screen `screen` what `host` shows: by itself, where the key leads; or by
 -- this answer of the application, if it is asked about the key.
 abbrev pub IsWhereItLeads : Application → (conn : Session) → Screen → (host : Session) → (keep : Bool)
@@ -91,6 +105,26 @@ IsWhereItLeads app conn screen host keep None =
     IsLedTo app (model_in conn) (panel_with_keys app conn screen.aid) screen host.panel host.message keep
 IsWhereItLeads app conn screen host keep (Some said) =
     IsAskedAbout app (panel_with_keys app conn screen.aid) screen × IsAnswered app conn said host
+
+-- ---- open questions
+
+-- Holds if each open question, on each connection with both ends attached, is about such a key: so it names the first
+-- panel at connect, and else the one that was shown last, and after Enter no required field is left blank. Each screen
+-- that the application asks for must have its panel's fields.
+abbrev pub KeysAreAsked : Application → World → Type 0
+KeysAreAsked app world = ShowsItsFields app → WantsItsFields app
+    → (number session : ℕ) (question : Question) (terminal : TerminalSeen)
+    → asked_by app session (world.link number) ≡ Some question
+    → (seen_link (world.link number)).terminal ≡ Some terminal
+    → IsKeyAsked app (world.link number).host question terminal.screen
+
+-- The same holds in each world over bytes that represents one over messages.
+abbrev pub KeysAreAskedOverBytes : Type 0
+KeysAreAskedOverBytes = (world : ByteWorld) → IsReached world
+    → (number : ℕ) (rest : Rest) (host : Session) (question : Question) (terminal : TerminalSeen)
+    → state_at number world.host ≡ Service.Open rest host → asked_at number world ≡ Some question
+    → (seen_connection number world).terminal ≡ Some terminal
+    → IsKeyAsked (application_of world.host.panels) host question terminal.screen
 
 -- ---- a law
 
