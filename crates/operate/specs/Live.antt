@@ -252,6 +252,12 @@ pub record Hears (bytes : List ℕ) (old new : Live) : Type 0 where
   pub seat : new.seat ≡ record old.seat { terminal = new.seat.terminal }
   pub kept : new.kept ≡ old.kept
 
+-- holds if the terminal is fed these bytes from the host up to one for which memory is refused
+pub record IsOutOfMemory (bytes : List ℕ) (old new : Live) : Type 0 where
+  pub fed : Fed
+  pub feeds : Feeds new.room old.seat.terminal bytes fed new.seat.terminal
+  pub refused : fed.stop ≡ stop.Memory
+
 -- Holds if the bytes are drawn with which the tty shows the current picture.
 pub record Draws (old new : Live) (drawn_old drawn_new : List ℕ) : Type 0 where
   pub drawn : drawn_new ≡ drawn_old ++ all_spelt (drawing_of old.seat.colors old.seat.shown (picture_at old.seat))
@@ -283,8 +289,8 @@ pub record Resumes (old new : Live) : Type 0 where
   pub kept : new.kept ≡ old.kept
 
 -- Holds for a turn: the host's bytes are taken, and the tty is drawn if there are any. So a new panel is drawn before
--- keys are pressed on it: first those that were typed ahead, then those that are typed now. Then the tty is drawn again,
--- and sounds the alarm.
+-- keys are pressed on it: first those that were typed ahead, then those that are typed now. Then the tty is drawn
+-- again, and sounds the alarm.
 pub record TakesTurn (came typed : List ℕ) (old new : Live) (drawn_old drawn_new : List ℕ) : Type 0 where
   pub heard : Live
   pub hears : Hears came old heard

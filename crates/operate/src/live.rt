@@ -7,7 +7,7 @@ ghost use Rattle.tty.specs.KeyReading.{read_byte};
 ghost use Rattle.tty.specs.Painting.{notice_of, page_of};
 ghost use Rattle.tty.specs.TtyRoom.{too_small_text};
 ghost use Rattle.operate.specs.KeyTable.{key_table};
-ghost use Rattle.operate.specs.Live.{Draws, DrawsIf, Hears, ReadsTyped, Resumes, Sounds, TakesTurn, Types, after_help, after_key_at, after_keystroke, after_keystrokes, after_meaning, after_press, after_typing, all_typed, asks_after, first_seat, has_bytes, is_connected, is_enter, is_idle, is_keys, is_quit, is_reset, is_status, is_wait, lack_at, lu_place, page_at, picture_at, refusal_after, resized, screen_at, status_place, waits, with_key};
+ghost use Rattle.operate.specs.Live.{Draws, DrawsIf, Hears, IsOutOfMemory, ReadsTyped, Resumes, Sounds, TakesTurn, Types, after_help, after_key_at, after_keystroke, after_keystrokes, after_meaning, after_press, after_typing, all_typed, asks_after, first_seat, has_bytes, is_connected, is_enter, is_idle, is_keys, is_quit, is_reset, is_status, is_wait, lack_at, lu_place, page_at, picture_at, refusal_after, resized, screen_at, status_place, waits, with_key};
 
 use crate::key_table::KEY_TABLE;
 use codes3270::Model;
@@ -458,9 +458,11 @@ impl LiveTerminal {
         self.take_bytes(typed)
     }
 
-    /// Takes bytes received from the host.
+    /// Takes bytes received from the host. An error only if memory is refused: a host that breaks the protocol makes
+    /// the terminal close the connection, which its phase says.
     fn hear(&mut self, came: &[u8]) -> Result<(), AllocError>
-        ensures { OnOk result (Hears came.now self.old self.new) }
+        ensures hears { OnOk result (Hears came.now self.old self.new) }
+        ensures memory { OnErr result (IsOutOfMemory came.now self.old self.new) }
     {
         match self.terminal.feed(came).stop {
             Stop::Memory => Err(AllocError),
