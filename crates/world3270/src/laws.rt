@@ -1,14 +1,14 @@
 //! Laws of worlds over messages and over bytes. Each is the contract of a function that does nothing. Proofs use them,
 //! also those of other crates; no program calls them, and the root doesn't export them.
 ghost use Rattle.world3270.specs.statement.Always.{Always, AlwaysOf, HeadlineHolds, NoCommandIsRejected};
-ghost use Rattle.world3270.specs.statement.Asked.{AskedIsSeen, AskedIsSeenOverBytes, FieldsAreSeen, OtherPanelsAreNotAsked, PanelsAreAsked, ScreensAreAsLeft};
+ghost use Rattle.world3270.specs.statement.Asked.{AskedIsSeen, AskedIsSeenOverBytes, FieldsAreSeen, KeysAreAsked, OtherPanelsAreNotAsked, PanelsAreAsked, ScreensAreAsLeft};
 ghost use Rattle.world3270.specs.statement.EveryTerminal.{EveryTerminal};
 ghost use Rattle.world3270.specs.statement.EveryTerminalBytes.{EveryTerminalOverBytes};
 ghost use Rattle.world3270.specs.statement.Instances.{ConnectionsAreMoved, WorldsBeginOverBytes, WorldsGoOnOverBytes};
 ghost use Rattle.world3270.specs.examples.Example.{TheRunsEndSo};
 ghost use Rattle.world3270.specs.examples.ExampleBytes.{ABeginIsThere};
 ghost use Rattle.world3270.specs.statement.Forms.{FormsAreAwaited};
-ghost use Rattle.world3270.specs.statement.Leading.{KeysAreAsked, KeysAreAskedOverBytes, KeysLeadToOne};
+ghost use Rattle.world3270.specs.statement.Leading.{KeysLeadToOne};
 ghost use Rattle.world3270.specs.refinement.LowerLaws.{LowerLaws};
 ghost use Rattle.world3270.specs.model.Steps.{RunsCompose};
 ghost use Rattle.world3270.specs.statement.History.{HostsHistoryIsKept, TerminalsHistoryIsKept};
@@ -127,7 +127,6 @@ pub fn what_is_asked_is_seen()
     ensures screens { Always ScreensAreAsLeft }
     ensures keys { AlwaysOf KeysAreAsked }
     ensures bytes { AskedIsSeenOverBytes }
-    ensures keys_over_bytes { KeysAreAskedOverBytes }
     ensures others { OtherPanelsAreNotAsked }
 {
     what_is_given();
