@@ -440,7 +440,8 @@ pub fn every_terminal_over_bytes()
 
 /// Law: the premises of `every_terminal_over_bytes` can be met. Just after the host has agreed on an LU on a connection of
 /// a world that isn't lost, and if it doesn't rely on the terminal's wait, host, terminal and the bytes under way are a
-/// begin as that theorem requires it. Also, a begin is there: of a host with one panel, and a terminal that is bound.
+/// begin as that theorem requires it. Also, a begin is there: of a host with one panel, and a terminal that is bound; and
+/// a run of a world in which the host agrees.
 /// What happens then on the connection, until it is lost, are moves over messages that keep the rules; so `every_terminal`
 /// holds of each such connection of a world. In a world over bytes its bytes represent it.
 pub fn worlds_begin_so()
