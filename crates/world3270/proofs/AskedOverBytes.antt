@@ -13,10 +13,10 @@ use Rattle.host_core.specs.Session.{Session}
 use Rattle.host_core.specs.State.{Service, state_at, session_at}
 use Rattle.host_core.specs.declared.question.Question.{Question}
 use Rattle.world3270.specs.statement.Always.{Always, AlwaysOf}
-use Rattle.world3270.specs.statement.Asked.{AskedIsSeen, AskedIsSeenOverBytes, FieldsAreSeen, AreFieldsAsked, IsPanelSeen, IsScreenAsLeft, IsSeen, ScreensAreAsLeft, ShowsItsFields, asked_at, asked_by, row_at}
-use Rattle.world3270.specs.model.ByteWorld.{is_there}
+use Rattle.world3270.specs.statement.Asked.{AskedIsSeen, AskedIsSeenOverBytes, FieldsAreSeen, AreFieldsAsked, IsKeyAsked, IsPanelSeen, IsScreenAsLeft, IsSeen, ScreensAreAsLeft, ShowsItsFields, asked_at, asked_by, row_at}
+use Rattle.world3270.specs.model.ByteWorld.{ByteWorld, is_there}
 use Rattle.world3270.specs.model.Link.{Link}
-use Rattle.world3270.specs.refinement.Refines.{WorldSetup, after}
+use Rattle.world3270.specs.refinement.Refines.{IsReached, WorldSetup, after}
 use Rattle.world3270.specs.statement.Observation.{SeenLink, TerminalSeen, seen_link}
 use Rattle.world3270.specs.statement.ByteObservation.{seen_connection}
 use Rattle.world3270.specs.statement.Shown.{PanelIsShownOverBytes}
@@ -59,8 +59,14 @@ shows_its_fields on_screen set sound = record {
       (subst (λ (p : PanelParts). HaveNumbersApart p.fields) same (sound.numbers panel there.0 there.1)) i j one other below at_i at_j;
 }
 
-pub asked_over_bytes : PanelsAreShown → FieldsAreOnTheScreen → PanelIsShownOverBytes → AlwaysOf AskedIsSeen → AlwaysOf FieldsAreSeen → Always ScreensAreAsLeft → AskedIsSeenOverBytes
-asked_over_bytes shown on_screen panel asked each as_left bytes is = record { questions = questions; screens = screens }
+-- a question is about a key on which the application decides, in each such world
+abbrev pub KeyIsAsked : Type 0
+KeyIsAsked = (bytes : ByteWorld) → IsReached bytes → (number : ℕ) (rest : Rest) (host : Session) (question : Question) (terminal : TerminalSeen)
+    → state_at number bytes.host ≡ Service.Open rest host → asked_at number bytes ≡ Some question → (seen_connection number bytes).terminal ≡ Some terminal
+    → IsKeyAsked (application_of bytes.host.panels) host question terminal.screen
+
+pub asked_over_bytes : PanelsAreShown → FieldsAreOnTheScreen → PanelIsShownOverBytes → KeyIsAsked → AlwaysOf AskedIsSeen → AlwaysOf FieldsAreSeen → Always ScreensAreAsLeft → AskedIsSeenOverBytes
+asked_over_bytes shown on_screen panel key asked each as_left bytes is = record { questions = questions; screens = screens }
   where
     begin : WorldSetup
     begin = is.begin
@@ -104,6 +110,7 @@ asked_over_bytes shown on_screen panel asked each as_left bytes is = record { qu
           panel = λ on_now.
               let its = about_its_panel (application_of bytes.host.panels) session there.1 question there.3 on_now in
               record { same = its.0; shown = panel bytes is number there.0 there.1 terminal there.2 terminal_is its.1 };
+          key = key bytes is number there.0 there.1 question terminal there.2 asked_now terminal_is;
           seen = subst (λ (p : Panels). IsSeen ((application_of p).fields question.panel) question terminal) (sym is.reached.panels) seen;
           fields = subst (λ (p : Panels). AreFieldsAsked ((application_of p).fields question.panel) question terminal.screen) (sym is.reached.panels)
               (each app begin.serves begin.pool begin.models is.events is_app is.is_begin.pool is.is_begin.few is.reached.are_events

@@ -29,9 +29,9 @@ use Rattle.host_core.specs.Session.{Pending, Session, agreed_lu, is_agreed, mode
 use Rattle.host_core.specs.Takes.{may_have_changed}
 use Rattle.host_core.specs.declared.question.Question.{Question}
 use Rattle.host_core.specs.declared.turn.Turn.TheVariants as whose
-use Rattle.world3270.specs.statement.Asked.{AreFieldsAsked, IsSeen}
+use Rattle.world3270.specs.statement.Asked.{AreFieldsAsked, IsKeyAsked, IsSeen, panel_with_keys}
 use Rattle.world3270.specs.statement.EveryTerminal.{AreByTheRules, FirstPaint, EveryTerminal, IsByTheRules, Move, RightOf, LinkWithReport, after_moves, came_down, came_up, moved, told_link}
-use Rattle.world3270.specs.statement.Leading.{IsKeyAsked, IsLedTo, panel_with_keys}
+use Rattle.world3270.specs.statement.Leading.{IsLedTo}
 use Rattle.world3270.specs.refinement.LowerLaws.{LowerLaws}
 use Rattle.world3270.specs.statement.Headline.{Agrees, IsHostsTurn, SeesTheScreen}
 use Rattle.world3270.specs.model.Link.{Link}

@@ -16,10 +16,10 @@ use Rattle.world3270.specs.refinement.Refines.{WorldSetup, after}
 use Rattle.world3270.specs.refinement.Representation.{conn_of, link_of}
 use Rattle.world3270.specs.refinement.Represents.{LinkRepresents}
 use Rattle.world3270.specs.statement.Always.{AlwaysOf}
-use Rattle.world3270.specs.statement.Leading.{IsKeyAsked, KeysAreAsked, KeysAreAskedOverBytes}
+use Rattle.world3270.specs.statement.Asked.{IsKeyAsked, KeysAreAsked}
 use Rattle.world3270.specs.statement.Observation.{SeenLink, TerminalSeen}
 use Rattle.world3270.proofs.Asked.{asked_there}
-use Rattle.world3270.proofs.AskedOverBytes.{shows_its_fields}
+use Rattle.world3270.proofs.AskedOverBytes.{KeyIsAsked, shows_its_fields}
 use Rattle.world3270.proofs.Headline.{terminal_attached}
 use Rattle.world3270.proofs.Leading.{key_asked_now}
 use Rattle.world3270.proofs.SeenRepresents.{same_seen}
@@ -37,7 +37,7 @@ keys_are_asked given app serves pool models events is lists few are =
     subst (λ (t : TerminalSeen). IsKeyAsked app link.host question t.screen) (sym there.2)
     (key_asked_now given app is shows wants.again link (g.links number) session question here.1)
 
-pub keys_asked_over_bytes : LowerLaws → PanelsAreShown → FieldsAreOnTheScreen → KeysAreAskedOverBytes
+pub keys_asked_over_bytes : LowerLaws → PanelsAreShown → FieldsAreOnTheScreen → KeyIsAsked
 keys_asked_over_bytes given shown on_screen bytes is number rest host question terminal is_open asked terminal_is =
     let begin : WorldSetup = is.begin in
     let app : Application = application_of begin.panels in

@@ -26,8 +26,8 @@ use Rattle.world3270.specs.refinement.Invariant.{ConnectionInvariant, Decides, S
 use Rattle.world3270.specs.refinement.LowerLaws.{LowerLaws}
 use Rattle.world3270.specs.refinement.Phases.{SessionPhase}
 use Rattle.world3270.specs.refinement.View.{view_of}
-use Rattle.world3270.specs.statement.Asked.{IsFieldShown, ShowsItsFields}
-use Rattle.world3270.specs.statement.Leading.{AreFilledIn, IsAskedAbout, IsFilledIn, IsFirstLeftBlank, IsKeyAsked, IsLedTo, IsLeftBlank, KeysLeadToOne, panel_with_keys}
+use Rattle.world3270.specs.statement.Asked.{AreFilledIn, IsAskedAbout, IsFieldShown, IsFilledIn, IsKeyAsked, ShowsItsFields, panel_with_keys}
+use Rattle.world3270.specs.statement.Leading.{IsFirstLeftBlank, IsLedTo, IsLeftBlank, KeysLeadToOne}
 use Rattle.world3270.specs.statement.Showing.{IsKnownIfRead, KnowsItsFields}
 use Rattle.world3270.specs.statement.TurnReasons.{IsOccasion}
 use Rattle.world3270.proofs.Acting.{MayAct, asking_parts, knows_its, may_act_at, may_act_when}

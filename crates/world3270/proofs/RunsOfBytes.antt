@@ -1,26 +1,27 @@
 -- The begin of `EveryTerminalOverBytes` that the example has.
-use Rattle.std.proofs.Common.{◌≡◌, ◌<◌, lit≤, ℕ, zero, suc, true, false, Option, None, Some, List, [], refl, ap, sym, subst, ◌∙◌}
+use Rattle.std.proofs.Common.{◌≡◌, ◌<◌, lit≤, ℕ, zero, suc, true, false, Option, None, Some, List, [], ◌∷◌, ◌++◌, refl, ap, sym, subst, ◌∙◌}
 use Rattle.std.specs.Prelude.{option_and_then, replicate, slice_get, slice_index_or}
 use Rattle.std.proofs.lemmas.List.{length-replicate}
 use Rattle.std.proofs.lemmas.List.Elements.{All-nil}
 use Rattle.std.proofs.lemmas.Option.{same_Some}
 use Rattle.codes3270.specs.Size.{cells_in, model_2}
 use Rattle.codes3270.specs.declared.attribute.Cell.TheVariants.{Char}
-use Rattle.codes3270.specs.declared.size.Model.TheVariants.{M2}
+use Rattle.codes3270.specs.declared.size.Model.TheVariants.{M2, M5}
 use Rattle.lu_pool.specs.Pool.{Holds, entry}
 use Rattle.lu_pool.specs.declared.entry.Entry.{Entry}
 use Rattle.panels.specs.Panel.{AreSound, HasItemsApart, HaveNumbersApart, IsLaidOut, IsOfCharacters, IsOtherwise, PanelParts, ShowsItsValues, target_at, target_of}
 use Rattle.telnet_wire.specs.Reading.{nothing}
-use Rattle.tn3270e_msg.specs.Device.{device_for}
+use Rattle.tn3270e_msg.specs.Device.{device_for, device_of}
 use Rattle.host_core.specs.Application.{application_of}
 use Rattle.host_core.specs.Laws.{PanelsAreShown}
 use Rattle.host_core.specs.Sound.{HoldsJust, IsShown, IsSound}
 use Rattle.host_core.specs.State.{Connection, Service, lu_of, state_at, unused}
 use Rattle.host_core.specs.declared.terminals.Terminals.TheVariants.{Any}
-use Rattle.world3270.specs.examples.ExampleApplication.{example_pool, l1}
-use Rattle.world3270.specs.examples.ExampleBytes.{ABeginIsThere, agreed_bytes, agreed_host, agreed_session, bound_talk, empty_panel, one_panel}
-use Rattle.world3270.specs.examples.ExampleEnds.{l1_held}
+use Rattle.world3270.specs.examples.ExampleApplication.{example, example_pool, l1}
+use Rattle.world3270.specs.examples.ExampleBytes.{ABeginIsThere, agreed_bytes, agreed_host, agreed_seen, agreed_session, agreed_world, bound_talk, empty_panel, one_panel}
+use Rattle.world3270.specs.examples.ExampleEnds.{l1_held, rounds}
 use Rattle.world3270.specs.model.Terminal.{new_display}
+use Rattle.world3270.specs.model.World.{World, new_world}
 use Rattle.world3270.specs.refinement.MessageLaws.{MessageLaws}
 use Rattle.world3270.specs.refinement.Readings.{IsReadAs}
 use Rattle.world3270.specs.refinement.Represents.{RepresentsDown, without_commands, without_nops}
@@ -30,6 +31,7 @@ use Rattle.world3270.specs.statement.Rules.{Binds}
 use Rattle.world3270.proofs.ExampleGiven.{is_pool}
 use Rattle.world3270.proofs.Represents.{nothing_stands}
 use Rattle.world3270.proofs.Sendable.{blank_sendable}
+use Rattle.world3270.proofs.SignedOn.{acted_on, agree, agreeing, agreement_taken, asks, request_taken}
 
 -- ---- the panels
 
@@ -177,6 +179,16 @@ represents known panels = record {
   };
 }
 
+-- ---- a world
+
+-- the example from its begin, for any terminal
+unfoldable start_any : World
+start_any = new_world example Any example_pool (M5 ∷ [])
+
+has_agreed : agreed_seen agreed_world ≡ record { lost = false; lu = Some l1; any = true }
+unfolding start_any asks acted_on agree request_taken agreement_taken device_of
+has_agreed = ap agreed_seen (agreeing example asks (rounds 0 2 ++ []) start_any (record { here = refl; up = refl }) (record { here = refl; down = refl }))
+
 pub a_begin : MessageLaws → PanelsAreShown → ABeginIsThere
 a_begin known panels = record {
   panels = sound_panels;
@@ -188,4 +200,5 @@ a_begin known panels = record {
     is_host = record { sound = sound_host; unshared = nobody_shares };
     pool = known.worlds.given.pool.sound_granted example_pool 0 l1 (known.worlds.given.pool.sound example_pool is_pool);
   };
+  agreed = has_agreed;
 }

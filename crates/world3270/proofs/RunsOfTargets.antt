@@ -9,7 +9,8 @@ use Rattle.datastream.specs.Screen.{Screen}
 use Rattle.panels.specs.declared.message.Message.{Message}
 use Rattle.panels.specs.declared.message.Message.TheVariants.{Fresh, KeyNotActive, Required}
 use Rattle.panels.specs.declared.panel.Field.{Field as PanelField}
-use Rattle.world3270.specs.statement.Leading.{AreFilledIn, IsFilledIn, IsLedTo}
+use Rattle.world3270.specs.statement.Asked.{AreFilledIn, IsFilledIn}
+use Rattle.world3270.specs.statement.Leading.{IsLedTo}
 use Rattle.world3270.specs.examples.ExampleApplication.{example, letter_field, name_field, small, tall}
 use Rattle.keyboard.specs.Places.{onward, backward}
 use Rattle.keyboard.specs.declared.key.Key.TheVariants as key

@@ -54,8 +54,8 @@ use Rattle.world3270.specs.refinement.Refines.{WorldSetup, GoesOn, IsWorldSetup,
 use Rattle.world3270.specs.statement.ScreensFound.{DecisionsAreShownOverBytes, OtherTextsAreNotShown, IsDecidedBy, IsDecisionPainted, IsFound, PaintsFindTheScreen, answer_in, decides_over}
 use Rattle.world3270.specs.statement.Observation.{SeenLink, TerminalSeen, end_seen, seen_link, terminal_seen}
 use Rattle.world3270.specs.statement.Shown.{HasShown, IsPanelShown, PanelIsShownOverBytes, is_painting}
-use Rattle.world3270.specs.statement.Asked.{ShowsItsFields}
-use Rattle.world3270.specs.statement.Leading.{IsLedTo, IsWhereItLeads, panel_with_keys}
+use Rattle.world3270.specs.statement.Asked.{ShowsItsFields, panel_with_keys}
+use Rattle.world3270.specs.statement.Leading.{IsLedTo, IsWhereItLeads}
 use Rattle.world3270.specs.statement.ShownFields.{OtherTextsAreNot}
 use Rattle.world3270.specs.statement.TurnReasons.{IsOccasion}
 use Rattle.world3270.specs.statement.ShownSince.{IsAnswered, IsSamePanel, decides}

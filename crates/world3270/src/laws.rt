@@ -1,14 +1,14 @@
 //! Laws of worlds over messages and over bytes. Each is the contract of a function that does nothing. Proofs use them,
 //! also those of other crates; no program calls them, and the root doesn't export them.
 ghost use Rattle.world3270.specs.statement.Always.{Always, AlwaysOf, HeadlineHolds, NoCommandIsRejected};
-ghost use Rattle.world3270.specs.statement.Asked.{AskedIsSeen, AskedIsSeenOverBytes, FieldsAreSeen, OtherPanelsAreNotAsked, PanelsAreAsked, ScreensAreAsLeft};
+ghost use Rattle.world3270.specs.statement.Asked.{AskedIsSeen, AskedIsSeenOverBytes, FieldsAreSeen, KeysAreAsked, OtherPanelsAreNotAsked, PanelsAreAsked, ScreensAreAsLeft};
 ghost use Rattle.world3270.specs.statement.EveryTerminal.{EveryTerminal};
 ghost use Rattle.world3270.specs.statement.EveryTerminalBytes.{EveryTerminalOverBytes};
 ghost use Rattle.world3270.specs.statement.Instances.{ConnectionsAreMoved, WorldsBeginOverBytes, WorldsGoOnOverBytes};
 ghost use Rattle.world3270.specs.examples.Example.{TheRunsEndSo};
 ghost use Rattle.world3270.specs.examples.ExampleBytes.{ABeginIsThere};
 ghost use Rattle.world3270.specs.statement.Forms.{FormsAreAwaited};
-ghost use Rattle.world3270.specs.statement.Leading.{KeysAreAsked, KeysAreAskedOverBytes, KeysLeadToOne};
+ghost use Rattle.world3270.specs.statement.Leading.{KeysLeadToOne};
 ghost use Rattle.world3270.specs.refinement.LowerLaws.{LowerLaws};
 ghost use Rattle.world3270.specs.model.Steps.{RunsCompose};
 ghost use Rattle.world3270.specs.statement.History.{HostsHistoryIsKept, TerminalsHistoryIsKept};
@@ -127,7 +127,6 @@ pub fn what_is_asked_is_seen()
     ensures screens { Always ScreensAreAsLeft }
     ensures keys { AlwaysOf KeysAreAsked }
     ensures bytes { AskedIsSeenOverBytes }
-    ensures keys_over_bytes { KeysAreAskedOverBytes }
     ensures others { OtherPanelsAreNotAsked }
 {
     what_is_given();
@@ -441,7 +440,8 @@ pub fn every_terminal_over_bytes()
 
 /// Law: the premises of `every_terminal_over_bytes` can be met. Just after the host has agreed on an LU on a connection of
 /// a world that isn't lost, and if it doesn't rely on the terminal's wait, host, terminal and the bytes under way are a
-/// begin as that theorem requires it. Also, a begin is there: of a host with one panel, and a terminal that is bound.
+/// begin as that theorem requires it. Also, a begin is there: of a host with one panel, and a terminal that is bound; and
+/// a run of a world in which the host agrees.
 /// What happens then on the connection, until it is lost, are moves over messages that keep the rules; so `every_terminal`
 /// holds of each such connection of a world. In a world over bytes its bytes represent it.
 pub fn worlds_begin_so()

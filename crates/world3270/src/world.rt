@@ -173,9 +173,10 @@ impl World {
     /// each field of the panel the text that the screen shows in that field, nulls removed: the field is there, at its
     /// address and with its length. At connect, when no key was pressed, and after Clear neither the question nor the
     /// screen has a field. Else the question names the connection's panel, and the screen that the host's last restoring
-    /// write left shows it. At connect the terminal may still have to be bound. The protected part of the screen is as
-    /// the host's last restoring write left it, but for the row of messages. This part holds of each attached terminal,
-    /// unless Clear was pressed last.
+    /// write left shows it. The application decides on the key on that panel, at connect on the first one, and after Enter
+    /// no required field is left blank. At connect the terminal may still have to be bound. The protected part of the
+    /// screen is as the host's last restoring write left it, but for the row of messages. This part holds of each
+    /// attached terminal, unless Clear was pressed last.
     pub fn what_is_asked_is_seen(&self)
         ensures { WhatIsAskedIsSeen self.now }
     {

@@ -1,8 +1,8 @@
 -- A begin of `EveryTerminalOverBytes`: a host for any terminal with one panel, and a bound terminal. Readers and proofs
 -- need it, and nothing rests on it (our profile).
-use Rattle.std.specs.Prelude.{codes, true, false, [], ◌∷◌, None, Some, replicate}
+use Rattle.std.specs.Prelude.{◌≡◌, codes, ℕ, Bool, true, false, List, [], ◌∷◌, Option, None, Some, replicate}
 use Rattle.codes3270.specs.Size.{cells_in, model_2}
-use Rattle.codes3270.specs.declared.size.Model.TheVariants.{M2}
+use Rattle.codes3270.specs.declared.size.Model.TheVariants.{M2, M5}
 use Rattle.datastream.specs.Screen.{blank_screen}
 use Rattle.panels.specs.Panel.{AreSound, PanelParts, Panels}
 use Rattle.presentation.specs.Sizes.{blank_of}
@@ -15,12 +15,15 @@ use Rattle.tn3270e_msg.specs.declared.host_talk.HostState.TheVariants.{Agreed as
 use Rattle.tn3270e_msg.specs.declared.term_talk.TermState.TheVariants.{Agreed}
 use Rattle.host_core.specs.Application.{application_of}
 use Rattle.host_core.specs.Reports.{no_reports}
-use Rattle.host_core.specs.Session.{Session, new_conn}
+use Rattle.host_core.specs.Session.{Session, agreed_lu, new_conn}
 use Rattle.host_core.specs.State.{Host, Service, no_sessions, unused}
+use Rattle.host_core.specs.Takes.{may_have_changed}
 use Rattle.host_core.specs.declared.terminals.Terminals.TheVariants.{Any}
-use Rattle.world3270.specs.examples.ExampleApplication.{l1}
-use Rattle.world3270.specs.examples.ExampleEnds.{l1_held}
+use Rattle.world3270.specs.examples.ExampleApplication.{example, example_pool, l1}
+use Rattle.world3270.specs.examples.ExampleEnds.{connected, l1_held}
+use Rattle.world3270.specs.model.Steps.{run}
 use Rattle.world3270.specs.model.TrackedTerminals.{TrackedTerminal}
+use Rattle.world3270.specs.model.World.{World, new_world}
 use Rattle.world3270.specs.statement.EveryTerminalBytes.{BeginsOverBytes, OverBytes}
 
 -- ---- the host
@@ -80,7 +83,31 @@ bound_terminal = record {
 abbrev pub agreed_bytes : OverBytes
 agreed_bytes = record { host = agreed_host; down = []; up = []; tracked = bound_terminal; waits = true }
 
--- Holds if this is a begin, of a host with sound panels: so the premises of `EveryTerminalOverBytes` can be met.
+-- ---- a world
+
+-- what `ConnectionsAreMoved` asks of a connection: whether it is lost, the LU on which the host agreed, and whether the
+-- host doesn't rely on the terminal's wait
+pub record AgreedSeen : Type 0 where
+  pub lost : Bool
+  pub lu : Option (List ℕ)
+  pub any : Bool
+
+abbrev pub agreed_seen : World → AgreedSeen
+agreed_seen world = record {
+  lost = (world.link 0).lost;
+  lu = agreed_lu (world.link 0).host.talk.state;
+  any = may_have_changed (world.link 0).host.unheard;
+}
+
+-- the example, with a host for any terminal: the terminal connects, and is shown the first panel
+abbrev pub agreed_world : World
+agreed_world = run example connected (new_world example Any example_pool (M5 ∷ []))
+
+-- ---- both are there
+
+-- Holds if these bytes are a begin, of a host with sound panels, and if the host of that world has agreed: so the
+-- premises of `EveryTerminalOverBytes` and of `ConnectionsAreMoved` can be met.
 pub record ABeginIsThere : Type 0 where
   pub panels : AreSound one_panel
   pub begins : BeginsOverBytes (application_of one_panel) 0 l1 agreed_bytes
+  pub agreed : agreed_seen agreed_world ≡ record { lost = false; lu = Some l1; any = true }

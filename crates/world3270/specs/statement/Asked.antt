@@ -13,7 +13,9 @@ use Rattle.panels.specs.Panel.{HaveNumbersApart}
 use Rattle.panels.specs.Screen.{Values}
 use Rattle.panels.specs.Values.{value_of}
 use Rattle.panels.specs.declared.message.Message.{Message}
+use Rattle.panels.specs.declared.next.Next.TheVariants.{Ask}
 use Rattle.panels.specs.declared.panel.Field.{Field as PanelField}
+use Rattle.host_core.specs.Acts.{first_panel, is_blank}
 use Rattle.host_core.specs.Application.{Application, application_of, message_place}
 use Rattle.host_core.specs.Questions.{is_screen_empty, question_in, question_of}
 use Rattle.host_core.specs.Session.{Session}
@@ -116,6 +118,38 @@ OtherPanelsAreNotAsked = (app : Application) (waits : Bool) (host : Session) (qu
     → slice_get terminal.last_restored.cells cell ≢ Some (Char char)
     → is_screen_empty question.aid ≡ false → IsPanelAsked app waits host question terminal → ⊥
 
+-- ---- the key of a question
+
+-- Holds if the field is filled in: its text on the screen has a character that is neither a null nor a blank.
+pub record IsFilledIn (field : PanelField) (screen : Screen) : Type 0 where
+  pub text : List ℕ
+  pub shown : IsFieldShown field text screen
+  pub filled : is_blank text ≡ false
+
+-- Holds if each of these fields that is required is filled in.
+abbrev pub AreFilledIn : List PanelField → Screen → Type 0
+AreFilledIn panel screen = (index : ℕ) (field : PanelField) → slice_get panel index ≡ Some field
+    → field.required ≡ true → IsFilledIn field screen
+
+-- the panel whose keys count: the one that was shown last; at connect, with no AID, the first one, in the form for the
+-- terminal's model
+abbrev pub panel_with_keys : Application → Session → Aid → ℕ
+panel_with_keys app conn NoAid = first_panel app conn
+panel_with_keys app conn Enter = conn.panel
+panel_with_keys app conn Clear = conn.panel
+panel_with_keys app conn (Pf key) = conn.panel
+panel_with_keys app conn (Pa key) = conn.panel
+
+-- Holds if the application decides on the key whose AID the screen has, and after Enter no required field is left blank.
+pub record IsAskedAbout (app : Application) (from : ℕ) (screen : Screen) : Type 0 where
+  pub asks : app.next from screen.aid ≡ Ask
+  pub filled : screen.aid ≡ Enter → AreFilledIn (app.fields from) screen
+
+-- Holds if the question names the panel whose keys count, and the application decides on the key there.
+pub record IsKeyAsked (app : Application) (host : Session) (question : Question) (screen : Screen) : Type 0 where
+  pub panel : question.panel ≡ panel_with_keys app host screen.aid
+  pub about : IsAskedAbout app question.panel screen
+
 -- ---- the screen is the one that was left
 
 -- Holds if Clear was pressed last, or the protected part of the terminal's screen is as the host's last restoring write
@@ -161,6 +195,15 @@ PanelsAreAsked app world = WantsItsFields app → (number session : ℕ) (questi
     → (seen_link (world.link number)).terminal ≡ Some terminal
     → IsPanelAsked app true (world.link number).host question terminal
 
+-- Holds if such a question is about a key on which the application decides, provided that each screen that the
+-- application asks for has its panel's fields.
+abbrev pub KeysAreAsked : Application → World → Type 0
+KeysAreAsked app world = ShowsItsFields app → WantsItsFields app
+    → (number session : ℕ) (question : Question) (terminal : TerminalSeen)
+    → asked_by app session (world.link number) ≡ Some question
+    → (seen_link (world.link number)).terminal ≡ Some terminal
+    → IsKeyAsked app (world.link number).host question terminal.screen
+
 -- Holds if the protected part of each attached terminal's screen is as it was left, on a lost connection too.
 abbrev pub ScreensAreAsLeft : World → Type 0
 ScreensAreAsLeft world = (number : ℕ) (terminal : TerminalSeen)
@@ -179,14 +222,15 @@ asked_at number world = question_of (application_of world.host.panels) (session_
     (state_at number world.host)
 
 -- Holds if a question of this connection has the key, the LU, the cursor and each field of its panel as the terminal
--- shows them; if it is about the panel that the screen shows; and if, unless Clear was pressed, the protected part of
--- the screen is as it was left.
+-- shows them; if it is about the panel that the screen shows, and about a key on which the application decides; and if,
+-- unless Clear was pressed, the protected part of the screen is as it was left.
 pub record IsPanelSeen (app : Application) (service : Service) (row : ℕ) (question : Question)
     (terminal : TerminalSeen) : Type 0 where
   pub rest : Rest
   pub host : Session
   pub is_open : service ≡ Service.Open rest host
   pub panel : IsPanelAsked app true host question terminal
+  pub key : IsKeyAsked app host question terminal.screen
   pub seen : IsSeen (app.fields question.panel) question terminal
   pub fields : AreFieldsAsked (app.fields question.panel) question terminal.screen
   pub protected : IsScreenAsLeft row terminal

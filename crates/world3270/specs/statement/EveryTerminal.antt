@@ -29,11 +29,11 @@ use Rattle.host_core.specs.declared.question.Answer.{Answer as ApplicationAnswer
 use Rattle.host_core.specs.declared.question.Question.{Question}
 use Rattle.host_core.specs.declared.terminals.Terminals.{Terminals}
 use Rattle.host_core.specs.declared.unheard.Unheard.TheVariants.{Input}
-use Rattle.world3270.specs.statement.Asked.{AreFieldsAsked, IsPanelAsked, IsSeen, ShowsItsFields}
+use Rattle.world3270.specs.statement.Asked.{AreFieldsAsked, IsKeyAsked, IsPanelAsked, IsSeen, ShowsItsFields, panel_with_keys}
 use Rattle.world3270.specs.statement.Headline.{Agrees, IsHostsTurn, SeesTheScreen}
 use Rattle.world3270.specs.model.Link.{Link, cut, host_sent, host_stepped, term_stepped}
 use Rattle.world3270.specs.model.Enabled.{is_queued}
-use Rattle.world3270.specs.statement.Leading.{IsKeyAsked, IsLedTo, panel_with_keys}
+use Rattle.world3270.specs.statement.Leading.{IsLedTo}
 use Rattle.world3270.specs.statement.Rules.{Binds, Operates}
 use Rattle.world3270.specs.statement.Observation.{end_seen, seen_link}
 use Rattle.world3270.specs.statement.Shown.{HasShown, IsPanelShown}

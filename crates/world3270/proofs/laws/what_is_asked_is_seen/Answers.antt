@@ -21,11 +21,9 @@ returns-clause-screens c = screens_are_as_left c.what_is_given.ensures
 
 pub returns-clause-bytes : goal.returns-clause-bytes
 returns-clause-bytes c =
-    asked_over_bytes c.panels_are_shown.ensures.application c.fields_are_on_the_screen.ensures c.what_is_answered_is_shown.ensures.bytes (asked_is_seen c.what_is_given.ensures) (each_is_seen c.what_is_given.ensures)
+    asked_over_bytes c.panels_are_shown.ensures.application c.fields_are_on_the_screen.ensures c.what_is_answered_is_shown.ensures.bytes
+    (keys_asked_over_bytes c.what_is_given.ensures c.panels_are_shown.ensures.application c.fields_are_on_the_screen.ensures) (asked_is_seen c.what_is_given.ensures) (each_is_seen c.what_is_given.ensures)
     (screens_are_as_left c.what_is_given.ensures)
 
 pub returns-clause-keys : goal.returns-clause-keys
 returns-clause-keys c = keys_are_asked c.what_is_given.ensures
-
-pub returns-clause-keys_over_bytes : goal.returns-clause-keys_over_bytes
-returns-clause-keys_over_bytes c = keys_asked_over_bytes c.what_is_given.ensures c.panels_are_shown.ensures.application c.fields_are_on_the_screen.ensures
