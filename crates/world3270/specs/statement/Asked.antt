@@ -103,12 +103,12 @@ pub record IsAboutItsPanel (app : Application) (waits : Bool) (host : Session) (
   pub same : question.panel ≡ host.panel
   pub shown : IsPanelShown app waits host terminal.before_restored terminal.last_restored
 
--- Holds if no panel is on the screen, at connect or after Clear; or if the question is about the panel that it shows.
+-- Holds if no panel is on the screen, at connect or after Clear; or if the question names the panel that it shows.
 abbrev pub IsPanelAsked : Application → (waits : Bool) → Session → Question → TerminalSeen → Type 0
 IsPanelAsked app waits host question terminal = is_screen_empty question.aid ≡ false
     → IsAboutItsPanel app waits host question terminal
 
--- A question isn't about a panel if all screens of that panel have a character in some cell, and the screen that was
+-- A question doesn't name a panel if all screens of that panel have a character in some cell, and the screen that was
 -- left doesn't have it there. So panels with the same fields, or without fields, aren't confused.
 abbrev pub OtherPanelsAreNotAsked : Type 0
 OtherPanelsAreNotAsked = (app : Application) (waits : Bool) (host : Session) (question : Question)
@@ -187,7 +187,7 @@ FieldsAreSeen app world = ShowsItsFields app → (number session : ℕ) (questio
     → (seen_link (world.link number)).terminal ≡ Some terminal
     → AreFieldsAsked (app.fields question.panel) question terminal.screen
 
--- Holds if such a question is about the panel that the screen shows, provided that each screen that the application asks
+-- Holds if such a question names the panel that the screen shows, provided that each screen that the application asks
 -- for has its panel's fields.
 abbrev pub PanelsAreAsked : Application → World → Type 0
 PanelsAreAsked app world = WantsItsFields app → (number session : ℕ) (question : Question) (terminal : TerminalSeen)
@@ -195,8 +195,8 @@ PanelsAreAsked app world = WantsItsFields app → (number session : ℕ) (questi
     → (seen_link (world.link number)).terminal ≡ Some terminal
     → IsPanelAsked app true (world.link number).host question terminal
 
--- Holds if such a question is about a key on which the application decides, provided that each screen that the
--- application asks for has its panel's fields.
+-- Holds if such a question names a panel on which the application decides on the key, provided that each screen that
+-- the application asks for has its panel's fields.
 abbrev pub KeysAreAsked : Application → World → Type 0
 KeysAreAsked app world = ShowsItsFields app → WantsItsFields app
     → (number session : ℕ) (question : Question) (terminal : TerminalSeen)
@@ -222,8 +222,8 @@ asked_at number world = question_of (application_of world.host.panels) (session_
     (state_at number world.host)
 
 -- Holds if a question of this connection has the key, the LU, the cursor and each field of its panel as the terminal
--- shows them; if it is about the panel that the screen shows, and about a key on which the application decides; and if,
--- unless Clear was pressed, the protected part of the screen is as it was left.
+-- shows them; if it names the panel that the screen shows, and the application decides on the key there; and if, unless
+-- Clear was pressed, the protected part of the screen is as it was left.
 pub record IsPanelSeen (app : Application) (service : Service) (row : ℕ) (question : Question)
     (terminal : TerminalSeen) : Type 0 where
   pub rest : Rest
