@@ -62,6 +62,8 @@ class Screen:
     def __init__(self, rows, columns):
         self.rows, self.columns = rows, columns
         self.alternate, self.bells, self.written, self.reports = False, 0, 0, b""
+        # The tty has another size, and may still be sent what was drawn for the old one.
+        self.is_resized = False
         self.erase()
 
     def erase(self):
@@ -99,6 +101,8 @@ class Screen:
                 self.cells = self.cells[1:] + [[" "] * self.columns]
         else:
             if not (self.row < self.rows and self.column < self.columns):
+                if self.is_resized:
+                    return
                 raise Difference(
                     "a character on the tty", f"row {self.row} and column {self.column}"
                 )
@@ -125,6 +129,7 @@ class Screen:
             row, column = self.row, self.column
             self.erase()
             self.row, self.column = row, column
+            self.is_resized = False
         else:
             raise Difference("a control sequence that is known", repr(final))
 
@@ -217,6 +222,7 @@ class Operator:
         """The window has another size, and its content is lost."""
         self.screen.rows, self.screen.columns = rows, columns
         self.screen.erase()
+        self.screen.is_resized = True
         fcntl.ioctl(self.master, termios.TIOCSWINSZ, struct.pack("HHHH", rows, columns, 0, 0))
 
     def has_status(self, *words, row=None):
