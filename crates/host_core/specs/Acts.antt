@@ -7,11 +7,12 @@ use Rattle.codes3270.specs.declared.attention.Aid.TheVariants.{NoAid, Enter, Cle
 use Rattle.codes3270.specs.Size.{cells_in}
 use Rattle.datastream.specs.Wanted.{WantedScreen}
 use Rattle.shadow.specs.Queries.{field_at}
-use Rattle.shadow.specs.Belief.{Fact, Belief, Shadow}
+use Rattle.shadow.specs.Belief.{Belief, Shadow}
 use Rattle.shadow.specs.Doubt.{doubted}
 use Rattle.shadow.specs.Fits.{fits}
 use Rattle.shadow.specs.Meets.{told}
 use Rattle.shadow.specs.Paint.{paint}
+pub use Rattle.shadow.specs.Settled.{is_settled_fact}
 use Rattle.panels.specs.declared.panel.Field.{Field}
 use Rattle.panels.specs.declared.message.Message.{Message}
 use Rattle.panels.specs.declared.message.Message.TheVariants.{Fresh, Plain, KeyNotActive, Required, Told}
@@ -29,6 +30,7 @@ use Rattle.host_core.specs.declared.turn_reason.TurnReason.TheVariants as turn_r
 use Rattle.host_core.specs.declared.unheard.Unheard.{Unheard}
 use Rattle.host_core.specs.declared.unheard.Unheard.TheVariants as unheards
 use Rattle.host_core.specs.Session.{Session, Pending, is_agreed, model_in}
+pub use Rattle.host_core.specs.Takes.{unheard_next}
 use Rattle.host_core.specs.Takes.{is_verified, may_have_changed}
 
 -- what the host may do in its turn: send Read Buffer, or show a panel, in the form for the terminal's model, with a
@@ -47,14 +49,6 @@ pub data Decision : Type 0 where
 -- what the host believes of a panel's field
 abbrev pub belief_of : Shadow → Field → Option Belief
 belief_of shadow field = field_at (field.extent.first - 1) shadow
-
--- the fact says what the field's text is
-abbrev pub is_settled_fact : Fact → Bool
-is_settled_fact (Fact.Exact value) = true
-is_settled_fact (Fact.Text value) = true
-is_settled_fact (Fact.ExactOrNulls value) = false
-is_settled_fact (Fact.TextOrNulls value) = false
-is_settled_fact (Fact.Any known) = false
 
 -- the text of the field isn't known
 abbrev pub is_in_doubt : Shadow → Field → Bool
@@ -150,12 +144,6 @@ abbrev pub known_despite : Unheard → Shadow → Shadow
 known_despite unheards.Nothing shadow = shadow
 known_despite unheards.Input shadow = doubted shadow
 known_despite unheards.Clear shadow = Shadow.NothingKnown
-
--- what may happen unheard after a panel is shown: a screen that was cleared is erased then
-abbrev pub unheard_next : Unheard → Unheard
-unheard_next unheards.Nothing = unheards.Nothing
-unheard_next unheards.Input = unheards.Input
-unheard_next unheards.Clear = unheards.Input
 
 -- The connection when a panel is shown on it: the paint, and the fields that it keeps, are over this belief. What the
 -- host decides, asks and learns is by the belief before.

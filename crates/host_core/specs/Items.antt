@@ -61,7 +61,7 @@ pub data TakesData (conn : Session) (body : List ℕ) (step : HostStep) : Type 0
   is_second_key : (fault : InboundFault) (parts : InboundParts)
       → IsNoInbound conn.size (form_awaited conn.pending) fault body → may_be_second_key conn ≡ true
       → parts.form ≡ Modified → parts.size ≡ second_key_size conn conn.pending → IsInbound parts body
-      → step ≡ second_key parts.aid conn.pending conn → TakesData conn body step
+      → step ≡ second_key parts parts.aid conn.pending conn → TakesData conn body step
   no_data : (fault : InboundFault) → IsNoInbound conn.size (form_awaited conn.pending) fault body
       → IsNoSecondKey (may_be_second_key conn) (second_key_size conn conn.pending) body
       → step ≡ closed_by BadInbound conn → TakesData conn body step

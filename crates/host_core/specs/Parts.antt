@@ -37,6 +37,13 @@ IsWrite (Pending.Writing number command) = ⊤
 IsWrite (Pending.Reading number) = ⊥
 IsWrite (Pending.Noting number command) = ⊤
 
+-- holds if no paint waits for its answer
+abbrev pub IsNoPaint : Pending → Type 0
+IsNoPaint Pending.Nothing = ⊤
+IsNoPaint (Pending.Writing number command) = ⊥
+IsNoPaint (Pending.Reading number) = ⊤
+IsNoPaint (Pending.Noting number command) = ⊤
+
 -- An item of the negotiation is taken: the reply is appended to the output. If it closes, the LU is still held.
 pub record TalkTaken (number : ℕ) (pool : List Entry) (old : Talk HostState) (item : WireItem)
     (before after : Vec ℕ Global) (closes : Option Cause) (left : List Entry) (new : Talk HostState)

@@ -5,7 +5,7 @@ use Rattle.lu_pool.specs.declared.entry.Entry.{Entry}
 use Rattle.panels.specs.Panel.{Panels, size_of}
 use Rattle.host_core.specs.Application.{panel_at}
 use Rattle.host_core.specs.Session.{Session}
-use Rattle.host_core.specs.State.{Service, Host, most_connections, state_at, lu_of}
+use Rattle.host_core.specs.State.{Service, Host, most_connections, served_by, state_at, lu_of}
 
 -- Holds if the pool holds exactly this LU for the connection with this number; or none.
 abbrev pub HoldsJust : ℕ → List Entry → Option (List ℕ) → Type 0
@@ -41,6 +41,7 @@ pub record IsSound (host : Host) : Type 0 where
   pub sessions : length host.sessions.latest ≡ most_connections
   pub held : LusAreHeld host
   pub shown : PanelsAreShown host
+  pub marked : served_by host.terminals host.panels ≡ host.panels  -- if it doesn't rely on the wait: each field
 
 -- Holds if no two connections are granted the same LU.
 abbrev pub NobodyShares : Host → Type 0

@@ -3,6 +3,7 @@ use Rattle.std.specs.Prelude.{◌+◌, ◌%◌, ◌^◌, ℕ, List, [], ◌∷�
 use Rattle.codes3270.specs.declared.size.Model.{Model}
 use Rattle.lu_pool.specs.Holders.{all_free, given_back}
 use Rattle.lu_pool.specs.declared.entry.Entry.{Entry}
+use Rattle.panels.specs.Marked.{marked_set}
 use Rattle.panels.specs.Panel.{Panels}
 use Rattle.shadow.specs.Belief.{Shadow}
 use Rattle.telnet_wire.specs.Items.{Opt, sent_bytes}
@@ -17,7 +18,7 @@ use Rattle.host_core.specs.declared.phase.Phase.{Phase}
 use Rattle.host_core.specs.Reports.{Reports, no_reports}
 use Rattle.host_core.specs.declared.phase.Phase.TheVariants as phase
 use Rattle.host_core.specs.declared.terminals.Terminals.{Terminals}
-use Rattle.host_core.specs.declared.terminals.Terminals.TheVariants.{Waiting}
+use Rattle.host_core.specs.declared.terminals.Terminals.TheVariants.{Waiting, Any, Verified}
 use Rattle.host_core.specs.declared.turn.Turn.{Turn}
 use Rattle.host_core.specs.declared.turn.Turn.TheVariants.{Host as HostTurn}
 
@@ -146,9 +147,16 @@ abbrev pub with_opened : ℕ → Host → Host
 with_opened number host =
     record (with_connection number (opened host.terminals host.panels) host) { sessions = counted number host.sessions }
 
+-- the panels that such terminals are shown: a host that doesn't rely on their wait marks each field (MDT), so that each
+-- Enter or PF key returns its text, and no field is in doubt then
+abbrev pub served_by : Terminals → Panels → Panels
+served_by Waiting panels = panels
+served_by Any panels = marked_set panels
+served_by Verified panels = marked_set panels
+
 -- a host at its beginning: each LU is free, and so is each connection number
-abbrev pub host_for : Terminals → Panels → List Entry → Host
-host_for terminals panels pool = record {
+abbrev pub host_with : Terminals → Panels → List Entry → Host
+host_with terminals panels pool = record {
   panels = panels;
   pool = all_free pool;
   connections = replicate most_connections unused;
@@ -156,13 +164,17 @@ host_for terminals panels pool = record {
   terminals = terminals;
 }
 
+-- a host for such terminals, with the panels of a text
+abbrev pub host_for : Terminals → Panels → List Entry → Host
+host_for terminals panels pool = host_with terminals (served_by terminals panels) pool
+
 -- a host for terminals that wait
 abbrev pub new_host : Panels → List Entry → Host
 new_host panels pool = host_for Waiting panels pool
 
 -- the host when it starts again: the count of sessions goes on, so that no answer to an earlier question is taken
 abbrev pub restarted : Host → Host
-restarted host = record (host_for host.terminals host.panels host.pool) { sessions = host.sessions }
+restarted host = record (host_with host.terminals host.panels host.pool) { sessions = host.sessions }
 
 -- the host that counts sessions on from another one's count, so that no session of it has a number of one there
 abbrev pub counting_on : (earlier : Host) → Host → Host

@@ -1,7 +1,7 @@
 -- How a host takes what a terminal sends: the connection after it, what the host sends, the LU that it grants, the
 -- request that it rejects, the key that it drops, the rule that it finds broken, and the cause if it closes the
 -- connection (RFC 1647, sections 7, 8.1 and 10.4; turns, beliefs and causes are our profile).
-use Rattle.std.specs.Prelude.{◌==◌, ◌&&◌, ℕ, Bool, true, false, List, [], map, Option, Some, None, Result, Ok, Err, unwrap_or, if◌then◌else◌}
+use Rattle.std.specs.Prelude.{◌==◌, ◌&&◌, ◌||◌, not, ℕ, Bool, true, false, List, [], map, Option, Some, None, Result, Ok, Err, unwrap_or, if◌then◌else◌}
 use Rattle.codes3270.specs.declared.attention.Aid.{Aid}
 use Rattle.codes3270.specs.declared.attention.Aid.TheVariants.{NoAid, Enter, Clear, Pf, Pa}
 use Rattle.codes3270.specs.Size.{cells_in}
@@ -16,6 +16,7 @@ use Rattle.shadow.specs.Belief.{Shadow}
 use Rattle.shadow.specs.Exactness.{is_erase}
 use Rattle.shadow.specs.Heard.{heard}
 use Rattle.shadow.specs.RuleBreaks.{rule_break}
+use Rattle.shadow.specs.Settled.{is_settled}
 use Rattle.shadow.specs.Taken.{taken}
 use Rattle.shadow.specs.declared.rule_break.RuleBreak.{RuleBreak}
 use Rattle.shadow.specs.declared.fault.HeardFault.{HeardFault}
@@ -163,21 +164,46 @@ may_have_changed unheards.Nothing = false
 may_have_changed unheards.Input = true
 may_have_changed unheards.Clear = true
 
+-- a key's data in the terminal's turn; a note still waits for its answer
+abbrev pub key_came : InboundParts → Aid → Session → HostStep
+key_came parts NoAid conn = closed_by BadInbound conn
+key_came parts Enter conn = believed (turn_reasons.Key Enter false) conn.pending parts.cursor conn (hears parts conn)
+key_came parts Clear conn = believed (turn_reasons.Key Clear false) conn.pending parts.cursor conn (hears parts conn)
+key_came parts (Pf key) conn = believed (turn_reasons.Key (Pf key) false) conn.pending parts.cursor conn
+    (hears parts conn)
+key_came parts (Pa key) conn = believed (turn_reasons.Key (Pa key) false) conn.pending parts.cursor conn
+    (hears parts conn)
+
+-- the last key was PA, which sends no fields, and the screen wasn't read since
+abbrev pub is_unread : TurnReason → Bool
+is_unread turn_reasons.Agreement = false
+is_unread (turn_reasons.Key (Pa key) buffered) = not buffered
+is_unread (turn_reasons.Key _ buffered) = false
+is_unread turn_reasons.Refusal = false
+
+-- Clear is pressed before the last key was answered, and no paint waits for its answer. It is dropped, but nothing is
+-- believed of the screen when a panel is shown next. After PA the texts that the host would read are gone: if it hasn't
+-- read them yet, Clear counts in place of PA. Then a read that waits for its answer has nothing to say.
+abbrev pub clear_came : InboundParts → Session → HostStep
+clear_came parts conn = if is_unread conn.turn_reason then key_came parts Clear conn
+    else dropping Clear (record conn { unheard = unheards.Clear })
+
 -- A second key: one pressed before the last one was answered. It is dropped, since what is shown next is right all the
--- same. After Clear nothing may be believed of the screen, which is too late for a command that waits for its answer.
-abbrev pub second_key : Aid → Pending → Session → HostStep
-second_key NoAid pending conn = closed_by BadInbound conn
-second_key Enter pending conn = dropping Enter conn
-second_key Clear Pending.Nothing conn = dropping Clear (record conn { unheard = unheards.Clear })
-second_key Clear (Pending.Writing number command) conn = closed_by BadInbound conn
-second_key Clear (Pending.Reading number) conn = closed_by BadInbound conn
-second_key Clear (Pending.Noting number command) conn = closed_by BadInbound conn
-second_key (Pf key) pending conn = dropping (Pf key) conn
-second_key (Pa key) pending conn = dropping (Pa key) conn
+-- same. Clear was pressed before the terminal carried out a paint that waits for its answer; `paint_answered` says what
+-- that means.
+abbrev pub second_key : InboundParts → Aid → Pending → Session → HostStep
+second_key parts NoAid pending conn = closed_by BadInbound conn
+second_key parts Enter pending conn = dropping Enter conn
+second_key parts Clear Pending.Nothing conn = clear_came parts conn
+second_key parts Clear (Pending.Writing number command) conn = dropping Clear (record conn { unheard = unheards.Clear })
+second_key parts Clear (Pending.Reading number) conn = clear_came parts conn
+second_key parts Clear (Pending.Noting number command) conn = clear_came parts conn
+second_key parts (Pf key) pending conn = dropping (Pf key) conn
+second_key parts (Pa key) pending conn = dropping (Pa key) conn
 
 -- data out of turn: a second key's if it has the form of modified fields, else it closes the connection
 abbrev pub second_key_data : InboundParts → Form → Session → HostStep
-second_key_data parts Modified conn = second_key parts.aid conn.pending conn
+second_key_data parts Modified conn = second_key parts parts.aid conn.pending conn
 second_key_data parts AllModified conn = closed_by BadInbound conn
 second_key_data parts Buffer conn = closed_by BadInbound conn
 
@@ -205,25 +231,35 @@ abbrev pub unless_broken : Session → Option RuleBreak → HostStep → HostSte
 unless_broken conn None step = step
 unless_broken conn (Some broken) step = breaking broken conn
 
--- the answer to Read Buffer is believed
+-- Whether the answer to Read Buffer counts. A host that doesn't rely on the wait has learned from the key what there is
+-- to learn, so that nothing counts that is typed in the wait: a read only verifies. It counts after PA, which sends no
+-- fields, or if the text of some field isn't known.
+abbrev pub is_after_pa : TurnReason → Bool
+is_after_pa turn_reasons.Agreement = false
+is_after_pa (turn_reasons.Key (Pa key) buffered) = true
+is_after_pa (turn_reasons.Key _ buffered) = false
+is_after_pa turn_reasons.Refusal = false
+
+abbrev pub is_read_believed : Session → Bool
+is_read_believed conn =
+    not (may_have_changed conn.unheard) || (is_after_pa conn.turn_reason || not (is_settled conn.shadow))
+
+-- the screen was read, and what is believed of it stays
+abbrev pub only_read : Session → Session
+only_read conn =
+    record conn { turn = whose.Host; pending = Pending.Nothing; turn_reason = once_read conn.turn_reason }
+
+-- the answer to Read Buffer is believed, if it counts
 abbrev pub buffer_heard : InboundParts → Session → HostStep
-buffer_heard parts conn = believed (once_read conn.turn_reason) Pending.Nothing parts.cursor conn (hears parts conn)
+buffer_heard parts conn = if is_read_believed conn
+    then believed (once_read conn.turn_reason) Pending.Nothing parts.cursor conn (hears parts conn)
+    else quiet (only_read conn)
 
 -- the answer to Read Buffer, or a key that was pressed before it was read
 abbrev pub buffer_came : InboundParts → Form → Session → HostStep
 buffer_came parts Buffer conn = unless_broken conn (rule_broken_by parts conn) (buffer_heard parts conn)
 buffer_came parts Modified conn = out_of_turn parts conn
 buffer_came parts AllModified conn = out_of_turn parts conn
-
--- a key's data in the terminal's turn; a note still waits for its answer
-abbrev pub key_came : InboundParts → Aid → Session → HostStep
-key_came parts NoAid conn = closed_by BadInbound conn
-key_came parts Enter conn = believed (turn_reasons.Key Enter false) conn.pending parts.cursor conn (hears parts conn)
-key_came parts Clear conn = believed (turn_reasons.Key Clear false) conn.pending parts.cursor conn (hears parts conn)
-key_came parts (Pf key) conn = believed (turn_reasons.Key (Pf key) false) conn.pending parts.cursor conn
-    (hears parts conn)
-key_came parts (Pa key) conn = believed (turn_reasons.Key (Pa key) false) conn.pending parts.cursor conn
-    (hears parts conn)
 
 -- data in the terminal's turn: a key's if it has the form of modified fields, else it closes the connection
 abbrev pub key_data_came : InboundParts → Form → Session → HostStep
@@ -267,10 +303,29 @@ abbrev pub if_answers : Bool → HostStep → Session → HostStep
 if_answers true step conn = step
 if_answers false step conn = closed_by BadResponse conn
 
--- the response to a write
+-- the response to a note
 abbrev pub verdict_came : CommandParts → Verdict → Session → HostStep
 verdict_came command Verdict.Positive conn = quiet (answered command conn)
 verdict_came command Verdict.Negative conn = write_refused command conn
+
+-- what may have happened unheard once an erase was carried out: a screen that was cleared is written whole then
+abbrev pub unheard_next : Unheard → Unheard
+unheard_next unheards.Nothing = unheards.Nothing
+unheard_next unheards.Input = unheards.Input
+unheard_next unheards.Clear = unheards.Input
+
+-- A paint is accepted. If Clear came while the paint waited for its answer, it was pressed before the terminal carried
+-- the paint out: what an erase wrote is there all the same, but what any other paint left isn't the panel, so the host
+-- shows it again as after a refusal.
+abbrev pub paint_answered : CommandParts → Session → Session
+paint_answered command conn = if may_be_read conn.unheard then answered command conn
+    else if is_erase command.code then answered command (record conn { unheard = unheard_next conn.unheard })
+    else refused conn
+
+-- the response to a paint
+abbrev pub paint_verdict_came : CommandParts → Verdict → Session → HostStep
+paint_verdict_came command Verdict.Positive conn = quiet (paint_answered command conn)
+paint_verdict_came command Verdict.Negative conn = write_refused command conn
 
 -- the response to a read, which can only refuse it
 abbrev pub read_verdict_came : Bool → Verdict → Session → HostStep
@@ -281,7 +336,7 @@ read_verdict_came answers Verdict.Negative conn = if_answers answers (quiet (ref
 abbrev pub response_came : ℕ → Verdict → Pending → Session → HostStep
 response_came number verdict Pending.Nothing conn = closed_by BadResponse conn
 response_came number verdict (Pending.Writing pending command) conn =
-    if_answers (number == pending) (verdict_came command verdict conn) conn
+    if_answers (number == pending) (paint_verdict_came command verdict conn) conn
 response_came number verdict (Pending.Noting pending command) conn =
     if_answers (number == pending) (verdict_came command verdict conn) conn
 response_came number verdict (Pending.Reading pending) conn = read_verdict_came (number == pending) verdict conn

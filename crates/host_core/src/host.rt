@@ -108,7 +108,8 @@ impl Host {
 
     /// A host that serves these panels to terminals of this kind, and grants the LUs of this pool. All LUs and
     /// connection numbers are free. If the terminals need not wait, the host assumes whenever it shows a panel that
-    /// input may have changed since it last heard of the screen. Fails if memory is refused.
+    /// input may have changed since it last heard of the screen, and it marks all fields of the panels (MDT), so that
+    /// each Enter or PF key returns every text: what is typed after the key doesn't count. Fails if memory is refused.
     pub fn serving(
         alloc: Global,
         terminals: Terminals,
@@ -121,6 +122,10 @@ impl Host {
         let connections = unused_connections(alloc)?;
         let mut pool = pool;
         pool.free_all();
+        let mut panels = panels;
+        if terminals.unheard().may_have_changed() {
+            panels.mark_fields();
+        }
         Ok(Host {
             panels,
             pool,

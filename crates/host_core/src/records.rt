@@ -12,9 +12,10 @@ ghost use Rattle.shadow.specs.Stores.{is_plain};
 ghost use Rattle.tn3270e_msg.specs.Header.{header_length};
 ghost use Rattle.host_core.specs.Items.{TakesData, TakesRecord, may_be_second_key, second_key_size, verdict_of};
 ghost use Rattle.host_core.specs.Representation.{IsPlainWrite, command_in, silent, step_of};
-ghost use Rattle.host_core.specs.Parts.{IsWrite, write_of};
+ghost use Rattle.host_core.specs.Parts.{IsNoPaint, IsWrite, write_of};
 ghost use Rattle.host_core.specs.declared.after_record.AfterRecord.TheVariants.{GoesOn};
-ghost use Rattle.host_core.specs.Takes.{believed, buffer_came, data_came, form_awaited, hears, is_verified, once_read, out_of_turn, rule_broken_by, second_key, refused, response_came, verdict_came};
+ghost use Rattle.host_core.specs.declared.unheard.Unheard.TheVariants as UnheardValue;
+ghost use Rattle.host_core.specs.Takes.{believed, buffer_came, buffer_heard, clear_came, data_came, dropping, form_awaited, hears, is_after_pa, is_read_believed, is_unread, is_verified, once_read, out_of_turn, paint_verdict_came, rule_broken_by, second_key, refused, response_came, verdict_came};
 
 use crate::after_record::AfterRecord;
 use crate::pending::Pending;
@@ -37,6 +38,20 @@ fn once_read(turn_reason: TurnReason) -> TurnReason
         TurnReason::Agreement => TurnReason::Agreement,
         TurnReason::Refusal => TurnReason::Refusal,
     }
+}
+
+/// Whether the last key was PA, which sends no fields.
+fn is_after_pa(turn_reason: TurnReason) -> bool
+    ensures { result ≡ is_after_pa turn_reason }
+{
+    matches!(turn_reason, TurnReason::Key(Aid::Pa(_), _))
+}
+
+/// Whether the last key was PA, and the screen wasn't read since.
+fn is_unread(turn_reason: TurnReason) -> bool
+    ensures { result ≡ is_unread turn_reason }
+{
+    matches!(turn_reason, TurnReason::Key(Aid::Pa(_), false))
 }
 
 /// The cursor's buffer address after data: the one in the data, or the previous one if the data has none.
@@ -107,7 +122,7 @@ impl Session {
             return AfterRecord::Closes(Cause::BadInbound);
         }
         match read_inbound(body, Form::Modified, self.second_key_size()) {
-            Ok(inbound) => self.drop_key(inbound.aid()),
+            Ok(inbound) => self.drop_key(&inbound),
             Err(_) => AfterRecord::Closes(Cause::BadInbound),
         }
     }
@@ -163,6 +178,7 @@ impl Session {
 
     /// Takes data out of turn: a second key's is dropped, unless the host relies on the terminal's wait.
     fn hear_out_of_turn(&mut self, inbound: &Inbound<'_>) -> AfterRecord
+        requires { inbound.now.size ≡ self.old.size }
         ensures came { step_of self.new result ≡ out_of_turn inbound.now self.old }
         ensures talk { self.new.talk ≡ self.old.talk }
         ensures panel { self.new.panel ≡ self.old.panel }
@@ -172,49 +188,65 @@ impl Session {
             return AfterRecord::Closes(Cause::BadInbound);
         }
         match inbound.form() {
-            Form::Modified => self.drop_key(inbound.aid()),
+            Form::Modified => self.drop_key(inbound),
             Form::All => AfterRecord::Closes(Cause::BadInbound),
             Form::Buffer => AfterRecord::Closes(Cause::BadInbound),
         }
     }
 
     /// Drops the data of a second key. Data without a key closes the connection.
-    fn drop_key(&mut self, aid: Aid) -> AfterRecord
-        ensures came { step_of self.new result ≡ second_key aid self.old.pending self.old }
+    fn drop_key(&mut self, inbound: &Inbound<'_>) -> AfterRecord
+        requires size { IsNoPaint self.old.pending → inbound.now.size ≡ self.old.size }
+        ensures came { step_of self.new result ≡ second_key inbound.now inbound.now.aid self.old.pending self.old }
         ensures talk { self.new.talk ≡ self.old.talk }
         ensures panel { self.new.panel ≡ self.old.panel }
         ensures size { self.new.size ≡ self.old.size }
     {
+        let aid = inbound.aid();
         match aid {
             Aid::NoAid => AfterRecord::Closes(Cause::BadInbound),
-            Aid::Clear => self.drop_clear(),
             Aid::Enter => AfterRecord::Drops(aid),
             Aid::Pf(_) => AfterRecord::Drops(aid),
             Aid::Pa(_) => AfterRecord::Drops(aid),
+            Aid::Clear => match self.pending {
+                Pending::Writing(_) => self.drop_clear(),
+                Pending::Nothing => self.take_clear(inbound),
+                Pending::Reading(_) => self.take_clear(inbound),
+                Pending::Noting(_) => self.take_clear(inbound),
+            },
         }
     }
 
-    /// Drops a Clear key: nothing is believed of the screen when a panel is shown next. If a command waits for its
-    /// answer it is too late for that, and the connection closes.
-    fn drop_clear(&mut self) -> AfterRecord
-        ensures came { step_of self.new result ≡ second_key Clear self.old.pending self.old }
+    /// Takes a Clear key in the host's turn. After PA it counts in place of PA, if the screen wasn't read yet, since
+    /// the texts that would be read are gone; else it is dropped.
+    fn take_clear(&mut self, inbound: &Inbound<'_>) -> AfterRecord
+        requires size { inbound.now.size ≡ self.old.size }
+        requires known { IsOfSize (cells_in self.old.size) self.old.shadow }
+        ensures came { step_of self.new result ≡ clear_came inbound.now self.old }
         ensures talk { self.new.talk ≡ self.old.talk }
         ensures panel { self.new.panel ≡ self.old.panel }
         ensures size { self.new.size ≡ self.old.size }
     {
-        match self.pending {
-            Pending::Nothing => {
-                self.unheard = Unheard::Clear;
-                AfterRecord::Drops(Aid::Clear)
-            }
-            Pending::Writing(_) => AfterRecord::Closes(Cause::BadInbound),
-            Pending::Reading(_) => AfterRecord::Closes(Cause::BadInbound),
-            Pending::Noting(_) => AfterRecord::Closes(Cause::BadInbound),
+        if is_unread(self.turn_reason) {
+            self.believe(inbound, TurnReason::Key(Aid::Clear, false))
+        } else {
+            self.drop_clear()
         }
     }
 
-    /// Takes the answer to Read Buffer, after which no command waits. It is believed, unless it shows that the terminal
-    /// broke a rule.
+    /// Drops a Clear key: nothing is believed of the screen when a panel is shown next.
+    fn drop_clear(&mut self) -> AfterRecord
+        ensures came { step_of self.new result ≡ dropping Clear (record self.old { unheard = UnheardValue.Clear }) }
+        ensures talk { self.new.talk ≡ self.old.talk }
+        ensures panel { self.new.panel ≡ self.old.panel }
+        ensures size { self.new.size ≡ self.old.size }
+    {
+        self.unheard = Unheard::Clear;
+        AfterRecord::Drops(Aid::Clear)
+    }
+
+    /// Takes the answer to Read Buffer, after which no command waits, unless it shows that the terminal broke a rule. It
+    /// is believed if it counts.
     fn take_buffer(&mut self, inbound: &Inbound<'_>) -> AfterRecord
         requires form { inbound.now.form ≡ Buffer }
         requires size { inbound.now.size ≡ self.old.size }
@@ -226,14 +258,42 @@ impl Session {
     {
         match self.rule_broken_by(inbound) {
             Some(broken) => AfterRecord::Breaks(broken),
-            None => {
-                let after = self.believe(inbound, once_read(self.turn_reason));
-                if let AfterRecord::GoesOn = after {
-                    self.pending = Pending::Nothing;
-                }
-                after
-            }
+            None => self.hear_buffer(inbound),
         }
+    }
+
+    /// Takes the answer to Read Buffer, after which no command waits. It is believed if it counts.
+    fn hear_buffer(&mut self, inbound: &Inbound<'_>) -> AfterRecord
+        requires form { inbound.now.form ≡ Buffer }
+        requires size { inbound.now.size ≡ self.old.size }
+        requires known { IsOfSize (cells_in self.old.size) self.old.shadow }
+        ensures came { step_of self.new result ≡ buffer_heard inbound.now self.old }
+        ensures talk { self.new.talk ≡ self.old.talk }
+        ensures panel { self.new.panel ≡ self.old.panel }
+        ensures size { self.new.size ≡ self.old.size }
+    {
+        let turn_reason = once_read(self.turn_reason);
+        if !self.is_read_believed() {
+            self.turn = Turn::Host;
+            self.turn_reason = turn_reason;
+            self.pending = Pending::Nothing;
+            return AfterRecord::GoesOn;
+        }
+        let after = self.believe(inbound, turn_reason);
+        if let AfterRecord::GoesOn = after {
+            self.pending = Pending::Nothing;
+        }
+        after
+    }
+
+    /// Whether the answer to Read Buffer counts: the host relies on the terminal's wait, the key was PA, or the text
+    /// of some field isn't known. Else it only verifies, so that nothing counts that was typed in the wait.
+    fn is_read_believed(&self) -> bool
+        ensures { result ≡ is_read_believed self.now }
+    {
+        !self.unheard.may_have_changed()
+            || is_after_pa(self.turn_reason)
+            || !self.shadow.is_settled()
     }
 
     /// Whether the host verifies that the terminal keeps the rules: not after the screen was cleared out of turn.
@@ -295,7 +355,13 @@ impl Session {
     {
         match self.pending {
             Pending::Nothing => Some(Cause::BadResponse),
-            Pending::Writing(number) | Pending::Noting(number) => {
+            Pending::Writing(number) => {
+                if header.seq != number {
+                    return Some(Cause::BadResponse);
+                }
+                self.take_paint_verdict(header.flag)
+            }
+            Pending::Noting(number) => {
                 if header.seq != number {
                     return Some(Cause::BadResponse);
                 }
@@ -309,6 +375,26 @@ impl Session {
                 None
             }
         }
+    }
+
+    /// Takes the response to the pending paint. If Clear was pressed before the terminal carried out a paint that
+    /// doesn't erase, what that left isn't the panel, so the panel is shown again.
+    fn take_paint_verdict(&mut self, flag: u8) -> Option<Cause>
+        requires { IsWrite self.old.pending }
+        ensures came { silent self.new result
+            ≡ paint_verdict_came (write_of self.old.pending) (verdict_of flag) self.old }
+        ensures talk { self.new.talk ≡ self.old.talk }
+        ensures panel { self.new.panel ≡ self.old.panel }
+        ensures size { self.new.size ≡ self.old.size }
+    {
+        if flag == POSITIVE && !self.unheard.may_be_read() {
+            if !is_erase(write_in(&self.sent, self.size).code()) {
+                self.refuse();
+                return None;
+            }
+            self.unheard = Unheard::Input;
+        }
+        self.take_verdict(flag)
     }
 
     /// Takes the response to the pending write.
