@@ -48,10 +48,11 @@ use Rattle.host_core.specs.Items.{TakesItem, TakesRecord, TakesRecordIf, TakesDa
 use Rattle.host_core.specs.Messages.{Verdict}
 use Rattle.host_core.specs.OneNumber.{KeepsLu, ChangesOne}
 use Rattle.host_core.specs.Rejections.{lu_asked}
+use Rattle.host_core.specs.declared.unheard.Unheard.TheVariants as unheards
 use Rattle.host_core.specs.Session.{Session, Pending, is_agreed}
 use Rattle.host_core.specs.Sound.{OthersHold}
 use Rattle.host_core.specs.State.{Service, Connection, Host, connection_at, session_at, state_at, unused, with_connection, with_reports}
-use Rattle.host_core.specs.Takes.{Answers, HostStep, believed, buffer_came, buffer_heard, closed_by, data_came, freed_if, hears, if_answers, key_came, key_data_came, may_have_changed, out_of_turn, quiet, read_verdict_came, response_came, rule_broken_by, second_key, second_key_data, talked, talked_on, unless_broken, verdict_came, write_refused, refused}
+use Rattle.host_core.specs.Takes.{Answers, HostStep, answered, believed, buffer_came, buffer_heard, clear_came, closed_by, data_came, dropping, freed_if, hears, if_answers, is_read_believed, is_unread, key_came, key_data_came, may_be_read, may_have_changed, once_read, only_read, out_of_turn, paint_answered, paint_verdict_came, quiet, read_verdict_came, response_came, rule_broken_by, second_key, second_key_data, talked, talked_on, unheard_next, unless_broken, verdict_came, write_refused, refused}
 use Rattle.host_core.specs.declared.turn.Turn.{Turn}
 use Rattle.host_core.specs.declared.turn.Turn.TheVariants as whose
 use Rattle.host_core.specs.declared.turn_reason.TurnReason.{TurnReason}
@@ -93,18 +94,32 @@ believed_stays : (why : TurnReason) (pending : Pending) (cursor : Option ℕ) (c
 believed_stays why pending cursor conn (Ok shadow) = refl
 believed_stays why pending cursor conn (Err fault) = refl
 
-second_key_stays : (key : Aid) (pending : Pending) (conn : Session) → TalkStays conn (second_key key pending conn)
-second_key_stays aid.NoAid pending conn = refl
-second_key_stays aid.Enter pending conn = refl
-second_key_stays aid.Clear Pending.Nothing conn = refl
-second_key_stays aid.Clear (Pending.Writing number command) conn = refl
-second_key_stays aid.Clear (Pending.Reading number) conn = refl
-second_key_stays aid.Clear (Pending.Noting number command) conn = refl
-second_key_stays (aid.Pf key) pending conn = refl
-second_key_stays (aid.Pa key) pending conn = refl
+key_stays : (parts : InboundParts) (key : Aid) (conn : Session) → TalkStays conn (key_came parts key conn)
+key_stays parts aid.NoAid conn = refl
+key_stays parts aid.Enter conn = believed_stays _ conn.pending parts.cursor conn (hears parts conn)
+key_stays parts aid.Clear conn = believed_stays _ conn.pending parts.cursor conn (hears parts conn)
+key_stays parts (aid.Pf key) conn = believed_stays _ conn.pending parts.cursor conn (hears parts conn)
+key_stays parts (aid.Pa key) conn = believed_stays _ conn.pending parts.cursor conn (hears parts conn)
+
+clear_stays : (parts : InboundParts) (conn : Session) → TalkStays conn (clear_came parts conn)
+clear_stays parts conn = by_test (is_unread conn.turn_reason)
+  where
+    by_test : (b : Bool) → TalkStays conn (if b then key_came parts aid.Clear conn else dropping aid.Clear (record conn { unheard = unheards.Clear }))
+    by_test true = key_stays parts aid.Clear conn
+    by_test false = refl
+
+second_key_stays : (parts : InboundParts) (key : Aid) (pending : Pending) (conn : Session) → TalkStays conn (second_key parts key pending conn)
+second_key_stays parts aid.NoAid pending conn = refl
+second_key_stays parts aid.Enter pending conn = refl
+second_key_stays parts aid.Clear Pending.Nothing conn = clear_stays parts conn
+second_key_stays parts aid.Clear (Pending.Writing number command) conn = refl
+second_key_stays parts aid.Clear (Pending.Reading number) conn = clear_stays parts conn
+second_key_stays parts aid.Clear (Pending.Noting number command) conn = clear_stays parts conn
+second_key_stays parts (aid.Pf key) pending conn = refl
+second_key_stays parts (aid.Pa key) pending conn = refl
 
 second_data_stays : (parts : InboundParts) (shape : Form) (conn : Session) → TalkStays conn (second_key_data parts shape conn)
-second_data_stays parts form.Modified conn = second_key_stays parts.aid conn.pending conn
+second_data_stays parts form.Modified conn = second_key_stays parts parts.aid conn.pending conn
 second_data_stays parts form.All conn = refl
 second_data_stays parts form.Buffer conn = refl
 
@@ -120,17 +135,13 @@ unless_broken_stays conn None step same = same
 unless_broken_stays conn (Some broken) step same = refl
 
 buffer_stays : (parts : InboundParts) (shape : Form) (conn : Session) → TalkStays conn (buffer_came parts shape conn)
-buffer_stays parts form.Buffer conn =
-    unless_broken_stays conn (rule_broken_by parts conn) (buffer_heard parts conn) (believed_stays _ Pending.Nothing parts.cursor conn (hears parts conn))
+buffer_stays parts form.Buffer conn = unless_broken_stays conn (rule_broken_by parts conn) (buffer_heard parts conn) (by_test (is_read_believed conn))
+  where
+    by_test : (b : Bool) → TalkStays conn (if b then believed (once_read conn.turn_reason) Pending.Nothing parts.cursor conn (hears parts conn) else quiet (only_read conn))
+    by_test true = believed_stays _ Pending.Nothing parts.cursor conn (hears parts conn)
+    by_test false = refl
 buffer_stays parts form.Modified conn = out_of_turn_stays parts conn
 buffer_stays parts form.All conn = out_of_turn_stays parts conn
-
-key_stays : (parts : InboundParts) (key : Aid) (conn : Session) → TalkStays conn (key_came parts key conn)
-key_stays parts aid.NoAid conn = refl
-key_stays parts aid.Enter conn = believed_stays _ conn.pending parts.cursor conn (hears parts conn)
-key_stays parts aid.Clear conn = believed_stays _ conn.pending parts.cursor conn (hears parts conn)
-key_stays parts (aid.Pf key) conn = believed_stays _ conn.pending parts.cursor conn (hears parts conn)
-key_stays parts (aid.Pa key) conn = believed_stays _ conn.pending parts.cursor conn (hears parts conn)
 
 key_data_stays : (parts : InboundParts) (shape : Form) (conn : Session) → TalkStays conn (key_data_came parts shape conn)
 key_data_stays parts form.Modified conn = key_stays parts parts.aid conn
@@ -160,13 +171,25 @@ verdict_stays : (command : CommandParts) (verdict : Verdict) (conn : Session) �
 verdict_stays command Verdict.Positive conn = refl
 verdict_stays command Verdict.Negative conn = write_refused_stays command conn
 
+paint_stays : (command : CommandParts) (conn : Session) → (paint_answered command conn).talk ≡ conn.talk
+paint_stays command conn = by_tests (may_be_read conn.unheard) (is_erase command.code)
+  where
+    by_tests : (read erases : Bool) → (if read then answered command conn else if erases then answered command (record conn { unheard = unheard_next conn.unheard }) else refused conn).talk ≡ conn.talk
+    by_tests true erases = refl
+    by_tests false true = refl
+    by_tests false false = refl
+
+paint_verdict_stays : (command : CommandParts) (verdict : Verdict) (conn : Session) → TalkStays conn (paint_verdict_came command verdict conn)
+paint_verdict_stays command Verdict.Positive conn = paint_stays command conn
+paint_verdict_stays command Verdict.Negative conn = write_refused_stays command conn
+
 read_verdict_stays : (answers : Bool) (verdict : Verdict) (conn : Session) → TalkStays conn (read_verdict_came answers verdict conn)
 read_verdict_stays answers Verdict.Positive conn = refl
 read_verdict_stays answers Verdict.Negative conn = if_answers_stays answers (quiet (refused conn)) conn refl
 
 response_stays : (number : ℕ) (verdict : Verdict) (pending : Pending) (conn : Session) → TalkStays conn (response_came number verdict pending conn)
 response_stays number verdict Pending.Nothing conn = refl
-response_stays number verdict (Pending.Writing pending command) conn = if_answers_stays _ (verdict_came command verdict conn) conn (verdict_stays command verdict conn)
+response_stays number verdict (Pending.Writing pending command) conn = if_answers_stays _ (paint_verdict_came command verdict conn) conn (paint_verdict_stays command verdict conn)
 response_stays number verdict (Pending.Noting pending command) conn = if_answers_stays _ (verdict_came command verdict conn) conn (verdict_stays command verdict conn)
 response_stays number verdict (Pending.Reading pending) conn = read_verdict_stays _ verdict conn
 
@@ -175,7 +198,7 @@ step_stays conn step which is same = ap (λ (s : HostStep). s.conn.talk) is ∙ 
 
 takes_data_stays : (conn : Session) (body : List ℕ) (step : HostStep) → TakesData conn body step → TalkStays conn step
 takes_data_stays conn body step (data_hears parts shape size inbound is) = step_stays conn step _ is (data_stays parts conn.turn conn.pending conn)
-takes_data_stays conn body step (is_second_key fault parts unread may shape size inbound is) = step_stays conn step _ is (second_key_stays parts.aid conn.pending conn)
+takes_data_stays conn body step (is_second_key fault parts unread may shape size inbound is) = step_stays conn step _ is (second_key_stays parts parts.aid conn.pending conn)
 takes_data_stays conn body step (no_data fault unread second is) = step_stays conn step _ is refl
 
 record_stays : (conn : Session) (bytes : List ℕ) (step : HostStep) → TakesRecord conn bytes step → TalkStays conn step

@@ -60,7 +60,7 @@ module _ (one_header : OneHeader) (fault_or_header : FaultIsNoHeader) (one_heari
   one_data conn body step other (TakesData.is_second_key fault1 parts1 wrong1 may1 form1 size1 is1 e1) (TakesData.hears parts2 form2 size2 is2 e2) =
       absurd (inbound_or_fault conn.size (form_awaited conn.pending) parts2 fault1 body form2 size2 is2 wrong1)
   one_data conn body step other (TakesData.is_second_key fault1 parts1 wrong1 may1 form1 size1 is1 e1) (TakesData.is_second_key fault2 parts2 wrong2 may2 form2 size2 is2 e2) =
-      e1 ∙ ap (λ (parts : InboundParts). second_key parts.aid conn.pending conn) (one_inbound body parts1 parts2 (form1 ∙ sym form2) (size1 ∙ sym size2) is1 is2) ∙ sym e2
+      e1 ∙ ap (λ (parts : InboundParts). second_key parts parts.aid conn.pending conn) (one_inbound body parts1 parts2 (form1 ∙ sym form2) (size1 ∙ sym size2) is1 is2) ∙ sym e2
   one_data conn body step other (TakesData.is_second_key fault1 parts1 wrong1 may1 form1 size1 is1 e1) (TakesData.no_data fault2 wrong2 no_key2 e2) =
       absurd (key_or_none (second_key_size conn conn.pending) (may_be_second_key conn) parts1 body may1 form1 size1 is1 no_key2)
   one_data conn body step other (TakesData.no_data fault1 wrong1 no_key1 e1) (TakesData.hears parts2 form2 size2 is2 e2) =

@@ -1,5 +1,5 @@
 -- What a record makes of a connection, as the code takes it.
-use Rattle.std.proofs.Common.{◌≡◌, ◌≢◌, ◌-◌, ℕ, Bool, true, false, List, length, take, drop, refl, ap, sym, ◌∙◌, Option, Some, None, Result, Ok, Err, arith}
+use Rattle.std.proofs.Common.{◌≡◌, ◌≢◌, ◌-◌, if◌then◌else◌, ℕ, Bool, true, false, List, length, take, drop, refl, ap, sym, ◌∙◌, Option, Some, None, Result, Ok, Err, arith}
 use Rattle.std.proofs.lemmas.List.{take_all, length-drop}
 use Rattle.codes3270.specs.Size.{ScreenSize}
 use Rattle.datastream.specs.InboundText.{InboundParts, IsInbound, IsNoInbound}
@@ -18,7 +18,7 @@ use Rattle.host_core.specs.Items.{IsNoSecondKey, IsOther, TakesData, may_be_seco
 use Rattle.host_core.specs.Representation.{IsKept, IsPlainWrite, pending_in, step_of}
 use Rattle.host_core.specs.Parts.{IsWrite}
 use Rattle.host_core.specs.Session.{Session, Pending}
-use Rattle.host_core.specs.Takes.{HostStep, believed, buffer_came, buffer_heard, data_came, dropping, form_awaited, hears, once_read, quiet, rule_broken_by, second_key, unless_broken}
+use Rattle.host_core.specs.Takes.{HostStep, believed, buffer_heard, data_came, dropping, form_awaited, hears, is_read_believed, once_read, only_read, quiet, second_key}
 use Rattle.host_core.specs.declared.turn_reason.TurnReason.{TurnReason}
 use Rattle.host_core.specs.declared.pending.Pending.{Pending as PendingKind}
 use Rattle.host_core.specs.declared.pending.Pending.TheVariants as unanswered
@@ -43,26 +43,26 @@ refuses : (heard : Result Shadow HeardFault) (turn_reason : TurnReason) (cursor 
 refuses (Ok shadow) turn_reason cursor old mid after came stops = absurd (stops (goes_on mid _ after came))
 refuses (Err fault) turn_reason cursor old mid after came stops = came
 
--- the answer to Read Buffer shows no rule to be broken
-heard_whole : (parts : InboundParts) (turn_reason : TurnReason) (old : Session) → None ≡ rule_broken_by parts old → turn_reason ≡ once_read old.turn_reason
-    → believed turn_reason Pending.Nothing parts.cursor old (hears parts old) ≡ buffer_came parts Buffer old
-heard_whole parts turn_reason old kept read =
+-- the answer to Read Buffer counts
+heard_whole : (parts : InboundParts) (turn_reason : TurnReason) (old : Session) → is_read_believed old ≡ true → turn_reason ≡ once_read old.turn_reason
+    → believed turn_reason Pending.Nothing parts.cursor old (hears parts old) ≡ buffer_heard parts old
+heard_whole parts turn_reason old counts read =
     ap (λ (reason : TurnReason). believed reason Pending.Nothing parts.cursor old (hears parts old)) read
-    ∙ ap (λ (broken : Option RuleBreak). unless_broken old broken (buffer_heard parts old)) kept
+    ∙ sym (ap (λ (b : Bool). if b then believed (once_read old.turn_reason) Pending.Nothing parts.cursor old (hears parts old) else quiet (only_read old)) counts)
 
-pub buffer_believed : (parts : InboundParts) (turn_reason : TurnReason) (old mid : Session) (after : AfterRecord) → None ≡ rule_broken_by parts old → turn_reason ≡ once_read old.turn_reason
+pub buffer_believed : (parts : InboundParts) (turn_reason : TurnReason) (old mid : Session) (after : AfterRecord) → is_read_believed old ≡ true → turn_reason ≡ once_read old.turn_reason
     → step_of mid after ≡ believed turn_reason old.pending parts.cursor old (hears parts old) → after ≡ GoesOn
-    → step_of (record mid { pending = Pending.Nothing }) after ≡ buffer_came parts Buffer old
-buffer_believed parts turn_reason old mid after kept read came goes =
+    → step_of (record mid { pending = Pending.Nothing }) after ≡ buffer_heard parts old
+buffer_believed parts turn_reason old mid after counts read came goes =
     ap (step_of (record mid { pending = Pending.Nothing })) goes
     ∙ ends (hears parts old) turn_reason parts.cursor old mid (ap (step_of mid) (sym goes) ∙ came)
-    ∙ heard_whole parts turn_reason old kept read
+    ∙ heard_whole parts turn_reason old counts read
 
-pub buffer_refused : (parts : InboundParts) (turn_reason : TurnReason) (old mid : Session) (after : AfterRecord) → None ≡ rule_broken_by parts old → turn_reason ≡ once_read old.turn_reason
+pub buffer_refused : (parts : InboundParts) (turn_reason : TurnReason) (old mid : Session) (after : AfterRecord) → is_read_believed old ≡ true → turn_reason ≡ once_read old.turn_reason
     → step_of mid after ≡ believed turn_reason old.pending parts.cursor old (hears parts old) → after ≢ GoesOn
-    → step_of mid after ≡ buffer_came parts Buffer old
-buffer_refused parts turn_reason old mid after kept read came stops =
-    refuses (hears parts old) turn_reason parts.cursor old mid after came stops ∙ heard_whole parts turn_reason old kept read
+    → step_of mid after ≡ buffer_heard parts old
+buffer_refused parts turn_reason old mid after counts read came stops =
+    refuses (hears parts old) turn_reason parts.cursor old mid after came stops ∙ heard_whole parts turn_reason old counts read
 
 -- ---- the write that waits for its answer
 
@@ -97,7 +97,7 @@ of_data old new after body form parts awaited read sized is came = TakesData.hea
 pub of_second_key : (old new : Session) (after : AfterRecord) (body : List ℕ) (fault : InboundFault) (parts : InboundParts)
     → IsNoInbound old.size (form_awaited old.pending) fault body → may_be_second_key old ≡ true
     → parts.form ≡ Modified → parts.size ≡ second_key_size old old.pending → IsInbound parts body
-    → step_of new after ≡ second_key parts.aid old.pending old → TakesData old body (step_of new after)
+    → step_of new after ≡ second_key parts parts.aid old.pending old → TakesData old body (step_of new after)
 of_second_key old new after body fault parts wrong may form sized is came = TakesData.is_second_key fault parts wrong may form sized is came
 
 no_second_key : (may : Bool) (shape : ScreenSize) (body : List ℕ) → may ≡ false → IsNoSecondKey may shape body
