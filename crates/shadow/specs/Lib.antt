@@ -18,6 +18,7 @@ pub mod Storable
 pub mod Doubt
 pub mod RuleBreaks
 pub mod Notes
+pub mod Settled
 pub mod Queries
 pub mod Borrowed
 pub mod Came
