@@ -43,9 +43,9 @@ mapped_is_some f o n is = rw is refl
 pub given_is_some : (b : Bool) (w : Want) → b ≡ true → is_some (cond b (Some w) None) ≡ true
 given_is_some b w is = rw is refl
 
-pub mapped_answer : (f : ℕ → Want) (o : Option ℕ) (w : Want) → option_map f o ≡ Some w → (n : ℕ) × (o ≡ Some n) × (f n ≡ w)
-mapped_answer f None w is = absurd (none-some w is)
-mapped_answer f (Some n) w is = (n, refl, same_Some (f n) w is)
+pub mapped_answer : {X Y : Type 0} (f : X → Y) (o : Option X) (y : Y) → option_map f o ≡ Some y → (x : X) × (o ≡ Some x) × (f x ≡ y)
+mapped_answer f None y is = absurd (none-some y is)
+mapped_answer f (Some x) y is = (x, refl, same_Some (f x) y is)
 
 pub none_given : (b : Bool) (v w : Want) → cond b None (Some v) ≡ Some w → (b ≡ false) × (v ≡ w)
 none_given true v w is = absurd (none-some w is)

@@ -22,6 +22,7 @@ pub mod KeptFields
 pub mod FieldsWanted
 pub mod TextsWanted
 pub mod NothingElseKept
+pub mod Marked
 pub mod DefinedOnce
 pub mod Setting
 pub mod MessageTexts

@@ -24,6 +24,7 @@ pub mod Screen
 pub mod Names
 pub mod MessageRow
 pub mod KeptFields
+pub mod Marked
 pub mod Put
 pub mod Defines
 pub mod Building

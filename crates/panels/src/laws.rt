@@ -3,6 +3,7 @@
 ghost use Rattle.panels.specs.Defines.{DefinesOnce};
 ghost use Rattle.panels.specs.KeptFields.{AttributesAreThere, FieldsAreKeptWhole, FieldsAreOnTheScreen, FieldsAreWritten, NothingElseIsKept, TextsAreWritten};
 ghost use Rattle.panels.specs.Listing.{FaultsBeginWithTheFirst, NoFaultsAreFaultless};
+ghost use Rattle.panels.specs.Marked.{MarkedPanelsReturnInput, MarkedSetsReturnInput, PanelsWithoutFieldsReturnInput};
 ghost use Rattle.panels.specs.MessageRow.{PanelsLeaveTheRow, TheRowIsTheMessage, TheRoomIsTheRow};
 
 /// Law: on each screen that a panel asks for, the last row is one protected field with the message: its attribute comes
@@ -41,6 +42,14 @@ pub fn fields_are_written()
 /// two items of the panel may share a cell.
 pub fn texts_are_written()
     ensures { TextsAreWritten }
+{}
+
+/// Law: each screen that a panel asks for has MDT on in each input field, if `PanelSet::mark_fields` marked all fields
+/// of the panel, or if it has none. So each Enter or PF key returns the text of every input field that is shown.
+pub fn marked_fields_return_input()
+    ensures marked { MarkedPanelsReturnInput }
+    ensures in_set { MarkedSetsReturnInput }
+    ensures no_fields { PanelsWithoutFieldsReturnInput }
 {}
 
 /// Law: the head of a draft's list of faults is its first fault, and a draft with an empty list is faultless. So

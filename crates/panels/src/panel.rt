@@ -1,5 +1,6 @@
 //! Panels and their items.
 ghost use Rattle.std.specs.Prelude.{◌≡◌, bytes_eq, find, option_copied};
+ghost use Rattle.panels.specs.Marked.{marked_panel};
 ghost use Rattle.panels.specs.Names.{field_in, number_in, value_in};
 ghost use Rattle.panels.specs.Panel.{is_shown, size_of};
 
@@ -181,6 +182,15 @@ impl Panel {
         ensures { result.now ≡ self.now.fields }
     {
         self.fields.as_slice()
+    }
+
+    /// Marks all its fields: from then on each has MDT on whenever it is shown.
+    pub(crate) fn mark_fields(&mut self)
+        ensures { self.new ≡ marked_panel self.old }
+    {
+        for field in self.fields.iter_mut() {
+            field.marked = true;
+        }
     }
 }
 

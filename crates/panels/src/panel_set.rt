@@ -3,6 +3,7 @@ ghost use Rattle.std.specs.Prelude.{◌≡◌, ◌<◌, ℕ, map, length, string
 ghost use Rattle.codes3270.specs.Size.{cells_in};
 ghost use Rattle.codes3270.specs.declared.attention.Aid.{Aid};
 ghost use Rattle.panels.specs.Keys.{IsKey};
+ghost use Rattle.panels.specs.Marked.{marked_set};
 ghost use Rattle.panels.specs.Names.{field_named, number_named, panel_named};
 ghost use Rattle.panels.specs.Panel.{Panels, AreSound, is_shown, size_of, shown_in, target_of};
 
@@ -112,6 +113,16 @@ impl PanelSet {
             return index;
         }
         panel.otherwise.unwrap_or(index)
+    }
+
+    /// Marks all fields of all panels: from then on each has MDT on whenever it is shown, so that each Enter or PF key
+    /// returns the text of every input field, whether the operator typed there or not.
+    pub fn mark_fields(&mut self)
+        ensures { self.new ≡ marked_set self.old }
+    {
+        for panel in self.panels.iter_mut() {
+            panel.mark_fields();
+        }
     }
 
     /// Law: the set has the first panel and each key's target; each panel that isn't of model 2 has one of model 2 as
