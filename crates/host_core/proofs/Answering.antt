@@ -7,7 +7,7 @@ use Rattle.host_core.specs.Acts.{Act}
 use Rattle.host_core.specs.Answering.{BelievesNoSooner, BelievesNotesNoSooner, CommandsAreNumbered, NotesAreNumbered, number_of, OnlyItsResponse}
 use Rattle.host_core.specs.Messages.{Verdict}
 use Rattle.host_core.specs.Session.{Session, Pending}
-use Rattle.host_core.specs.Takes.{HostStep, closed_by, if_answers, once_agreed, quiet, refused, response_came, verdict_came}
+use Rattle.host_core.specs.Takes.{HostStep, closed_by, if_answers, once_agreed, paint_verdict_came, quiet, refused, response_came, verdict_came}
 
 pub believes_no_sooner : BelievesNoSooner
 believes_no_sooner app conn Act.Read = refl
@@ -39,7 +39,7 @@ answers number pending command verdict conn other = no_answer number pending (ve
 
 closes : (conn : Session) (number : ℕ) (verdict : Verdict) (pending : Pending) → (number_of pending ≡ Some number → ⊥) → response_came number verdict pending conn ≡ closed_by BadResponse conn
 closes conn number verdict Pending.Nothing other = refl
-closes conn number verdict (Pending.Writing pending command) other = answers number pending command verdict conn other
+closes conn number verdict (Pending.Writing pending command) other = no_answer number pending (paint_verdict_came command verdict conn) conn other
 closes conn number verdict (Pending.Noting pending command) other = answers number pending command verdict conn other
 closes conn number Verdict.Positive (Pending.Reading pending) other = refl
 closes conn number Verdict.Negative (Pending.Reading pending) other = no_answer number pending (quiet (refused conn)) conn other

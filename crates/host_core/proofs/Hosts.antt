@@ -1,16 +1,19 @@
 -- What always holds of a host is kept where one connection's line and the pool change.
-use Rattle.std.proofs.Common.{◌≡◌, ◌≢◌, ◌<◌, ◌↔◌, ◌==◌, ◌+◌, ◌++◌, drop, ℕ, zero, suc, Bool, true, false, List, [], ◌∷◌, Option, Some, None, length, replicate, set, get_or, refl, ap, sym, subst, ◌∙◌, arith}
+use Rattle.std.proofs.Common.{◌≡◌, ◌≢◌, ◌<◌, ◌↔◌, ◌==◌, ◌+◌, ◌++◌, drop, ℕ, zero, suc, Bool, true, false, List, [], ◌∷◌, Option, Some, None, length, map, replicate, set, get_or, refl, ap, sym, subst, ◌∙◌, arith}
 use Rattle.std.proofs.lemmas.Bool.{eqb-true, eqb-false}
 use Rattle.std.proofs.lemmas.List.{get_or-set_same, get_or-set_other, length-set}
 use Rattle.lu_pool.specs.Pool.{Holds, HoldsNone, OneHolder}
 use Rattle.lu_pool.specs.declared.entry.Entry.{Entry}
-use Rattle.panels.specs.Panel.{Panels}
+use Rattle.panels.specs.Marked.{marked_field, marked_panel}
+use Rattle.panels.specs.Panel.{PanelParts, Panels}
+use Rattle.panels.specs.declared.panel.Field.{Field}
 use Rattle.host_core.specs.Connections.{service_of}
 use Rattle.host_core.specs.declared.connection.Service.{Service as ServiceValue}
 use Rattle.host_core.specs.Session.{agreed_lu}
 use Rattle.host_core.specs.Sound.{HoldsJust, IsShown, IsSound, NobodyShares, OthersHold}
 use Rattle.host_core.specs.declared.terminals.Terminals.{Terminals}
-use Rattle.host_core.specs.State.{Service, Connection, Host, Sessions, counted, most_connections, unused, connection_at, state_at, lu_of, phase_of, phase_agreed}
+use Rattle.host_core.specs.declared.terminals.Terminals.TheVariants.{Waiting, Any, Verified}
+use Rattle.host_core.specs.State.{Service, Connection, Host, Sessions, counted, most_connections, served_by, unused, connection_at, state_at, lu_of, phase_of, phase_agreed}
 use Rattle.host_core.specs.declared.phase.Phase.TheVariants as phase
 use Rattle.host_core.specs.Reports.{Reports}
 
@@ -49,6 +52,7 @@ changed_sound number pool connection host below sound here others shown =
       held = at_each (λ n l. n < most_connections → HoldsJust n pool (lu_of l.service)) number host.connections connection inside (λ here_below. here)
           (λ other ne. λ other_below. λ lu. (λ h. (sound.held other other_below lu).0 ((others other lu ne).0 h), λ e. (others other lu ne).1 ((sound.held other other_below lu).1 e)));
       shown = at_each (λ n l. IsShown host.panels l.service) number host.connections connection inside shown (λ other ne. sound.shown other);
+      marked = sound.marked;
     }
 
 -- another session is counted
@@ -58,6 +62,7 @@ counted_sound number host sound = record {
   sessions = length-set host.sessions.latest number host.sessions.next ∙ sound.sessions;
   held = sound.held;
   shown = sound.shown;
+  marked = sound.marked;
 }
 
 pub others_stay : (number : ℕ) (pool : List Entry) → OthersHold number pool pool
@@ -160,16 +165,33 @@ one_more_unused index old connections connection is below so_far =
 
 -- a host whose numbers are all free, where nobody holds an LU
 pub unused_sound : (panels : Panels) (pool : List Entry) (connections : List Connection) (sessions : Sessions) (terminals : Terminals) → connections ≡ replicate most_connections unused
-    → length sessions.latest ≡ most_connections → ((number : ℕ) → HoldsNone pool number)
+    → length sessions.latest ≡ most_connections → ((number : ℕ) → HoldsNone pool number) → served_by terminals panels ≡ panels
     → IsSound (record { panels = panels; pool = pool; connections = connections; sessions = sessions; terminals = terminals })
-unused_sound panels pool connections sessions terminals are counted nobody =
+unused_sound panels pool connections sessions terminals are count nobody marked =
     let there : (number : ℕ) → get_or connections number unused ≡ unused = λ number. ap (λ (ls : List Connection). get_or ls number unused) are ∙ always_unused most_connections number in
     record {
       connections = ap length are ∙ all_unused most_connections;
-      sessions = counted;
+      sessions = count;
       held = λ number below. subst (λ (l : Connection). HoldsJust number pool (lu_of l.service)) (sym (there number)) (held_by_none number pool (nobody number));
       shown = λ number. subst (λ (l : Connection). IsShown panels l.service) (sym (there number)) tt;
+      marked = marked;
     }
+
+-- panels whose fields are marked stay so if they are marked again
+marked_fields_stay : (fields : List Field) → map marked_field (map marked_field fields) ≡ map marked_field fields
+marked_fields_stay [] = refl
+marked_fields_stay (field ∷ fields) = ap (λ more. marked_field field ∷ more) (marked_fields_stay fields)
+
+marked_panels_stay : (panels : List PanelParts) → map marked_panel (map marked_panel panels) ≡ map marked_panel panels
+marked_panels_stay [] = refl
+marked_panels_stay (panel ∷ panels) =
+    ap (λ fields. record panel { fields = fields } ∷ map marked_panel (map marked_panel panels)) (marked_fields_stay panel.fields)
+    ∙ ap (λ more. marked_panel panel ∷ more) (marked_panels_stay panels)
+
+pub served_stay : (terminals : Terminals) (panels : Panels) → served_by terminals (served_by terminals panels) ≡ served_by terminals panels
+served_stay Waiting panels = refl
+served_stay Any panels = ap (λ all. record panels { panels = all }) (marked_panels_stay panels.panels)
+served_stay Verified panels = ap (λ all. record panels { panels = all }) (marked_panels_stay panels.panels)
 
 -- ---- a line
 

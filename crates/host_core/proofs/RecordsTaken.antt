@@ -16,7 +16,7 @@ use Rattle.host_core.specs.declared.after_record.AfterRecord.{AfterRecord}
 use Rattle.host_core.specs.declared.after_record.AfterRecord.TheVariants.{Breaks, Closes, Drops, GoesOn}
 use Rattle.host_core.specs.Items.{IsNoSecondKey, IsOther, TakesData, may_be_second_key, second_key_size}
 use Rattle.host_core.specs.Representation.{IsKept, IsPlainWrite, pending_in, step_of}
-use Rattle.host_core.specs.Parts.{IsWrite}
+use Rattle.host_core.specs.Parts.{IsNoPaint, IsWrite}
 use Rattle.host_core.specs.Session.{Session, Pending}
 use Rattle.host_core.specs.Takes.{HostStep, believed, buffer_heard, data_came, dropping, form_awaited, hears, is_read_believed, once_read, only_read, quiet, second_key}
 use Rattle.host_core.specs.declared.turn_reason.TurnReason.{TurnReason}
@@ -99,6 +99,16 @@ pub of_second_key : (old new : Session) (after : AfterRecord) (body : List ℕ) 
     → parts.form ≡ Modified → parts.size ≡ second_key_size old old.pending → IsInbound parts body
     → step_of new after ≡ second_key parts parts.aid old.pending old → TakesData old body (step_of new after)
 of_second_key old new after body fault parts wrong may form sized is came = TakesData.is_second_key fault parts wrong may form sized is came
+
+-- unless a paint waits, a second key's data has the size of the screen
+pub no_paint_sized : (old : Session) (shape : ScreenSize) → shape ≡ second_key_size old old.pending → IsNoPaint old.pending → shape ≡ old.size
+no_paint_sized old shape is none = is ∙ by_pending old.pending none
+  where
+    by_pending : (pending : Pending) → IsNoPaint pending → second_key_size old pending ≡ old.size
+    by_pending Pending.Nothing none = refl
+    by_pending (Pending.Writing number command) none = absurd none
+    by_pending (Pending.Reading number) none = refl
+    by_pending (Pending.Noting number command) none = refl
 
 no_second_key : (may : Bool) (shape : ScreenSize) (body : List ℕ) → may ≡ false → IsNoSecondKey may shape body
 no_second_key true shape body is = absurd (cc)

@@ -124,7 +124,8 @@ reserving_sound number pool host sound others = record {
     λ e. (others other lu (reserver_is_none other number below)).1 ((sound.held other below lu).1 e),
   );
   shown = sound.shown;
+  marked = sound.marked;
 }
 
 pub counting_sound : (next : ℕ) (host : Host) → IsSound host → IsSound (record host { sessions = record { latest = host.sessions.latest; next = next } })
-counting_sound next host sound = record { connections = sound.connections; sessions = sound.sessions; held = sound.held; shown = sound.shown }
+counting_sound next host sound = record { connections = sound.connections; sessions = sound.sessions; held = sound.held; shown = sound.shown; marked = sound.marked }
