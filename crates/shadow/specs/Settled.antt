@@ -1,6 +1,6 @@
 -- When the text of each field is known (our profile): after a key that returns each input field, and after an answer to
 -- Read Buffer. And which writes leave MDT of each input field on, so that Enter and PF keys return it.
-use Rattle.std.specs.Prelude.{◌≡◌, ℕ, Bool, true, false, length, slice_get, Some, All, IfOk}
+use Rattle.std.specs.Prelude.{◌≡◌, ℕ, Bool, true, false, List, length, slice_get, Some, All, IfOk}
 use Rattle.std.specs.List.{list_all, list_any}
 use Rattle.codes3270.specs.Aid.{is_short_aid}
 use Rattle.codes3270.specs.Size.{cells_in}
@@ -31,9 +31,13 @@ is_settled_fact (Fact.Text value) = true
 is_settled_fact (Fact.TextOrNulls value) = false
 is_settled_fact (Fact.Any known) = false
 
+-- whether the text of each of these fields is known, but for its nulls
+abbrev pub are_settled : List Belief → Bool
+are_settled beliefs = list_all (λ belief. is_settled_fact belief.fact) beliefs
+
 -- whether the text of each field is known, but for its nulls
 abbrev pub is_settled : Shadow → Bool
-is_settled shadow = list_all (λ belief. is_settled_fact belief.fact) (fields_of shadow)
+is_settled shadow = are_settled (fields_of shadow)
 
 -- holds if the field's text is known, but for its nulls
 abbrev pub IsSettledField : Belief → Type 0
