@@ -113,10 +113,10 @@ pub fn what_leaves_nothing_open()
     ensures painted { PaintOpensNothing }
 {}
 
-/// Law: a field's text is settled if the host knows it, but for its nulls (`Exact` or `Text`). If MDT of each input field
-/// is known to be on, as after a paint without Keep that wants it on, and the facts of protected fields are `Exact`,
-/// each text is settled after data of Enter or a PF key. After an answer to Read Buffer each is in any case. Notes
-/// preserve both.
+/// Law: a field's text is settled if the host knows it, but for its nulls (`Exact` or `Text`). If MDT is known to be on
+/// in each input field, and the facts of protected fields are `Exact`, each text is settled after data of Enter or a PF
+/// key. MDT is known to be on after a paint without Keep that wants it on, and notes preserve that. After an answer to
+/// Read Buffer each text is settled in any case. Notes preserve that too, if the facts of protected fields are `Exact`.
 pub fn what_returns_input_is_settled()
     ensures decided { SettledIsDecided }
     ensures returned { ReturnedIsSettled }
