@@ -43,60 +43,71 @@ module _ (P : Belief → Type 0) (read : (f : Field) → P (belief_seen f)) wher
       cases [] chars = All-nil P
       cases (f ∷ fs) chars = each_read (f ∷ fs)
 
-module _ (P : Belief → Type 0) (long : (erased : Bool) (a : Answer) → contradicts a ≡ false → P a.field → P (after_long erased a)) where
-  abbrev Each : List Answer → Type 0
-  Each = All (λ (a : Answer). P a.field)
+-- what holds of the field of each answer
+abbrev pub Each : (Belief → Type 0) → List Answer → Type 0
+Each P = All (λ (a : Answer). P a.field)
 
-  abbrev Kept : Result Shadow HeardFault → Type 0
-  Kept result = IfOk result (λ (new : Shadow). All P (fields_of new))
-
-  one_answer : (b : Belief) (text : Option (List ℕ)) (others : Option (List Answer)) (found : List Answer) → answer_and b text others ≡ Some found → P b → ((more : List Answer) → others ≡ Some more → Each more) → Each found
+module _ (P : Belief → Type 0) where
+  one_answer : (b : Belief) (text : Option (List ℕ)) (others : Option (List Answer)) (found : List Answer) → answer_and b text others ≡ Some found → P b → ((more : List Answer) → others ≡ Some more → Each P more) → Each P found
   one_answer b text None found e p h = absurd (cc)
   one_answer b text (Some more) found e p h =
       let same : record { field = b; text = text } ∷ more ≡ found = cc in
-      subst Each same (All-cons (λ (a : Answer). P a.field) (record { field = b; text = text }) more p (h more refl))
+      subst (Each P) same (All-cons (λ (a : Answer). P a.field) (record { field = b; text = text }) more p (h more refl))
 
-  each_answer : (size : ℕ) (bs : List Belief) (rs : List Returned) (found : List Answer) → answers size bs rs ≡ Some found → All P bs → Each found
-  each_answer size [] [] found e h = let same : [] ≡ found = cc in subst Each same (All-nil (λ (a : Answer). P a.field))
+  each_answer : (size : ℕ) (bs : List Belief) (rs : List Returned) (found : List Answer) → answers size bs rs ≡ Some found → All P bs → Each P found
+  each_answer size [] [] found e h = let same : [] ≡ found = cc in subst (Each P) same (All-nil (λ (a : Answer). P a.field))
   each_answer size [] (r ∷ rs) found e h = absurd (cc)
   each_answer size (b ∷ bs) [] found e h = one_answer b None (answers size bs []) found e (All-head P b bs h) (λ more is. each_answer size bs [] more is (All-tail P b bs h))
   each_answer size (b ∷ bs) (r ∷ rs) found e h =
       cases (starts_at size b r.first) e (λ more is. each_answer size bs rs more is (All-tail P b bs h)) (λ more is. each_answer size bs (r ∷ rs) more is (All-tail P b bs h))
     where
       cases : (t : Bool) → (if t then answer_and b (Some r.text) (answers size bs rs) else answer_and b None (answers size bs (r ∷ rs))) ≡ Some found
-          → ((more : List Answer) → answers size bs rs ≡ Some more → Each more) → ((more : List Answer) → answers size bs (r ∷ rs) ≡ Some more → Each more) → Each found
+          → ((more : List Answer) → answers size bs rs ≡ Some more → Each P more) → ((more : List Answer) → answers size bs (r ∷ rs) ≡ Some more → Each P more) → Each P found
       cases true e there later = one_answer b (Some r.text) (answers size bs rs) found e (All-head P b bs h) there
       cases false e there later = one_answer b None (answers size bs (r ∷ rs)) found e (All-head P b bs h) later
 
-  each_long : (erased : Bool) (ans : List Answer) → list_any contradicts ans ≡ false → Each ans → All P (map (after_long erased) ans)
+-- data that returns fields: what holds of each field before gives what holds of each one after
+module _ (P Q : Belief → Type 0)
+    (long : (ans : List Answer) → list_any contradicts ans ≡ false → Each P ans → All Q (map (after_long (list_any was_erased ans)) ans)) where
+  abbrev Given : Result Shadow HeardFault → Type 0
+  Given result = IfOk result (λ (new : Shadow). All Q (fields_of new))
+
+  settled_gives : (found : Option (List Answer)) → ((ans : List Answer) → found ≡ Some ans → Each P ans) → Given (settled found)
+  settled_gives None h = tt
+  settled_gives (Some ans) h = cases (list_any contradicts ans) refl
+    where
+      cases : (t : Bool) → list_any contradicts ans ≡ t → Given (if t then Err Contradiction else Ok (Shadow.Formatted (map (after_long (list_any was_erased ans)) ans)))
+      cases true e = tt
+      cases false e = long ans e (h ans refl)
+
+  pub long_gives : (size : ℕ) (shadow : Shadow) (ahead : List ℕ) (rs : List Returned) → All P (fields_of shadow) → Given (heard_long size shadow ahead rs)
+  long_gives size Shadow.NothingKnown ahead [] h = All-nil Q
+  long_gives size Shadow.NothingKnown ahead (r ∷ rs) h = tt
+  long_gives size (Shadow.Unformatted known) ahead [] h = cases (nat_lt (length known) (length ahead))
+    where
+      cases : (t : Bool) → Given (if t then Err Contradiction else Ok Shadow.NothingKnown)
+      cases true = tt
+      cases false = All-nil Q
+  long_gives size (Shadow.Unformatted known) ahead (r ∷ rs) h = tt
+  long_gives size (Shadow.Formatted bs) ahead rs h = cases (list_any (is_nowhere size bs) rs) (nat_lt 0 (length ahead))
+    where
+      cases : (t u : Bool) → Given (if t then Err NoSuchField else if u then Err Contradiction else settled (answers size bs rs))
+      cases true u = tt
+      cases false true = tt
+      cases false false = settled_gives (answers size bs rs) (λ ans e. each_answer P size bs rs ans e h)
+
+module _ (P : Belief → Type 0) (long : (erased : Bool) (a : Answer) → contradicts a ≡ false → P a.field → P (after_long erased a)) where
+  abbrev Kept : Result Shadow HeardFault → Type 0
+  Kept result = IfOk result (λ (new : Shadow). All P (fields_of new))
+
+  each_long : (erased : Bool) (ans : List Answer) → list_any contradicts ans ≡ false → Each P ans → All P (map (after_long erased) ans)
   each_long erased [] none h = All-nil P
   each_long erased (a ∷ ans) none h =
       let parts = both_false _ _ none in
       All-cons P (after_long erased a) (map (after_long erased) ans) (long erased a parts.0 (All-head (λ (x : Answer). P x.field) a ans h)) (each_long erased ans parts.1 (All-tail (λ (x : Answer). P x.field) a ans h))
 
-  settled_keeps : (found : Option (List Answer)) → ((ans : List Answer) → found ≡ Some ans → Each ans) → Kept (settled found)
-  settled_keeps None h = tt
-  settled_keeps (Some ans) h = cases (list_any contradicts ans) refl
-    where
-      cases : (t : Bool) → list_any contradicts ans ≡ t → Kept (if t then Err Contradiction else Ok (Shadow.Formatted (map (after_long (list_any was_erased ans)) ans)))
-      cases true e = tt
-      cases false e = each_long (list_any was_erased ans) ans e (h ans refl)
-
   pub long_keeps : (size : ℕ) (shadow : Shadow) (ahead : List ℕ) (rs : List Returned) → All P (fields_of shadow) → Kept (heard_long size shadow ahead rs)
-  long_keeps size Shadow.NothingKnown ahead [] h = All-nil P
-  long_keeps size Shadow.NothingKnown ahead (r ∷ rs) h = tt
-  long_keeps size (Shadow.Unformatted known) ahead [] h = cases (nat_lt (length known) (length ahead))
-    where
-      cases : (t : Bool) → Kept (if t then Err Contradiction else Ok Shadow.NothingKnown)
-      cases true = tt
-      cases false = All-nil P
-  long_keeps size (Shadow.Unformatted known) ahead (r ∷ rs) h = tt
-  long_keeps size (Shadow.Formatted bs) ahead rs h = cases (list_any (is_nowhere size bs) rs) (nat_lt 0 (length ahead))
-    where
-      cases : (t u : Bool) → Kept (if t then Err NoSuchField else if u then Err Contradiction else settled (answers size bs rs))
-      cases true u = tt
-      cases false true = tt
-      cases false false = settled_keeps (answers size bs rs) (λ ans e. each_answer size bs rs ans e h)
+  long_keeps = long_gives P P (λ ans. each_long (list_any was_erased ans) ans)
 
   module _ (attention : (b : Belief) → P b → P (after_attention b)) (read : (f : Field) → P (belief_seen f)) where
     each_attention : (bs : List Belief) → All P bs → All P (map after_attention bs)

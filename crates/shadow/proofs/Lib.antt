@@ -28,6 +28,7 @@ pub mod KnownCells
 pub mod StoredClosed
 pub mod NotesTaken
 pub mod Opening
+pub mod Settled
 pub mod PaintLength
 pub mod Noted
 pub mod PaintOpening

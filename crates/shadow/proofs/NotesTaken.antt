@@ -26,7 +26,7 @@ use Rattle.shadow.specs.Exactness.{IsOverCharacter}
 use Rattle.shadow.specs.AfterReadBuffer.{known_chars}
 use Rattle.shadow.specs.Meets.{FieldMeets, Holds, KnownIs, Meets, Knows, ListsFields, told, FieldTold, IsTold}
 use Rattle.shadow.specs.Notes.{IsOverProtected, OverwritesProtected, PlacedStaysKnown, NoteStaysListed, NoteStaysTold, NoteStaysExact, NoteOpensNothing, NoteStaysWhole}
-use Rattle.shadow.specs.TextUnknown.{is_any, IsNotOpen, NothingIsOpen}
+use Rattle.shadow.specs.TextUnknown.{is_any}
 use Rattle.shadow.specs.Pairs.{Pairwise}
 use Rattle.shadow.specs.Stores.{Store, stores, stores_unplaced, is_plain_order}
 use Rattle.shadow.specs.Taken.{old_char, laid_out, known_stored, marks_off_if, known_ahead, fresh_ahead, fact_known, fact_before, fact_after, beliefs_from, formatted_as, believed, resets, known_after, after_write, taken_write, taken}
@@ -215,16 +215,19 @@ fields_told (b ∷ bs) (new ∷ news) [] fs was kept meets same = absurd was
 fields_told (b ∷ bs) (new ∷ news) (g ∷ gs) [] was kept meets same = absurd meets
 fields_told (b ∷ bs) (new ∷ news) (g ∷ gs) (f ∷ fs) was kept meets same = (field_told b new g f was.0 kept.0 meets.0 same.0, fields_told bs news gs fs was.1 kept.1 meets.1 same.1)
 
-none_open : (bs news : List Belief) → Pairwise FieldKept bs news → All IsNotOpen bs → All IsNotOpen news
-none_open [] [] kept h = h
-none_open [] (new ∷ news) kept h = absurd kept
-none_open (b ∷ bs) [] kept h = absurd kept
-none_open (b ∷ bs) (new ∷ news) kept h = All-cons IsNotOpen new news one (none_open bs news kept.1 (All-tail IsNotOpen b bs h))
+-- what holds of the fact, if the field is unprotected
+abbrev pub IfFree : (Fact → Type 0) → Belief → Type 0
+IfFree Q belief = belief.attr.protected ≡ false → Q belief.fact
+
+free_kept : (Q : Fact → Type 0) (bs news : List Belief) → Pairwise FieldKept bs news → All (IfFree Q) bs → All (IfFree Q) news
+free_kept Q [] [] kept h = h
+free_kept Q [] (new ∷ news) kept h = absurd kept
+free_kept Q (b ∷ bs) [] kept h = absurd kept
+free_kept Q (b ∷ bs) (new ∷ news) kept h = All-cons (IfFree Q) new news one (free_kept Q bs news kept.1 (All-tail (IfFree Q) b bs h))
   where
-    one : IsNotOpen new
+    one : IfFree Q new
     one free =
-        ap is_any (kept.0.same_fact free)
-        ∙ All-head IsNotOpen b bs h (ap (λ (z : Attribute). z.protected) (sym kept.0.same_attr) ∙ free)
+        subst Q (sym (kept.0.same_fact free)) (All-head (IfFree Q) b bs h (ap (λ (z : Attribute). z.protected) (sym kept.0.same_attr) ∙ free))
 
 -- ---- a note on a screen
 
@@ -302,9 +305,9 @@ told_as : (new : List Belief) (known : List (Option ℕ)) (s : Screen) → Meets
 told_as [] known s meets h = tt
 told_as (b ∷ new) known s meets h = h meets.1
 
-open_as : (new : List Belief) (known : List (Option ℕ)) → All IsNotOpen new → All IsNotOpen (fields_of (formatted_as new known))
-open_as [] known h = All-nil IsNotOpen
-open_as (b ∷ new) known h = h
+free_as : (Q : Fact → Type 0) (new : List Belief) (known : List (Option ℕ)) → All (IfFree Q) new → All (IfFree Q) (fields_of (formatted_as new known))
+free_as Q [] known h = All-nil (IfFree Q)
+free_as Q (b ∷ new) known h = h
 
 told_after : (wcc : Wcc) (orders : List Order) (s : Screen) → Plainly wcc orders s → (bs : List Belief) (laid : List Known) → Fitting bs laid s → Pairwise FieldTold bs (fields s.cells)
     → Meets (after_write (length s.cells) (Some wcc) orders bs laid) (written (Some wcc) orders s) → IsTold (after_write (length s.cells) (Some wcc) orders bs laid) (written (Some wcc) orders s)
@@ -316,13 +319,13 @@ told_after wcc orders s h bs laid fit was meets =
     (λ meet. fields_told bs (beliefs_from bs news 0 news) (fields s.cells) (fields (written (Some wcc) orders s).cells) was
     (fields_kept wcc orders s h bs laid fit.0 fit.1 fit.2 fit.3) meet (kinds_after wcc orders s h)))
 
-open_after : (wcc : Wcc) (orders : List Order) (s : Screen) → Plainly wcc orders s → (bs : List Belief) (laid : List Known) → Fitting bs laid s → All IsNotOpen bs
-    → NothingIsOpen (after_write (length s.cells) (Some wcc) orders bs laid)
-open_after wcc orders s h bs laid fit none =
+free_after : (Q : Fact → Type 0) (wcc : Wcc) (orders : List Order) (s : Screen) → Plainly wcc orders s → (bs : List Belief) (laid : List Known) → Fitting bs laid s → All (IfFree Q) bs
+    → All (IfFree Q) (fields_of (after_write (length s.cells) (Some wcc) orders bs laid))
+free_after Q wcc orders s h bs laid fit was =
     let news : List Known = known_stored (stores (length s.cells) 0 orders) laid in
-    subst NothingIsOpen (sym (written_as wcc orders s h bs laid))
-    (open_as (beliefs_from bs news 0 news) (known_ahead news)
-    (none_open bs (beliefs_from bs news 0 news) (fields_kept wcc orders s h bs laid fit.0 fit.1 fit.2 fit.3) none))
+    subst (λ (shadow : Shadow). All (IfFree Q) (fields_of shadow)) (sym (written_as wcc orders s h bs laid))
+    (free_as Q (beliefs_from bs news 0 news) (known_ahead news)
+    (free_kept Q bs (beliefs_from bs news 0 news) (fields_kept wcc orders s h bs laid fit.0 fit.1 fit.2 fit.3) was))
 
 write_told : (wcc : Wcc) (orders : List Order) (shadow : Shadow) (s : Screen) → Plainly wcc orders s → Meets shadow s → IsTold shadow s
     → Meets (taken_write (length s.cells) (Some wcc) orders shadow) (written (Some wcc) orders s) → IsTold (taken_write (length s.cells) (Some wcc) orders shadow) (written (Some wcc) orders s)
@@ -331,10 +334,11 @@ write_told wcc orders (Shadow.Unformatted known) s h meets was now =
     told_after wcc orders s h [] (map old_char known) (fitting_bare known s meets) (subst (Pairwise FieldTold []) (sym meets.0) tt) now
 write_told wcc orders (Shadow.Formatted bs) s h meets was now = told_after wcc orders s h bs (laid_out (length s.cells) bs) (fitting_laid bs s meets) was now
 
-write_opens : (wcc : Wcc) (orders : List Order) (shadow : Shadow) (s : Screen) → Plainly wcc orders s → Meets shadow s → NothingIsOpen shadow → NothingIsOpen (taken_write (length s.cells) (Some wcc) orders shadow)
-write_opens wcc orders Shadow.NothingKnown s h meets none = All-nil IsNotOpen
-write_opens wcc orders (Shadow.Unformatted known) s h meets none = open_after wcc orders s h [] (map old_char known) (fitting_bare known s meets) (All-nil IsNotOpen)
-write_opens wcc orders (Shadow.Formatted bs) s h meets none = open_after wcc orders s h bs (laid_out (length s.cells) bs) (fitting_laid bs s meets) none
+write_free : (Q : Fact → Type 0) (wcc : Wcc) (orders : List Order) (shadow : Shadow) (s : Screen) → Plainly wcc orders s → Meets shadow s → All (IfFree Q) (fields_of shadow)
+    → All (IfFree Q) (fields_of (taken_write (length s.cells) (Some wcc) orders shadow))
+write_free Q wcc orders Shadow.NothingKnown s h meets was = All-nil (IfFree Q)
+write_free Q wcc orders (Shadow.Unformatted known) s h meets was = free_after Q wcc orders s h [] (map old_char known) (fitting_bare known s meets) (All-nil (IfFree Q))
+write_free Q wcc orders (Shadow.Formatted bs) s h meets was = free_after Q wcc orders s h bs (laid_out (length s.cells) bs) (fitting_laid bs s meets) was
 
 -- a command over protected characters is a write of a control character and orders
 record Split (command : CommandParts) (s : Screen) : Type 0 where
@@ -426,10 +430,15 @@ stays_exact command shadow s h meets known protected = (
   written_protected command shadow s h.writes (over_characters s.cells (stores (length s.cells) 0 command.orders) h.over) meets known protected,
 )
 
-pub opens_nothing : NoteOpensNothing
-opens_nothing command shadow s h meets none =
+-- what holds of the facts of unprotected fields
+pub free_stays : (Q : Fact → Type 0) (command : CommandParts) (shadow : Shadow) (s : Screen) → OverwritesProtected command s → Meets shadow s → All (IfFree Q) (fields_of shadow)
+    → All (IfFree Q) (fields_of (taken (length s.cells) command shadow))
+free_stays Q command shadow s h meets was =
     let it = split command s h in
-    subst (λ (c : CommandParts). NothingIsOpen (taken (length s.cells) c shadow)) it.is (write_opens it.wcc command.orders shadow s it.plainly meets none)
+    subst (λ (c : CommandParts). All (IfFree Q) (fields_of (taken (length s.cells) c shadow))) it.is (write_free Q it.wcc command.orders shadow s it.plainly meets was)
+
+pub opens_nothing : NoteOpensNothing
+opens_nothing = free_stays (λ (fact : Fact). is_any fact ≡ false)
 
 no_kept : (new : List Belief) → Pairwise FieldKept [] new → new ≡ []
 no_kept [] h = refl

@@ -19,6 +19,7 @@ use Rattle.shadow.specs.InPlace.{chars_known, fact_held, belief_held, beliefs_he
 use Rattle.shadow.specs.Taken.{whole_text, exact_or_any, old_char, field_cells, first_place, laid_out, formatted_as, after_write, taken_write, mark_off, marks_off_if}
 use Rattle.shadow.specs.Base.{mark_off_if}
 use Rattle.shadow.specs.Paint.{known_nulls, known_before, writes_over}
+use Rattle.shadow.specs.Settled.{is_settled_fact}
 use Rattle.shadow.specs.declared.known.Known.{Known as KnownCell}
 use Rattle.shadow.specs.declared.known.Known.TheVariants.{Attr as KnownAttr}
 use Rattle.codes3270.specs.declared.write_control.Wcc.{Wcc}
@@ -43,6 +44,13 @@ exact_held ahead e = ap (λ text. exact_or_any text (chars_known ahead)) (whole_
 
 pub any_held : (ahead : List CellBelief) → is_whole (chars_known ahead) ≡ false → fact_held Cells ahead ≡ Fact.Any (chars_known ahead)
 any_held ahead e = ap (λ text. exact_or_any text (chars_known ahead)) (partly_known (chars_known ahead) e)
+
+pub settled_if_whole : (ahead : List CellBelief) → is_settled_fact (fact_held Cells ahead) ≡ is_whole (chars_known ahead)
+settled_if_whole ahead = cases (is_whole (chars_known ahead)) refl
+  where
+    cases : (t : Bool) → is_whole (chars_known ahead) ≡ t → is_settled_fact (fact_held Cells ahead) ≡ t
+    cases true e = ap is_settled_fact (exact_held ahead e)
+    cases false e = ap is_settled_fact (any_held ahead e)
 
 -- ---- a field is found by its place
 

@@ -1,6 +1,6 @@
 -- When the text of each field is known (our profile): after a key that returns each input field, and after an answer to
--- Read Buffer. And which writes leave MDT of each input field on, so that Enter and PF keys return it.
-use Rattle.std.specs.Prelude.{◌≡◌, ℕ, Bool, true, false, length, slice_get, Some, All, IfOk}
+-- Read Buffer. And after which writes MDT is on in each input field, so that Enter and PF keys return each.
+use Rattle.std.specs.Prelude.{◌≡◌, ℕ, Bool, true, false, List, length, slice_get, Some, All, IfOk}
 use Rattle.std.specs.List.{list_all, list_any}
 use Rattle.codes3270.specs.Aid.{is_short_aid}
 use Rattle.codes3270.specs.Size.{cells_in}
@@ -31,9 +31,13 @@ is_settled_fact (Fact.Text value) = true
 is_settled_fact (Fact.TextOrNulls value) = false
 is_settled_fact (Fact.Any known) = false
 
+-- whether the text of each of these fields is known, but for its nulls
+abbrev pub are_settled : List Belief → Bool
+are_settled beliefs = list_all (λ belief. is_settled_fact belief.fact) beliefs
+
 -- whether the text of each field is known, but for its nulls
 abbrev pub is_settled : Shadow → Bool
-is_settled shadow = list_all (λ belief. is_settled_fact belief.fact) (fields_of shadow)
+is_settled shadow = are_settled (fields_of shadow)
 
 -- holds if the field's text is known, but for its nulls
 abbrev pub IsSettledField : Belief → Type 0
@@ -50,11 +54,11 @@ SettledIsDecided = (shadow : Shadow) → (is_settled shadow ≡ true → IsSettl
 
 -- ---- input fields that each key returns
 
--- holds if the field is protected or MDT of it is known to be on
+-- holds if the field is protected, or its MDT is known to be on
 abbrev pub IsReturned : Belief → Type 0
 IsReturned belief = belief.attr.protected ≡ false → belief.mdt ≡ On
 
--- holds if MDT of each input field is known to be on, so that a key that sends fields returns it
+-- holds if MDT of each input field is known to be on, so that a key that sends fields returns each
 abbrev pub ReturnsInput : Shadow → Type 0
 ReturnsInput shadow = All IsReturned (fields_of shadow)
 
@@ -77,7 +81,7 @@ abbrev pub ReadIsSettled : Type 0
 ReadIsSettled = (size : ℕ) (shadow : Shadow) (inbound : InboundParts) → inbound.form ≡ Buffer
     → IfOk (heard size shadow inbound) IsSettled
 
--- After a paint without Keep, of a screen whose input fields are wanted with MDT on, it is known to be on.
+-- After a paint without Keep that wants MDT on in each input field, it is known to be on in each.
 abbrev pub PaintReturnsInput : Type 0
 PaintReturnsInput = (shadow : Shadow) (wanted : WantedScreen) (screen : Screen)
     → length wanted.cells ≡ cells_in wanted.size → is_paintable shadow wanted ≡ true

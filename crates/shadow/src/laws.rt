@@ -8,6 +8,7 @@ ghost use Rattle.shadow.specs.Exactness.{NothingIsExact, HeardStaysExact, HeardS
 ghost use Rattle.shadow.specs.RuleBreaks.{RulesAreNotBroken};
 ghost use Rattle.shadow.specs.PaintedFields.{KeptStaysThere, WrittenIsThere};
 ghost use Rattle.shadow.specs.Sized.{MeetsIsOfSize, HeardIsOfSize, TakenIsOfSize};
+ghost use Rattle.shadow.specs.Settled.{SettledIsDecided, ReturnedIsSettled, ReadIsSettled, PaintReturnsInput, NoteReturnsInput, NoteStaysSettled};
 ghost use Rattle.shadow.specs.Storable.{HeardCanBeStored, TakenCanBeStored, ToldCanBeStored};
 
 use datastream::laws::written_is_read;
@@ -110,6 +111,19 @@ pub fn what_leaves_nothing_open()
     ensures erased { EraseLeavesNothingOpen }
     ensures cleared { ClearIsHeard }
     ensures painted { PaintOpensNothing }
+{}
+
+/// Law: a field's text is settled if the host knows it, but for its nulls (`Exact` or `Text`). If MDT is known to be on
+/// in each input field, and the facts of protected fields are `Exact`, each text is settled after data of Enter or a PF
+/// key. MDT is known to be on after a paint without Keep that wants it on, and notes preserve that. After an answer to
+/// Read Buffer each text is settled in any case. Notes preserve that too, if the facts of protected fields are `Exact`.
+pub fn what_returns_input_is_settled()
+    ensures decided { SettledIsDecided }
+    ensures returned { ReturnedIsSettled }
+    ensures read { ReadIsSettled }
+    ensures painted { PaintReturnsInput }
+    ensures noted { NoteReturnsInput }
+    ensures kept { NoteStaysSettled }
 {}
 
 /// Law: if a cell can hold each known character, and returned texts have no nulls, this stays so whatever is heard or

@@ -1,5 +1,5 @@
 //! What the beliefs of single cells say of a field, and of a cell.
-ghost use Rattle.std.specs.Prelude.{◌≡◌, ◌<◌, ◌≤◌, ◌+◌, ◌*◌, ◌++◌, length, drop, slice_get, option_map, option_and_then, bytes_eq, [], true, false, IfSome};
+ghost use Rattle.std.specs.Prelude.{◌≡◌, ◌<◌, ◌≤◌, ◌+◌, ◌*◌, ◌++◌, ◌&&◌, length, drop, slice_get, option_map, option_and_then, bytes_eq, [], true, false, IfSome};
 ghost use Rattle.std.specs.Option.{option_map_or};
 ghost use Rattle.codes3270.specs.Size.{most_cells};
 ghost use Rattle.datastream.specs.Inbound.{without_nulls};
@@ -7,6 +7,7 @@ ghost use Rattle.shadow.specs.Queries.{belief_with, kind_of, value_of, known_at,
 ghost use Rattle.shadow.specs.Belief.{nulls};
 ghost use Rattle.shadow.specs.FieldTexts.{text_in};
 ghost use Rattle.shadow.specs.Heard.{denies as denies_text};
+ghost use Rattle.shadow.specs.Settled.{are_settled, is_settled_fact};
 ghost use Rattle.shadow.specs.InPlace.{cell_known, chars_known, text_told, fact_held, beliefs_held, is_whole, known_text, is_attribute as is_attribute_held, has_attribute as any_attribute, shadow_held, IsHeld};
 
 use crate::cell_belief::{CellBelief, TextKnowledge};
@@ -253,6 +254,48 @@ pub(crate) fn denies(
         TextKnowledge::Text => false,
         TextKnowledge::TextOrNulls => false,
     }
+}
+
+/// Whether the text of the field whose attribute is at `place` is known, but for its nulls.
+#[tactic(auto, using(crate::proofs::Placed::settled_if_whole))]
+fn is_settled(beliefs: &CellBeliefs, place: usize, knowledge: TextKnowledge) -> bool
+    requires { place < length beliefs.now }
+    ensures { result ≡ is_settled_fact (fact_held knowledge (drop (place + 1) beliefs.now ++ beliefs.now)) }
+{
+    match knowledge {
+        TextKnowledge::Cells => all_known(beliefs.ahead(place)),
+        TextKnowledge::Text => true,
+        TextKnowledge::ExactOrNulls | TextKnowledge::TextOrNulls => false,
+    }
+}
+
+/// Whether the text of the field whose attribute is at an address is known, but for its nulls; true if none is there.
+fn is_settled_at(beliefs: &CellBeliefs, place: usize) -> bool
+    requires { place < length beliefs.now }
+    ensures { are_settled (beliefs_held beliefs.now place (drop place beliefs.now)) ≡ (result
+        && are_settled (beliefs_held beliefs.now (place + 1) (drop (place + 1) beliefs.now))) }
+{
+    match beliefs.get(place) {
+        CellBelief::Attr(_, _, knowledge) => is_settled(beliefs, place, knowledge),
+        CellBelief::Known(_) => true,
+        CellBelief::Unplaced(_) => true,
+        CellBelief::Unknown => true,
+    }
+}
+
+/// Whether the text of each field is known, but for its nulls.
+pub(crate) fn all_settled(beliefs: &CellBeliefs) -> bool
+    ensures { result ≡ are_settled (beliefs_held beliefs.now 0 beliefs.now) }
+{
+    let cells = beliefs.len();
+    let mut place = beliefs.attribute_from(0);
+    while place < cells {
+        if !is_settled_at(beliefs, place) {
+            return false;
+        }
+        place = beliefs.attribute_from(place + 1);
+    }
+    true
 }
 
 /// The cell that a belief knows, if it does. An unknown MDT is returned as off.

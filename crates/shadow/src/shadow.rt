@@ -15,6 +15,7 @@ ghost use Rattle.shadow.specs.Heard.{heard, heard_parts, heard_short};
 ghost use Rattle.shadow.specs.InPlace.{shadow_held, has_fields, IsHeld};
 ghost use Rattle.shadow.specs.Paint.{paint_bytes, writes_over, is_base_size, erase_code};
 ghost use Rattle.shadow.specs.RuleBreaks.{rule_break};
+ghost use Rattle.shadow.specs.Settled.{is_settled};
 ghost use Rattle.shadow.specs.AfterReadBuffer.{heard_buffer};
 ghost use Rattle.shadow.specs.Stores.{is_plain};
 ghost use Rattle.shadow.specs.Taken.{taken, taken_write, taken_erase};
@@ -28,7 +29,9 @@ use crate::fault::HeardFault;
 use crate::field_text::FieldText;
 use crate::fitting::{fits_fields, fits_over};
 use crate::painting::{Base, put_cells};
-use crate::queries::{fact_held_at, has_attribute, known_held_at, text_held_at, value_held_at};
+use crate::queries::{
+    all_settled, fact_held_at, has_attribute, known_held_at, text_held_at, value_held_at,
+};
 use crate::rule_break::RuleBreak;
 use crate::verifying::first_break;
 use crate::writing::stores_unplaced;
@@ -195,6 +198,17 @@ impl Shadow {
         match self.held() {
             Some(beliefs) => text_held_at(beliefs, attr.get() as usize),
             None => FieldText::none(&self.beliefs),
+        }
+    }
+
+    /// Whether the text of each field is known, but for its nulls: each fact is `Exact` or `Text`. True if the belief has
+    /// no fields.
+    pub fn is_settled(&self) -> bool
+        ensures { result ≡ is_settled self.now }
+    {
+        match self.held() {
+            Some(beliefs) => all_settled(beliefs),
+            None => true,
         }
     }
 
