@@ -6,6 +6,7 @@ pub mod Notes
 pub mod MessageRows
 pub mod KeptWhole
 pub mod Hosts
+pub mod Marking
 pub mod OneNumber
 pub mod Reserving
 pub mod ConnectionActs

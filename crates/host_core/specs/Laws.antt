@@ -1,5 +1,5 @@
 -- What holds of a host's acts (our profile).
-use Rattle.std.specs.Prelude.{◌≡◌, ⊤, Bool, true}
+use Rattle.std.specs.Prelude.{◌≡◌, ⊤, ℕ, Bool, true}
 use Rattle.codes3270.specs.Size.{ScreenSize}
 use Rattle.datastream.specs.KeptByKeys.{KeptByKeys}
 use Rattle.datastream.specs.Screen.{Screen}
@@ -7,12 +7,16 @@ use Rattle.datastream.specs.Wanted.{WantedScreen}
 use Rattle.shadow.specs.Belief.{Shadow}
 use Rattle.shadow.specs.Fits.{is_paintable}
 use Rattle.shadow.specs.Meets.{Meets}
+use Rattle.shadow.specs.Settled.{WantsInputReturned}
 use Rattle.panels.specs.Panel.{PanelParts, Panels, AreLaidOut, AreApart, AreOfCharacters, HaveOtherwise}
 use Rattle.panels.specs.declared.message.Message.{Message}
 use Rattle.panels.specs.Screen.{Values, IsWantedOf, screen_of}
 use Rattle.host_core.specs.Application.{Application, application_of, WantsProperScreens, IsApplication, IsShowable, IsSizeOf}
 use Rattle.host_core.specs.Messages.{ToTerminal}
-use Rattle.host_core.specs.Session.{Session, model_in}
+use Rattle.host_core.specs.Session.{Session, model_in, unheard_of}
+use Rattle.host_core.specs.State.{served_by}
+use Rattle.host_core.specs.Takes.{may_have_changed}
+use Rattle.host_core.specs.declared.terminals.Terminals.{Terminals}
 use Rattle.host_core.specs.Acts.{Act, done, when_shown}
 use Rattle.host_core.specs.declared.unheard.Unheard.{Unheard}
 use Rattle.host_core.specs.declared.unheard.Unheard.TheVariants as unheards
@@ -54,6 +58,17 @@ UnheardIsAllowed = (conn : Session) (told now : Screen) → Meets conn.shadow to
     → Meets (when_shown conn).shadow now
 
 -- ---- panels
+
+-- Holds if each input field is written with MDT on, so that each Enter or PF key returns it.
+abbrev pub MarksInput : Application → Type 0
+MarksInput app = (panel : ℕ) (values : Values) (message : Message) (keep : Bool)
+    → WantsInputReturned (app.screen panel values message keep)
+
+-- Holds if the panels of a host that doesn't rely on the wait are such an application.
+abbrev pub ServedIsMarked : Type 0
+ServedIsMarked = (terminals : Terminals) (set : Panels) → may_have_changed (unheard_of terminals) ≡ true
+    → served_by terminals set ≡ set
+    → MarksInput (application_of set)
 
 -- Holds if panels are an application that are laid out on the screens of their models, no two items of a panel share
 -- a cell, and each panel of another model has one of model 2 in its place.

@@ -10,7 +10,7 @@ ghost use Rattle.host_core.specs.Questions.{HasTexts, answered_by, question_of};
 ghost use Rattle.host_core.specs.Reports.{events_of, oldest, without_oldest};
 ghost use Rattle.host_core.specs.Reserving.{HasLu, IsTaken, released, reserved, reserver};
 ghost use Rattle.host_core.specs.Sound.{IsSound, NobodyShares, OthersHold};
-ghost use Rattle.host_core.specs.State.{counting_on, host_for, new_host, most_connections, restarted, session_at, unused, given_up, connection_at, reports_at, state_at, with_connection, with_opened, with_reports, model_of, phase_of, turn_of, pending_of, shadow_of};
+ghost use Rattle.host_core.specs.State.{counting_on, host_for, new_host, most_connections, restarted, served_by, session_at, unused, given_up, connection_at, reports_at, state_at, with_connection, with_opened, with_reports, model_of, phase_of, turn_of, pending_of, shadow_of};
 ghost use Rattle.host_core.specs.declared.phase.Phase.TheVariants as phase;
 
 use crate::acted::Acted;
@@ -87,6 +87,18 @@ fn unused_connections(alloc: Global) -> Result<Vec<Connection>, Memory>
     Ok(connections)
 }
 
+/// The panels as they are shown to such terminals: with all fields marked, if the host can't rely on their wait.
+fn served_by(terminals: Terminals, panels: PanelSet) -> PanelSet
+    ensures { result ≡ served_by terminals panels }
+{
+    let mut panels = panels;
+    match terminals {
+        Terminals::Waiting => {}
+        Terminals::Any | Terminals::Verified => panels.mark_fields(),
+    }
+    panels
+}
+
 /// Frees each connection number.
 fn clear_each(connections: &mut Vec<Connection>)
     ensures { connections.new.items ≡ replicate (length connections.old.items) unused }
@@ -122,12 +134,8 @@ impl Host {
         let connections = unused_connections(alloc)?;
         let mut pool = pool;
         pool.free_all();
-        let mut panels = panels;
-        if terminals.unheard().may_have_changed() {
-            panels.mark_fields();
-        }
         Ok(Host {
-            panels,
+            panels: served_by(terminals, panels),
             pool,
             connections,
             sessions,

@@ -1,12 +1,14 @@
 //! Laws of hosts over bytes: each is the contract of a function with no effect. Proofs of other crates use them; no
 //! program calls them, and the root doesn't export them.
 ghost use Rattle.host_core.specs.Answering.{BelievesNoSooner, BelievesNotesNoSooner, CommandsAreNumbered, NotesAreNumbered, OnlyItsResponse};
-ghost use Rattle.host_core.specs.Laws.{ActsFit, SizesAreTheModels, UnheardIsAllowed, PanelsAreShown, PanelsAskForScreens, ScreensAreWanted};
+ghost use Rattle.host_core.specs.Laws.{ActsFit, SizesAreTheModels, ServedIsMarked, UnheardIsAllowed, PanelsAreShown, PanelsAskForScreens, ScreensAreWanted};
 ghost use Rattle.host_core.specs.NoteLaws.{HeldTakesNotes, NotesAreNotes, NotesAreOverCharacters, NotesOverwrite, NotesWriteProtected, PaintsTakeNotes, SameAttributesTakeNotes};
 ghost use Rattle.host_core.specs.Machine.{OneOutcome, PiecesCompose, PiecesPart};
 
 use datastream::laws::{kept_since_the_write, written_is_read};
-use panels::laws::{kept_fields_are_whole, the_last_row_is_for_messages};
+use panels::laws::{
+    kept_fields_are_whole, marked_fields_return_input, the_last_row_is_for_messages,
+};
 use shadow::laws::{what_a_note_leaves, what_is_in_doubt_is_allowed};
 
 /// Law: what a connection's bytes make of the pool and of the connection's record is a function of what these were
@@ -48,6 +50,14 @@ pub fn panels_are_shown()
 {
     the_last_row_is_for_messages();
     kept_fields_are_whole();
+}
+
+/// Law: a host that doesn't rely on the terminal's wait writes each input field with MDT on, so that each Enter or PF
+/// key returns its text.
+pub fn what_is_served_is_marked()
+    ensures { ServedIsMarked }
+{
+    marked_fields_return_input();
 }
 
 /// Law: what a host shows changes its belief no sooner than it is answered; a command carries the connection's

@@ -17,7 +17,7 @@ returns-in-Ok-clause-taken c =
     c.drop_key.ensures.came
 
 pub drop_key-requires : goal.drop_key-requires
-drop_key-requires c = λ none. no_paint_sized c.args.self.now c.in-Ok.inbound.size (c.in-Ok.ensures.found.1 ∙ c.second_key_size.ensures) none
+drop_key-requires c = record { size = λ none. no_paint_sized c.args.self.now c.in-Ok.inbound.size (c.in-Ok.ensures.found.1 ∙ c.second_key_size.ensures) none }
 
 pub returns-in-Err-clause-taken : goal.returns-in-Err-clause-taken
 returns-in-Err-clause-taken c =
