@@ -23,7 +23,7 @@ use Rattle.panels.specs.declared.next.Next.TheVariants.{Go, Ask, Again}
 use Rattle.host_core.specs.Acts.{Act, Decision, Sent as SentValue, after_key, decided, decision_on, first_panel, on_empty, wanted_by, done, may_act, may_keep, acted, painted, known_despite, unheard_next, values_shown, when_shown}
 use Rattle.host_core.specs.Application.{Application, IsApplication, IsSizeOf}
 use Rattle.host_core.specs.Laws.{IsPaintable}
-use Rattle.host_core.specs.Takes.{may_have_changed}
+use Rattle.host_core.specs.Takes.{may_be_read, may_have_changed}
 use Rattle.host_core.specs.declared.turn.Turn.{Turn}
 use Rattle.host_core.specs.declared.turn.Turn.TheVariants as whose
 use Rattle.host_core.specs.declared.turn_reason.TurnReason.{TurnReason}
@@ -73,7 +73,7 @@ shown app conn panel message keep values = painted app (when_shown conn) panel m
 -- ---- what is believed when a panel is shown
 
 -- it allows the screen,
-allows_despite : LowerLaws → (unheard : Unheard) (shadow : Shadow) (screen : Screen) → Meets shadow screen → Meets (known_despite unheard shadow) screen
+pub allows_despite : LowerLaws → (unheard : Unheard) (shadow : Shadow) (screen : Screen) → Meets shadow screen → Meets (known_despite unheard shadow) screen
 allows_despite given unheards.Nothing shadow screen meets = meets
 allows_despite given unheards.Input shadow screen meets = given.belief.doubt_allows shadow screen meets
 allows_despite given unheards.Clear shadow screen meets = tt
@@ -89,6 +89,12 @@ exact_despite : LowerLaws → (unheard : Unheard) (shadow : Shadow) → FactsAre
 exact_despite given unheards.Nothing shadow exact = exact
 exact_despite given unheards.Input shadow exact = record { known = given.belief.doubt_exact shadow exact.known; protected = given.belief.doubt_protected shadow exact.protected }
 exact_despite given unheards.Clear shadow exact = record { known = given.belief.nothing_exact.0; protected = given.belief.nothing_exact.1 }
+
+-- that the screen was cleared is no matter any more,
+uncleared_next : (unheard : Unheard) → may_be_read (unheard_next unheard) ≡ true
+uncleared_next unheards.Nothing = refl
+uncleared_next unheards.Input = refl
+uncleared_next unheards.Clear = refl
 
 -- and nothing is open where the host relies on the wait
 closed_despite : (unheard : Unheard) (shadow : Shadow) → IfRelies unheard (NothingIsOpen shadow) → IfRelies (unheard_next unheard) (NothingIsOpen (known_despite unheard shadow))
@@ -292,6 +298,7 @@ module _ (given : LowerLaws) (app : Application) (is : IsApplication app) (link 
         command_is = refl;
         meets = allows_despite given link.host.unheard link.host.shadow link.term.display.screen meets;
         closed = closed_despite link.host.unheard link.host.shadow (λ relies. none_open link.host.shadow n.shadow);
+        uncleared = uncleared_next link.host.unheard;
         doubts = input_despite given link.host.unheard link.host.shadow link.term.display.screen meets;
         paintable = paintable given app is link panel message keep values;
       })
@@ -333,6 +340,7 @@ module _ (given : LowerLaws) (app : Application) (is : IsApplication app) (link 
         command_is = refl;
         meets = allows_despite given link.host.unheard link.host.shadow link.term.display.screen f.sees.meets;
         closed = closed_despite link.host.unheard link.host.shadow closed;
+        uncleared = uncleared_next link.host.unheard;
         doubts = input_despite given link.host.unheard link.host.shadow link.term.display.screen f.sees.meets;
         paintable = paintable given app is link panel message keep values;
       })

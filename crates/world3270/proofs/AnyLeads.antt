@@ -34,7 +34,7 @@ use Rattle.world3270.specs.refinement.Phases.{IsAt, Kind, LinkPhase, SessionPhas
 use Rattle.world3270.specs.statement.Showing.{ShowsItsPanel}
 use Rattle.world3270.specs.refinement.Invariant.{Fact, ConnectionInvariant, ShownAt, local_state_of}
 use Rattle.world3270.specs.refinement.View.{view_of}
-use Rattle.world3270.proofs.SecondKeys.{AddsSecondKeys, pending_after}
+use Rattle.world3270.proofs.SecondKeys.{AddsSecondKeys, SaysAlike, pending_after}
 use Rattle.codes3270.specs.Size.{ScreenSize}
 use Rattle.codes3270.specs.declared.attention.Aid.{Aid}
 use Rattle.datastream.specs.KeptByKeys.{KeptByKeys, hold_under}
@@ -55,7 +55,7 @@ use Rattle.host_core.specs.Notes.{noted_as, may_note, noted}
 use Rattle.host_core.specs.Questions.{act_by, answered_on, has_its_panel, is_asking, panel_for}
 use Rattle.host_core.specs.declared.question.Answer.{Answer as ApplicationAnswer}
 use Rattle.host_core.specs.declared.turn_reason.TurnReason.{TurnReason}
-use Rattle.world3270.specs.statement.EveryTerminal.{LinkWithReport, came_up, key_pressed, operated, told_if, IsByTheRules, Move, came_down, moved}
+use Rattle.world3270.specs.statement.EveryTerminal.{LinkWithReport, came_up, is_pa, key_pressed, operated, told_if, IsByTheRules, Move, came_down, moved}
 use Rattle.world3270.specs.model.Enabled.{is_queued}
 use Rattle.world3270.specs.statement.Rules.{Operates, after_sending, data_by, edited, shows, with_aid}
 use Rattle.world3270.specs.refinement.RepresentsLinks.{HasTheSizes, NoneCloses}
@@ -231,6 +231,11 @@ extras_respond turn pending told (ToHost.Response number verdict ∷ real) (inl 
 extras_respond turn pending told (ToHost.Data parts ∷ real) (inr x) none = extras_respond whose.Host (pending_after (ToHost.Data parts) pending) x.0 real x.2 (sym (ap has_response x.1) ∙ none)
 extras_respond turn pending told (ToHost.TalksUp saying ∷ real) (inr x) none = extras_respond turn pending x.0 real x.2 (sym (ap has_response x.1) ∙ none)
 extras_respond turn pending told (ToHost.Response number verdict ∷ real) (inr x) none = absurd (let both : true ≡ false = sym (ap has_response x.1) ∙ none in cc)
+
+-- nor are the answers to a Read Buffer
+alike_responds : (conn : Session) (told said : List ToHost) → SaysAlike conn told said → has_response told ≡ false → has_response said ≡ false
+alike_responds conn told said (SaysAlike.same is) none = ap has_response is ∙ none
+alike_responds conn told said (SaysAlike.checked number one other rest pends skips one_kept other_kept is_told is_said) none = ap has_response is_said ∙ sym (ap has_response is_told) ∙ none
 
 -- ---- a read is asked for after a key
 
@@ -414,14 +419,18 @@ module _ (given : LowerLaws) (app : Application) (is : IsApplication app) (sizes
 
       by_read : (b : Bool) (number : ℕ) → KeysStartWithAddress (told_if b (ToTerminal.ReadBuffer number) t (term_stepped (once_bound b (read_came end) end) rest t.link))
       by_read false number = silent end
-      by_read true number =
-          let Now : Type 0 = fields end.display.screen.cells ≡ [] in
-          let was = weaker Bare Now (now_bare t s) t.link.up l.queue in
-          record {
-            asked = l.asked;
-            queue = if_sent Now t.link.lost t.link.up (ToHost.Data (buffer_data end.display.size end.display.screen) ∷ []) was
-                (more_data Now t.link.up (buffer_data end.display.size end.display.screen) was (inl (λ form. absurd (modified_only (sym form)))));
-          }
+      by_read true number = by_key (is_pa t.told.screen.aid)
+        where
+          read : ToHost
+          read = ToHost.Data (buffer_data end.display.size end.display.screen)
+
+          with_read : (Is : Type 0) → AddressesComeFirst Is t.link.up → AddressesComeFirst Is (sent t.link.lost t.link.up (read ∷ []))
+          with_read Is was = if_sent Is t.link.lost t.link.up (read ∷ []) was (more_data Is t.link.up (buffer_data end.display.size end.display.screen) was (inl (λ form. absurd (modified_only (sym form)))))
+
+          by_key : (pa : Bool)
+              → KeysStartWithAddress (record { link = term_stepped (read_came end) rest t.link; told = if pa then record end.display { screen = record end.display.screen { aid = t.told.screen.aid } } else t.told; waits = t.waits })
+          by_key true = record { asked = l.asked; queue = with_read (fields end.display.screen.cells ≡ []) (weaker Bare (fields end.display.screen.cells ≡ []) (now_bare t s) t.link.up l.queue) }
+          by_key false = record { asked = l.asked; queue = with_read Bare l.queue }
 
       by_talk : (saying : NegotiationMessage) → (talked end end.talk saying).closes ≡ None → (b : Bool) → KeysStartWithAddress (told_if b (ToTerminal.TalksDown saying) t (term_stepped (talked end end.talk saying) rest t.link))
       by_talk saying closes b =
@@ -589,8 +598,9 @@ module _ (given : LowerLaws) (app : Application) (is : IsApplication app) (sizes
       let Bare : Type 0 = fields t.told.screen.cells ≡ [] in
       let reads_told : form_awaited s.told.host.pending ≡ Buffer = sym (ap (λ (c : Session). form_awaited c.pending) s.simulates.host) ∙ reads in
       let none : has_response others ≡ false =
-      extras_respond s.told.host.turn s.told.host.pending s.told.up (ToHost.Data parts ∷ others)
-      (subst (λ (up : List ToHost). AddsSecondKeys s.told.host.turn s.told.host.pending s.told.up up) e s.simulates.up) (none_responds app s.told s.kept reads_told) in
+      extras_respond s.told.host.turn s.told.host.pending s.simulates.up.said (ToHost.Data parts ∷ others)
+      (subst (λ (up : List ToHost). AddsSecondKeys s.told.host.turn s.told.host.pending s.simulates.up.said up) e s.simulates.up.up)
+      (alike_responds s.told.host s.told.up s.simulates.up.said s.simulates.up.alike (none_responds app s.told s.kept reads_told)) in
       first_lead Bare (ToHost.Data parts) others (subst (AddressesComeFirst Bare) e q.leads.queue) none
       (λ bare. has_fields given app is s.told s.kept (λ agreement. q.leads.asked reads (ap (λ (c : Session). c.turn_reason) s.simulates.host ∙ agreement)) reads_told
       (subst (λ (d : Display). fields d.screen.cells ≡ []) (sym s.display) bare)) form

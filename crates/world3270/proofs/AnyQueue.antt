@@ -53,7 +53,7 @@ use Rattle.world3270.proofs.HeardTurns.{goes_on as heard_goes_on}
 use Rattle.world3270.proofs.HostSteps.{just_talks}
 use Rattle.world3270.proofs.Known.{the_sizes}
 use Rattle.world3270.proofs.Queues.{front, nothing}
-use Rattle.world3270.proofs.SecondKeys.{AddsSecondKeys, IsSecondKey, is_dropping, pending_after, second_key_dropped, unless_read}
+use Rattle.world3270.proofs.SecondKeys.{AddsSecondKeys, IsSecondKey, SaysAlike, alike_silent, alike_talk, is_dropping, pending_after, second_key_dropped, unless_read}
 use Rattle.world3270.proofs.SimulatedHost.{may_note_when, nothing_up}
 use Rattle.world3270.proofs.Simulation.{Simulated, agrees_now}
 use Rattle.world3270.proofs.TalkStates.{agreed_there}
@@ -310,7 +310,7 @@ module _ (given : LowerLaws) (app : Application) (is : IsApplication app) (sizes
 
   -- where a paint is under way, second keys alone are queued
   only_data : s.told.up ≡ [] → IsDataOnly t.link.up
-  only_data none = data_only s.told.host.turn s.told.host.pending t.link.up (subst (λ (told : List ToHost). AddsSecondKeys s.told.host.turn s.told.host.pending told t.link.up) none s.simulates.up)
+  only_data none = data_only s.told.host.turn s.told.host.pending t.link.up (subst (λ (said : List ToHost). AddsSecondKeys s.told.host.turn s.told.host.pending said t.link.up) (alike_silent s.told.host s.told.up s.simulates.up.said none s.simulates.up.alike) s.simulates.up.up)
 
   paints_now : Differs s.told.term.display.model s.kept.wanted s.kept.moment → is_painting t.link.host.pending ≡ true
   paints_now differs = ap (λ (c : Session). is_painting c.pending) s.simulates.host ∙ ap is_painting s.kept.at.pending ∙ differs.paints
@@ -374,13 +374,14 @@ module _ (given : LowerLaws) (app : Application) (is : IsApplication app) (sizes
         up = dropped_sized app z.model t.link.host.size (is_painting t.link.host.pending) message rest second sized;
       })
 
-  hears_sized : (pool : Answers) (message : ToHost) (rest others : List ToHost) → s.told.up ≡ message ∷ others
+  hears_sized : (pool : Answers) (message : ToHost) (rest others : List ToHost) → HeardAlike pool s.told.host s.told.up message others
       → AreSized app z.model (is_painting t.link.host.pending) t.link.host.size (message ∷ rest) → IsSized app (heard (host_took pool t.link.host message) rest)
-  hears_sized pool message rest others first sized =
+  hears_sized pool message rest others alike sized =
       let step : HostStep = host_took pool s.told.host message in
-      let goes = heard_goes_on given app pool s.told message others first s.kept (agrees_now s) in
+      let goes = heard_goes_on given app pool s.told alike.first others alike.is s.kept (agrees_now s) in
       let shape : step.conn.size ≡ t.link.host.size = (just_talks pool s.told.host message).size ∙ sym (ap (λ (c : Session). c.size) s.simulates.host) in
-      let pending : step.conn.pending ≡ pending_after message t.link.host.pending = goes.pending ∙ ap (λ (c : Session). pending_after message c.pending) (sym s.simulates.host) in
+      let pending : step.conn.pending ≡ pending_after message t.link.host.pending =
+      ap (λ (made : HostStep). made.conn.pending) (sym alike.same) ∙ goes.pending ∙ alike.pending ∙ ap (λ (c : Session). pending_after message c.pending) (sym s.simulates.host) in
       subst (λ (host : Session). IsSized app (heard (host_took pool host message) rest)) (sym s.simulates.host)
       (host_left_sized app step.closes (record t.link { up = rest; host = step.conn; down = sent t.link.lost t.link.down step.sends }) (record {
         model = z.model;
@@ -391,14 +392,14 @@ module _ (given : LowerLaws) (app : Application) (is : IsApplication app) (sizes
 
   up_sized : (pool : List Entry) (up : List ToHost) → t.link.up ≡ up → IsSized app (came_up pool up t).link
   up_sized pool [] e = z
-  up_sized pool (message ∷ rest) e = by_extra (subst (AddsSecondKeys s.told.host.turn s.told.host.pending s.told.up) e s.simulates.up)
+  up_sized pool (message ∷ rest) e = by_extra (subst (AddsSecondKeys s.told.host.turn s.told.host.pending s.simulates.up.said) e s.simulates.up.up)
     where
       sized : AreSized app z.model (is_painting t.link.host.pending) t.link.host.size (message ∷ rest)
       sized = subst (AreSized app z.model (is_painting t.link.host.pending) t.link.host.size) e z.up
 
-      by_extra : AddsSecondKeys s.told.host.turn s.told.host.pending s.told.up (message ∷ rest) → IsSized app (came_up pool (message ∷ rest) t).link
+      by_extra : AddsSecondKeys s.told.host.turn s.told.host.pending s.simulates.up.said (message ∷ rest) → IsSized app (came_up pool (message ∷ rest) t).link
       by_extra (inl x) = drops_sized (answer_to pool) message rest x.0 x.1 sized
-      by_extra (inr x) = hears_sized (answer_to pool) message rest x.0 x.1 sized
+      by_extra (inr x) = hears_sized (answer_to pool) message rest x.0 (heard_alike (answer_to pool) s.told.host s.told.up s.simulates.up.said message x.0 (agrees_now s) x.1 s.simulates.up.alike) sized
 
   abbrev sends_so : Option Sent → Type 0
   sends_so what = IsSized app (host_sent what t.link)
@@ -541,9 +542,9 @@ module _ (given : LowerLaws) (app : Application) (is : IsApplication app) (sizes
           (subst (λ (shape : ScreenSize). cells_in parts.size ≤ cells_in shape) (sym large) (at_most_alternate app sizes model parts.size (size true (ap is_painting pends)))))
 
   comes_next : (t : LinkWithReport) (s : Simulated app lu t) (q : IsQueued t) (message : ToHost) (others : List ToHost) → t.link.up ≡ message ∷ others
-      → AddsSecondKeys s.told.host.turn s.told.host.pending s.told.up (message ∷ others) → MayBeSent t.link.host message
+      → AddsSecondKeys s.told.host.turn s.told.host.pending s.simulates.up.said (message ∷ others) → MayBeSent t.link.host message
   comes_next t s q (ToHost.TalksUp saying) others e (inl x) = absurd (let clash = x.1.is in cc)
-  comes_next t s q (ToHost.TalksUp saying) others e (inr x) = absurd (no_talk app lu t s saying x.0 x.1)
+  comes_next t s q (ToHost.TalksUp saying) others e (inr x) = absurd (no_talk app lu t s saying x.0 (alike_talk s.told.host s.told.up s.simulates.up.said saying x.0 x.1 s.simulates.up.alike))
   comes_next t s q (ToHost.Response number verdict) others e x = tt
   comes_next t s q (ToHost.Data parts) others e (inl x) =
       let same : x.1.parts ≡ parts = data_is x.1.parts parts x.1.is in
@@ -552,7 +553,15 @@ module _ (given : LowerLaws) (app : Application) (is : IsApplication app) (sizes
       data_is : (one other : InboundParts) → ToHost.Data other ≡ ToHost.Data one → one ≡ other
       data_is one other e = cc
   comes_next t s q (ToHost.Data parts) others e (inr x) =
-      inl (subst (λ (c : Session). IsAwaitedBy c parts) (sym s.simulates.host) (awaited app (view_of s.told) parts x.0 s.kept x.1))
+      inl (subst (λ (c : Session). IsAwaitedBy c parts) (sym s.simulates.host) (by_alike s.simulates.up.alike))
+    where
+      data_is : (one other : InboundParts) (rest more : List ToHost) → ToHost.Data one ∷ rest ≡ ToHost.Data other ∷ more → one ≡ other
+      data_is one other rest more same = cc
+
+      by_alike : SaysAlike s.told.host s.told.up s.simulates.up.said → IsAwaitedBy s.told.host parts
+      by_alike (SaysAlike.same is_same) = awaited app (view_of s.told) parts x.0 s.kept (sym is_same ∙ x.1)
+      by_alike (SaysAlike.checked number one other more pends skips one_kept other_kept is_told is_said) =
+          subst (IsAwaitedBy s.told.host) (data_is (buffer_data s.told.host.size other) parts more x.0 (sym is_said ∙ x.1)) (record { form = sym (ap form_awaited pends); size = refl })
 
   pub queue_is_kept : QueueIsKept app lu IsQueued
   queue_is_kept = record {
@@ -569,7 +578,7 @@ module _ (given : LowerLaws) (app : Application) (is : IsApplication app) (sizes
       queued = leads.goes_on move t s x q.queued rules typed;
     };
     comes_up = λ t s x q message others e.
-        comes_next t s q message others e (subst (λ (up : List ToHost). AddsSecondKeys s.told.host.turn s.told.host.pending s.told.up up) e s.simulates.up);
+        comes_next t s q message others e (subst (λ (up : List ToHost). AddsSecondKeys s.told.host.turn s.told.host.pending s.simulates.up.said up) e s.simulates.up.up);
   }
 
 -- The theorem, if the leads are kept.

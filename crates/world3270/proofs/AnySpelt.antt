@@ -19,7 +19,7 @@ use Rattle.host_core.specs.Questions.{act_by, answered_on, panel_for}
 use Rattle.host_core.specs.Session.{Session}
 use Rattle.host_core.specs.Takes.{HostStep, took as host_took}
 use Rattle.host_core.specs.declared.question.Answer.{Answer as ApplicationAnswer}
-use Rattle.world3270.specs.statement.EveryTerminal.{IsByTheRules, Move, LinkWithReport, came_down, came_up, moved, told_after, told_if}
+use Rattle.world3270.specs.statement.EveryTerminal.{IsByTheRules, Move, LinkWithReport, came_down, came_up, is_pa, moved, told_after, told_if}
 use Rattle.world3270.specs.refinement.LowerLaws.{LowerLaws}
 use Rattle.world3270.specs.model.Link.{Link, host_left_if, host_sent, sent, term_left_if, term_stepped}
 use Rattle.world3270.specs.model.Enabled.{is_queued}
@@ -158,7 +158,11 @@ NoteIsSendable (ToTerminal.ReadBuffer number) told = ⊤
 
 told_sendable : (message : ToTerminal) (told now : Display) → IsSendable told.screen → IsSendable now.screen → NoteIsSendable message told → IsSendable (told_after message told now).screen
 told_sendable (ToTerminal.Paint number wanted over) told now was is noted = is
-told_sendable (ToTerminal.ReadBuffer number) told now was is noted = record { few = is.few; cursor = is.cursor; aid = was.aid; storable = is.storable }
+told_sendable (ToTerminal.ReadBuffer number) told now was is noted = by_key (is_pa told.screen.aid)
+  where
+    by_key : (pa : Bool) → IsSendable (if pa then record now { screen = record now.screen { aid = told.screen.aid } } else told).screen
+    by_key true = record { few = is.few; cursor = is.cursor; aid = was.aid; storable = is.storable }
+    by_key false = was
 told_sendable (ToTerminal.Note number command) told now was is noted = noted
 told_sendable (ToTerminal.TalksDown saying) told now was is noted = was
 

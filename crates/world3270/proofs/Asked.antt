@@ -22,10 +22,11 @@ use Rattle.panels.specs.Values.{set_if, value_of}
 use Rattle.panels.specs.declared.extent.Extent.{Extent}
 use Rattle.panels.specs.declared.panel.Field.{Field as PanelField}
 use Rattle.shadow.specs.Queries.{belief_with}
-use Rattle.shadow.specs.Belief.{Fact, Belief, Shadow, fields_of}
+use Rattle.shadow.specs.Belief.{Fact, Belief, Shadow}
 use Rattle.shadow.specs.Meets.{FieldMeets, Holds, ListsFields, Meets, told}
 use Rattle.shadow.specs.Pairs.{Pairwise}
-use Rattle.host_core.specs.Acts.{Act, Decision, belief_of, decision_on, is_in_doubt, is_settled_fact, learned, text_known, when_shown}
+use Rattle.shadow.specs.Settled.{IsSettled, IsSettledField, is_settled_fact}
+use Rattle.host_core.specs.Acts.{Act, Decision, belief_of, decision_on, is_in_doubt, learned, text_known, when_shown}
 use Rattle.host_core.specs.Application.{Application, IsApplication, message_place}
 use Rattle.host_core.specs.Questions.{is_ask, is_asking, is_screen_empty, key_of, panel_asked, question_in, question_on}
 use Rattle.host_core.specs.Takes.{is_verified}
@@ -40,7 +41,7 @@ use Rattle.world3270.specs.model.Steps.{run}
 use Rattle.world3270.specs.model.Link.{Link}
 use Rattle.world3270.specs.statement.Observation.{TerminalSeen, end_seen}
 use Rattle.world3270.specs.statement.Showing.{ShowsItsPanel}
-use Rattle.world3270.specs.refinement.Invariant.{ConnectionInvariant, Decides, IsNew, IsTextKnown, IsKnownIfRead, ShownIn, local_state_of}
+use Rattle.world3270.specs.refinement.Invariant.{ConnectionInvariant, Decides, IsNew, IsKnownIfRead, ShownIn, local_state_of}
 use Rattle.world3270.specs.model.Terminal.{bound_to}
 use Rattle.world3270.specs.refinement.Phases.{SessionPhase}
 use Rattle.world3270.specs.statement.TurnReasons.{IsCursorFor, IsOccasion}
@@ -180,7 +181,7 @@ sure_told shadow (first ∷ panel) (suc index) field sure at =
     sure_told shadow panel index field (neither (is_in_doubt shadow first) (list_any (is_in_doubt shadow) panel) sure).1 at
 
 -- a listed field is believed, with a settled fact
-pub belief_there : (place : ℕ) (beliefs : List Belief) (seen : List Field) (index : ℕ) (field : Field) → Pairwise FieldMeets beliefs seen → All IsTextKnown beliefs
+pub belief_there : (place : ℕ) (beliefs : List Belief) (seen : List Field) (index : ℕ) (field : Field) → Pairwise FieldMeets beliefs seen → All IsSettledField beliefs
     → index < length seen → slice_index_or seen index field ≡ field → field.place ≡ place → IsTextOf (belief_with place beliefs)
 belief_there place [] [] index field meets settled below at is = absurd (omega arith)
 belief_there place [] (seen ∷ more) index field meets settled below at is = absurd meets
@@ -188,15 +189,15 @@ belief_there place (belief ∷ beliefs) [] index field meets settled below at is
 belief_there place (belief ∷ beliefs) (seen ∷ more) zero field meets settled below at is =
     let same : belief.place ≡ place = sym meets.0.same_place ∙ ap (λ (f : Field). f.place) at ∙ is in
     subst (λ (b : Bool). IsTextOf (if b then Some belief else belief_with place beliefs)) (sym (eq-eqb belief.place place same))
-    (settled_told belief.fact (All-head IsTextKnown belief beliefs settled))
+    (settled_told belief.fact (All-head IsSettledField belief beliefs settled))
 belief_there place (belief ∷ beliefs) (seen ∷ more) (suc index) field meets settled below at is =
-    by_test (belief.place == place) (belief_there place beliefs more index field meets.1 (All-tail IsTextKnown belief beliefs settled) (omega (arith, below)) at is)
+    by_test (belief.place == place) (belief_there place beliefs more index field meets.1 (All-tail IsSettledField belief beliefs settled) (omega (arith, below)) at is)
   where
     by_test : (b : Bool) → IsTextOf (belief_with place beliefs) → IsTextOf (if b then Some belief else belief_with place beliefs)
-    by_test true behind = settled_told belief.fact (All-head IsTextKnown belief beliefs settled)
+    by_test true behind = settled_told belief.fact (All-head IsSettledField belief beliefs settled)
     by_test false behind = behind
 
-settled_on : (shadow : Shadow) (screen : Screen) (field : PanelField) → ListsFields shadow screen → Meets shadow screen → All IsTextKnown (fields_of shadow) → IsAmong screen.cells field.extent
+settled_on : (shadow : Shadow) (screen : Screen) (field : PanelField) → ListsFields shadow screen → Meets shadow screen → IsSettled shadow → IsAmong screen.cells field.extent
     → IsTextOf (belief_of shadow field)
 settled_on shadow screen field lists meets settled there = by_belief shadow lists meets settled
   where
@@ -206,7 +207,7 @@ settled_on shadow screen field lists meets settled there = by_belief shadow list
     formatted : IsFormattedScreen screen.cells
     formatted none = absurd (let below = listed.1.1 in let empty = ap (λ (all : List Field). length all) none in omega (arith, below, empty))
 
-    by_belief : (shadow : Shadow) → ListsFields shadow screen → Meets shadow screen → All IsTextKnown (fields_of shadow) → IsTextOf (belief_of shadow field)
+    by_belief : (shadow : Shadow) → ListsFields shadow screen → Meets shadow screen → IsSettled shadow → IsTextOf (belief_of shadow field)
     by_belief Shadow.NothingKnown lists meets settled = absurd (lists formatted)
     by_belief (Shadow.Unformatted known) lists meets settled = absurd (lists formatted)
     by_belief (Shadow.Formatted beliefs) lists meets settled =
@@ -214,7 +215,7 @@ settled_on shadow screen field lists meets settled there = by_belief shadow list
 
 -- where the application is asked, nothing is in doubt, or the screen was read
 pub asked_sure : (app : Application) (conn : Session) (reason : TurnReason) → is_screen_empty (key_of reason) ≡ false → IsKnownIfRead reason conn.shadow → is_ask (decision_on app conn reason) ≡ true
-    → (list_any (is_in_doubt conn.shadow) (app.fields conn.panel) ≡ false) ⊎ All IsTextKnown (fields_of conn.shadow)
+    → (list_any (is_in_doubt conn.shadow) (app.fields conn.panel) ≡ false) ⊎ IsSettled conn.shadow
 asked_sure app conn turn_reasons.Agreement shown_now settled asks = absurd (cc)
 asked_sure app conn turn_reasons.Refusal shown_now settled asks = absurd (cc)
 asked_sure app conn (turn_reasons.Key aid true) shown_now settled asks = inr settled
@@ -380,14 +381,14 @@ question_if app session conn lu empty =
     record (question_on app session conn lu) { values = (if empty then [] else learned conn.shadow (app.fields conn.panel) []) }
 
 text_of : (shadow : Shadow) (screen : Screen) (panel : List PanelField) (index : ℕ) (field : PanelField) → ListsFields shadow screen → Meets shadow screen → IsAmong screen.cells field.extent
-    → slice_get panel index ≡ Some field → (list_any (is_in_doubt shadow) panel ≡ false) ⊎ All IsTextKnown (fields_of shadow) → IsTextOf (belief_of shadow field)
+    → slice_get panel index ≡ Some field → (list_any (is_in_doubt shadow) panel ≡ false) ⊎ IsSettled shadow → IsTextOf (belief_of shadow field)
 text_of shadow screen panel index field lists meets among at (inl sure) = sure_told shadow panel index field sure at
 text_of shadow screen panel index field lists meets among at (inr settled) = settled_on shadow screen field lists meets settled among
 
 -- when the host decides, each field of the panel is on the screen, with a text that is known unless it is in doubt
 pub field_there : (app : Application) → IsApplication app → ShowsItsFields app → (link : Link) → ConnectionInvariant app (view_of link) → Decides (local_state_of (view_of link)) link.host.shadow
     → ShowsItsPanel app link.term.waits link.host link.term.display.before_restored link.term.display.last_restored → (link.term.display.screen.aid ≡ Clear → ⊥)
-    → (index : ℕ) (field : PanelField) → slice_get (app.fields link.host.panel) index ≡ Some field → (list_any (is_in_doubt link.host.shadow) (app.fields link.host.panel) ≡ false) ⊎ All IsTextKnown (fields_of link.host.shadow)
+    → (index : ℕ) (field : PanelField) → slice_get (app.fields link.host.panel) index ≡ Some field → (list_any (is_in_doubt link.host.shadow) (app.fields link.host.panel) ≡ false) ⊎ IsSettled link.host.shadow
     → (text : List ℕ) × (text_known link.host.shadow field ≡ Some text) × IsFieldShown field text link.term.display.screen
 field_there app is shows link k f shown uncleared index field at sure =
     let same : SamePlaces link.term.display.last_restored.cells link.term.display.screen.cells = (k.unreturned uncleared).places in

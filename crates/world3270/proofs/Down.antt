@@ -62,7 +62,7 @@ use Rattle.world3270.specs.refinement.Unreturned.{UnmodifiedIsKept}
 use Rattle.world3270.specs.model.Link.{Link, sent}
 use Rattle.world3270.specs.refinement.Phases.{Kind, SessionPhase, LinkPhase, IsInFlight, IsAt, IsHostTalk, IsTermTalk, talk_in, turn_at, pending_at, down_at, up_at}
 use Rattle.world3270.specs.statement.TurnReasons.{IsOpenBy, IsOpenFor, IsCleared}
-use Rattle.world3270.specs.refinement.Invariant.{local_state_of, once_taken, FactsAreExact, MayBeGranted, IsPainted, Operates, Sees, IsRead, Fact, ConnectionInvariant, may_differ_at, ShownAt}
+use Rattle.world3270.specs.refinement.Invariant.{local_state_of, once_taken, counts, FactsAreExact, MayBeGranted, IsPainted, Operates, Sees, Decides, IsRead, Fact, ConnectionInvariant, may_differ_at, ShownAt}
 use Rattle.world3270.specs.model.Terminal.{TermEnd, TermStep, with_talk, is_bound, bound_to, once_bound, paint_came, note_came, read_came, talked, took}
 use Rattle.world3270.specs.refinement.View.{view_of}
 use Rattle.world3270.proofs.Queues.{more}
@@ -258,6 +258,7 @@ paints_on given app is link rest k lu number command wants over at f asked left 
       fact = record {
         shown = new;
         lock = λ wrong. absurd (cc);
+        uncleared = f.uncleared;
         exact = exact;
         meets = subst (λ s. Meets s new) is_taken (given.belief.taken over wants screen same fits meets);
         closed = λ relies. subst NothingIsOpen is_taken (given.belief.paint_opens over wants screen same fits f.paintable.showable.kept meets (subst KnownIsExact (sym f.over_is) k.exact.known) (f.closed relies));
@@ -296,8 +297,9 @@ pub reads_on : (app : Application) (link : Link) (rest : List ToTerminal) (k : C
     → UnmodifiedIsKept erased link.term.display.last_restored.cells screen.cells → ProtectedIsAsLeft (message_place link.term.display.size) link.term.display.last_restored.cells screen.cells
     → IsOkAnd (heard (length screen.cells) link.host.shadow (buffer_data link.host.size screen)) (Believed false (record screen { aid = link.term.display.screen.aid }))
     → rule_break link.host.shadow screen.cells ≡ None
+    → (counts (local_state_of (view_of link)) ≡ false → Decides (local_state_of (view_of (term_view (read_of screen erased link.term) rest link))) link.host.shadow)
     → ConnectionInvariant app (view_of (term_view (read_of screen erased link.term) rest link))
-reads_on app link rest k same lu number at f shown left screen erased whole on unreturned as_left will unbroken =
+reads_on app link rest k same lu number at f shown left screen erased whole on unreturned as_left will unbroken known =
     let parts : InboundParts = buffer_data link.term.display.size screen in
     record {
       whole = whole;
@@ -318,6 +320,7 @@ reads_on app link rest k same lu number at f shown left screen erased whole on u
         says = ap (λ (size : ScreenSize). buffer_data size screen) same;
         will = subst (λ (n : ℕ). IsOkAnd (heard n link.host.shadow (buffer_data link.host.size screen)) (Believed false (record screen { aid = link.term.display.screen.aid }))) (whole ∙ ap (λ (s : ScreenSize). cells_in s) same) will;
         unbroken = unbroken;
+        known = known;
       };
       shown = shown;
     }
@@ -330,7 +333,8 @@ takes_read given app link rest k same lu number at f shown left =
     (record {
       kept = reads_on app link rest k same lu number at f shown left link.term.display.screen link.term.display.erased k.whole k.cursor (k.unreturned f.not_cleared) (k.as_left f.not_cleared)
           (given.belief.reads link.host.size link.host.shadow link.term.display.screen f.decides.sees.meets)
-          (given.belief.unbroken false link.host.shadow link.term.display.screen link.term.display.screen f.decides.sees.meets (given.keys.at_first link.term.display.screen.cells));
+          (given.belief.unbroken false link.host.shadow link.term.display.screen link.term.display.screen f.decides.sees.meets (given.keys.at_first link.term.display.screen.cells))
+          (λ skipped. f.decides);
       open_end = refl;
       positive = refl;
     })
@@ -486,6 +490,7 @@ module _ (given : LowerLaws) (app : Application) (is : IsApplication app) (link 
       record {
         shown = after_command command shown;
         lock = f.lock;
+        uncleared = f.uncleared;
         exact = record {
           known = subst (λ n. KnownIsExact (taken n command link.host.shadow)) whole both.0;
           protected = subst (λ n. ProtectedIsExact (taken n command link.host.shadow)) whole both.1;

@@ -56,7 +56,8 @@ use Rattle.world3270.proofs.ShownPanels.{shown_now}
 use Rattle.world3270.proofs.SimulatedDown.{noted_still, painted_still, read_still, talked_still}
 use Rattle.world3270.proofs.SimulatedHost.{acts_still, answers_still, hears_still, loses_still, notes_still}
 use Rattle.world3270.proofs.SimulatedKeys.{operates_still}
-use Rattle.world3270.proofs.SecondKeys.{AddsSecondKeys}
+use Rattle.world3270.proofs.Returning.{nothing_settled}
+use Rattle.world3270.proofs.SecondKeys.{AddsSecondKeys, SaysAlike}
 use Rattle.world3270.proofs.Simulation.{Simulated, since_same}
 use Rattle.world3270.proofs.Unreturned.{all_as_left, all_kept}
 use Rattle.world3270.proofs.Worlds.{some_cells}
@@ -130,6 +131,8 @@ module _ (given : LowerLaws) (app : Application) (is : IsApplication app) (lu : 
     agreed = ap agreed_lu b.agreed;
     any = ap may_have_changed b.any;
     unsure = refl;
+    marks = b.returns;
+    returning = λ unread. nothing_settled;
     display = sym (ap (λ (d : Display). record d { keyboard = blank.keyboard }) (b.told ∙ b.blank));
     waits = b.waits;
     host_here = b.host_here;
@@ -139,7 +142,7 @@ module _ (given : LowerLaws) (app : Application) (is : IsApplication app) (lu : 
       lost = refl;
       down = refl;
       talk = refl;
-      up = subst (λ (up : List ToHost). AddsSecondKeys host.turn host.pending [] up) (sym b.nothing_up) refl;
+      up = record { said = []; alike = SaysAlike.same refl; up = subst (λ (up : List ToHost). AddsSecondKeys host.turn host.pending [] up) (sym b.nothing_up) refl };
       since = since_same given blank t.link.term.display b.blank
           (subst (λ (d : Display). d.screen.cursor < length d.screen.cells) (sym b.blank) (subst (λ (size : ℕ). 0 < size) (sym (length-replicate (cells_in app.begins) (Char 0))) (some_cells app.begins is.begins)));
     };
@@ -150,7 +153,7 @@ module _ (given : LowerLaws) (app : Application) (is : IsApplication app) (lu : 
 module _ (given : LowerLaws) (app : Application) (is : IsApplication app) (lu : List ℕ) where
   up_still : (t : LinkWithReport) → Simulated app lu t → (pool : List Entry) → IsSound pool → (up : List ToHost) → t.link.up ≡ up → Simulated app lu (came_up pool up t)
   up_still t s pool sound [] is_up = s
-  up_still t s pool sound (message ∷ rest) is_up = hears_still given app lu t s pool sound message rest is_up
+  up_still t s pool sound (message ∷ rest) is_up = hears_still given app is lu t s pool sound message rest is_up
 
   down_still : (t : LinkWithReport) → Simulated app lu t → (down : List ToTerminal) → t.link.down ≡ down → Simulated app lu (came_down down t)
   down_still t s [] is_down = s

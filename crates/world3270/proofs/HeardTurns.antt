@@ -14,7 +14,7 @@ use Rattle.shadow.specs.declared.fault.HeardFault.{HeardFault}
 use Rattle.host_core.specs.Application.{Application}
 use Rattle.host_core.specs.Messages.{ToHost, Verdict}
 use Rattle.host_core.specs.Session.{Session, Pending, is_agreed}
-use Rattle.host_core.specs.Takes.{Answers, HostStep, believed, hears, once_read, took}
+use Rattle.host_core.specs.Takes.{Answers, HostStep, believed, buffer_heard, hears, is_read_believed, once_read, only_read, quiet, took}
 use Rattle.host_core.specs.declared.turn.Turn.TheVariants as whose
 use Rattle.host_core.specs.declared.turn_reason.TurnReason.{TurnReason}
 use Rattle.host_core.specs.declared.turn_reason.TurnReason.TheVariants as turn_reasons
@@ -25,7 +25,7 @@ use Rattle.world3270.specs.refinement.Invariant.{Fact, ConnectionInvariant, Size
 use Rattle.world3270.specs.refinement.View.{view_of}
 use Rattle.world3270.proofs.Queues.{front, nothing}
 use Rattle.world3270.proofs.SecondKeys.{pending_after, turn_after, unless_read}
-use Rattle.world3270.proofs.Up.{IsKeyTime, buffer_took, key_took, response_took, unbroken_read}
+use Rattle.world3270.proofs.Up.{IsKeyTime, IsUncleared, buffer_counts, buffer_skipped, buffer_took, is_uncleared, key_took, response_took, unbroken_read}
 use Rattle.world3270.proofs.TalkStates.{agreed_there}
 
 -- whether the message is data
@@ -73,9 +73,9 @@ key_goes P pool conn parts agrees turns time form some ok =
       pressed = λ of_data first. absurd (let both : turn_reasons.Key parts.aid false ≡ turn_reasons.Agreement = sym (ap (λ (s : HostStep). s.conn.turn_reason) is ∙ then_this.3) ∙ first in cc);
     }
 
-response_goes : (pool : Answers) (conn : Session) (kind : Kind) (number : ℕ) (command : CommandParts) → is_agreed conn.talk.state ≡ true → conn.pending ≡ awaiting kind number command → GoesOn pool conn (ToHost.Response number Verdict.Positive)
-response_goes pool conn kind number command agrees pends =
-    let is = response_took pool conn kind number command agrees pends in
+response_goes : (pool : Answers) (conn : Session) (kind : Kind) (number : ℕ) (command : CommandParts) → is_agreed conn.talk.state ≡ true → conn.pending ≡ awaiting kind number command → IsUncleared kind conn.unheard → GoesOn pool conn (ToHost.Response number Verdict.Positive)
+response_goes pool conn kind number command agrees pends may =
+    let is = response_took pool conn kind number command agrees pends may in
     record { turn = ap (λ (s : HostStep). s.conn.turn) is; pending = ap (λ (s : HostStep). s.conn.pending) is; talk = ap (λ (s : HostStep). s.conn.talk) is; unheard = ap (λ (s : HostStep). s.conn.unheard) is; no_talk = refl; pressed = λ of_data. absurd (cc) }
 
 -- a screen is read after a key alone
@@ -86,18 +86,30 @@ read_later turn_reasons.Refusal later first = absurd (cc)
 
 buffer_goes : (P : Shadow → Type 0) (pool : Answers) (conn : Session) (size : ScreenSize) (screen : Screen) (number : ℕ) → is_agreed conn.talk.state ≡ true → conn.pending ≡ Pending.Reading number
     → rule_break conn.shadow screen.cells ≡ None → (conn.turn_reason ≡ turn_reasons.Agreement → ⊥) → IsOkAnd (hears (buffer_data size screen) conn) P → GoesOn pool conn (ToHost.Data (buffer_data size screen))
-buffer_goes P pool conn size screen number agrees pends unbroken later ok =
-    let read : InboundParts = buffer_data size screen in
-    let is = buffer_took pool conn size screen number agrees pends (unbroken_read conn size screen unbroken) in
-    let then_this = believed_turn P (once_read conn.turn_reason) Pending.Nothing read.cursor conn (hears read conn) ok in
-    record {
-      turn = ap (λ (s : HostStep). s.conn.turn) is ∙ then_this.0;
-      pending = ap (λ (s : HostStep). s.conn.pending) is ∙ then_this.1 ∙ sym (ap unless_read pends);
-      talk = ap (λ (s : HostStep). s.conn.talk) is ∙ then_this.2;
-      unheard = ap (λ (s : HostStep). s.conn.unheard) is ∙ then_this.4;
+buffer_goes P pool conn size screen number agrees pends unbroken later ok = by_test (is_read_believed conn) refl
+  where
+    read : InboundParts
+    read = buffer_data size screen
+
+    is : took pool conn (ToHost.Data read) ≡ buffer_heard read conn
+    is = buffer_took pool conn size screen number agrees pends (unbroken_read conn size screen unbroken)
+
+    by_step : (step : HostStep) → buffer_heard read conn ≡ step → step.conn.turn ≡ whose.Host → step.conn.pending ≡ Pending.Nothing → step.conn.talk ≡ conn.talk → step.conn.turn_reason ≡ once_read conn.turn_reason → step.conn.unheard ≡ conn.unheard
+        → GoesOn pool conn (ToHost.Data read)
+    by_step step heard_as turn pending talk reason unheard = record {
+      turn = ap (λ (s : HostStep). s.conn.turn) (is ∙ heard_as) ∙ turn;
+      pending = ap (λ (s : HostStep). s.conn.pending) (is ∙ heard_as) ∙ pending ∙ sym (ap unless_read pends);
+      talk = ap (λ (s : HostStep). s.conn.talk) (is ∙ heard_as) ∙ talk;
+      unheard = ap (λ (s : HostStep). s.conn.unheard) (is ∙ heard_as) ∙ unheard;
       no_talk = refl;
-      pressed = λ of_data first. read_later conn.turn_reason later (sym (ap (λ (s : HostStep). s.conn.turn_reason) is ∙ then_this.3) ∙ first);
+      pressed = λ of_data first. read_later conn.turn_reason later (sym (ap (λ (s : HostStep). s.conn.turn_reason) (is ∙ heard_as) ∙ reason) ∙ first);
     }
+
+    by_test : (b : Bool) → is_read_believed conn ≡ b → GoesOn pool conn (ToHost.Data read)
+    by_test true counts =
+        let then_this = believed_turn P (once_read conn.turn_reason) Pending.Nothing read.cursor conn (hears read conn) ok in
+        by_step (believed (once_read conn.turn_reason) Pending.Nothing read.cursor conn (hears read conn)) (buffer_counts read conn counts) then_this.0 then_this.1 then_this.2 then_this.3 then_this.4
+    by_test false skipped = by_step (quiet (only_read conn)) (buffer_skipped read conn skipped) refl refl refl refl refl
 
 pub goes_on : LowerLaws → (app : Application) (pool : Answers) (link : Link) (message : ToHost) (rest : List ToHost) → link.up ≡ message ∷ rest → ConnectionInvariant app (view_of link) → is_agreed link.host.talk.state ≡ true → GoesOn pool link.host message
 goes_on given app pool link message rest e k agrees = by_moment k.moment k.sizes k.at k.fact
@@ -119,13 +131,13 @@ goes_on given app pool link message rest e k agrees = by_moment k.moment k.sizes
         (buffer_goes (Believed false screen) pool link.host link.host.size said number agrees at.pending f.unbroken f.not_first f.will)
     by_serving lu (SessionPhase.DecidingNoteAnswered number command) s at f =
         let first = front link.lost link.up message rest _ [] e at.goes_up in
-        as_it (ToHost.Response number Verdict.Positive) first.0 (response_goes pool link.host Kind.ANote number command agrees at.pending)
+        as_it (ToHost.Response number Verdict.Positive) first.0 (response_goes pool link.host Kind.ANote number command agrees at.pending tt)
     by_serving lu (SessionPhase.AwaitingWriteResponse kind number command) s at f =
         let first = front link.lost link.up message rest _ [] e at.goes_up in
-        as_it (ToHost.Response number Verdict.Positive) first.0 (response_goes pool link.host kind number command agrees at.pending)
+        as_it (ToHost.Response number Verdict.Positive) first.0 (response_goes pool link.host kind number command agrees at.pending (is_uncleared kind link.host.unheard f.uncleared))
     by_serving lu (SessionPhase.KeySentAfterResponse kind number command parts) s at f =
         let first = front link.lost link.up message rest _ _ e at.goes_up in
-        as_it (ToHost.Response number Verdict.Positive) first.0 (response_goes pool link.host kind number command agrees at.pending)
+        as_it (ToHost.Response number Verdict.Positive) first.0 (response_goes pool link.host kind number command agrees at.pending (is_uncleared kind link.host.unheard f.0.uncleared))
     by_serving lu (SessionPhase.KeySent parts) s at f =
         let first = front link.lost link.up message rest _ [] e at.goes_up in
         as_it (ToHost.Data parts) first.0 (key_goes _ pool link.host parts agrees at.turn (IsKeyTime.nothing_waits at.pending) f.0.form (λ none. f.0.some (sym f.0.pressed ∙ none)) f.1)

@@ -1,9 +1,10 @@
 -- What a host makes of an item is what it makes of the message as which it reads the item.
-use Rattle.std.proofs.Common.{◌≡◌, ◌<◌, ◌≤◌, ◌/◌, ◌%◌, ◌^◌, ◌&&◌, inl, inr, ℕ, Bool, true, false, List, [], ◌∷◌, ◌++◌, length, Some, Ok, refl, ap, sym, subst, ◌∙◌, arith, if◌then◌else◌}
+use Rattle.std.proofs.Common.{◌≡◌, ◌<◌, ◌≤◌, ◌/◌, ◌%◌, ◌^◌, ◌&&◌, inl, inr, ℕ, Bool, true, false, List, [], ◌∷◌, ◌++◌, length, Option, Some, None, Ok, refl, ap, sym, subst, ◌∙◌, arith, if◌then◌else◌}
 use Rattle.codes3270.specs.Size.{ScreenSize, cells_in}
 use Rattle.codes3270.specs.Aid.{aid_of}
 use Rattle.codes3270.specs.Storable.{is_storable}
 use Rattle.codes3270.specs.declared.attention.Aid.{Aid}
+use Rattle.codes3270.specs.declared.attention.Aid.TheVariants.{NoAid, Enter, Clear, Pf, Pa}
 use Rattle.datastream.specs.Grammar.{set_buffer_address, start_field}
 use Rattle.datastream.specs.InboundText.{AreParts, InboundParts, IsCellPart, IsInbound, IsNoInbound, IsWhole, stands_alone}
 use Rattle.datastream.specs.InboundText.IsInbound.{alone, long}
@@ -14,6 +15,8 @@ use Rattle.datastream.specs.declared.inbound_part.Part.{Part}
 use Rattle.datastream.specs.declared.inbound_part.Part.TheVariants.{At, Char, Attr}
 use Rattle.datastream.specs.Laws.{OneInbound}
 use Rattle.datastream.proofs.InboundData.{first_inbound_fault}
+use Rattle.shadow.specs.Belief.{Shadow}
+use Rattle.shadow.specs.Heard.{heard, heard_form, heard_short}
 use Rattle.telnet_wire.specs.Items.{WireItem}
 use Rattle.tn3270e_msg.specs.Header.{Begins, negative, spelling}
 use Rattle.tn3270e_msg.specs.Laws.{OneHeader, FaultIsNoHeader}
@@ -29,7 +32,9 @@ use Rattle.host_core.specs.Items.{TakesData, IsNoSecondKey, IsOther, TakesRecord
 use Rattle.host_core.specs.Messages.{ToHost, Verdict}
 use Rattle.host_core.specs.Session.{Session, Pending, is_agreed}
 use Rattle.host_core.specs.declared.turn.Turn.{Turn}
-use Rattle.host_core.specs.Takes.{Answers, HostStep, buffer_came, closed_by, form_awaited, data_came, may_have_changed, out_of_turn, response_came, once_agreed, second_key, second_key_data, talked, took}
+use Rattle.host_core.specs.declared.turn_reason.TurnReason.TheVariants as turn_reasons
+use Rattle.host_core.specs.declared.unheard.Unheard.TheVariants as unheards
+use Rattle.host_core.specs.Takes.{Answers, HostStep, believed, buffer_came, clear_came, closed_by, dropping, form_awaited, data_came, hears, is_unread, key_came, may_have_changed, out_of_turn, response_came, once_agreed, second_key, second_key_data, talked, took}
 use Rattle.world3270.specs.statement.Forms.{IsAwaitedBy}
 use Rattle.world3270.specs.refinement.Readings.{HasNoLeadingText, IsReadAs, IsSecondKeyIn, MayBeSent}
 use Rattle.world3270.specs.refinement.Represents.{OutcomeIs, RepresentsUp}
@@ -157,14 +162,52 @@ both_true : (one other : Bool) → (one && other) ≡ true → (one ≡ true) ×
 both_true true other is = (refl, is)
 both_true false other is = absurd (cc)
 
--- the host drops it by its AID alone
-is_dropped : (parts : InboundParts) (conn : Session) → may_have_changed conn.unheard ≡ true → parts.form ≡ Modified → out_of_turn parts conn ≡ second_key parts.aid conn.pending conn
+-- Clear is sent without fields
+clear_alone : (parts : InboundParts) (body : List ℕ) → IsInbound parts body → parts.form ≡ Modified → parts.aid ≡ Clear → parts.cursor ≡ None
+clear_alone parts body (alone byte is_alone aid none nothing encoded) form clear = none
+clear_alone parts body (long byte high low cursor text is_long aid at address are whole encoded) form clear =
+    absurd (let wrong : true ≡ false = sym (ap (λ (a : Aid). stands_alone Modified a) clear) ∙ sym (ap (λ (f : Form). stands_alone f parts.aid) form) ∙ is_long in cc)
+
+clear_heard : (size : ℕ) (shadow : Shadow) (parts : InboundParts) → parts.form ≡ Modified → parts.aid ≡ Clear → heard size shadow parts ≡ Ok (heard_short size Clear shadow)
+clear_heard size shadow parts form clear = ap (λ (f : Form). heard_form f size shadow parts.aid parts.parts) form ∙ ap (λ (a : Aid). heard_form Modified size shadow a parts.parts) clear
+
+clear_came_so : (parts : InboundParts) (body : List ℕ) (conn : Session) → IsInbound parts body → parts.form ≡ Modified → parts.aid ≡ Clear → key_came parts Clear conn ≡ believed (turn_reasons.Key Clear false) conn.pending None conn (Ok (heard_short (cells_in conn.size) Clear conn.shadow))
+clear_came_so parts body conn is form clear =
+    ap (λ (cursor : Option ℕ). believed (turn_reasons.Key Clear false) conn.pending cursor conn (hears parts conn)) (clear_alone parts body is form clear)
+    ∙ ap (believed (turn_reasons.Key Clear false) conn.pending None conn) (clear_heard (cells_in conn.size) conn.shadow parts form clear)
+
+-- so the host makes the same of two readings of a second key's data
+same_second_key : (one other : InboundParts) (body : List ℕ) (pending : Pending) (conn : Session) → IsInbound one body → IsInbound other body → one.form ≡ Modified → other.form ≡ Modified
+    → second_key one one.aid pending conn ≡ second_key other other.aid pending conn
+same_second_key one other body pending conn is is_too form form_too =
+    by_aid one.aid refl (sym (one_aid one other body is is_too)) ∙ ap (λ (aid : Aid). second_key other aid pending conn) (one_aid one other body is is_too)
+  where
+    counts : one.aid ≡ Clear → other.aid ≡ Clear → clear_came one conn ≡ clear_came other conn
+    counts clear clear_too =
+        ap (λ (step : HostStep). if is_unread conn.turn_reason then step else dropping Clear (record conn { unheard = unheards.Clear }))
+        (clear_came_so one body conn is form clear ∙ sym (clear_came_so other body conn is_too form_too clear_too))
+
+    by_pending : (pending : Pending) → one.aid ≡ Clear → other.aid ≡ Clear → second_key one Clear pending conn ≡ second_key other Clear pending conn
+    by_pending Pending.Nothing clear clear_too = counts clear clear_too
+    by_pending (Pending.Writing number command) clear clear_too = refl
+    by_pending (Pending.Reading number) clear clear_too = counts clear clear_too
+    by_pending (Pending.Noting number command) clear clear_too = counts clear clear_too
+
+    by_aid : (aid : Aid) → one.aid ≡ aid → other.aid ≡ one.aid → second_key one aid pending conn ≡ second_key other aid pending conn
+    by_aid NoAid same same_too = refl
+    by_aid Enter same same_too = refl
+    by_aid Clear same same_too = by_pending pending same (same_too ∙ same)
+    by_aid (Pf key) same same_too = refl
+    by_aid (Pa key) same same_too = refl
+
+-- the host takes it as a second key's data
+is_dropped : (parts : InboundParts) (conn : Session) → may_have_changed conn.unheard ≡ true → parts.form ≡ Modified → out_of_turn parts conn ≡ second_key parts parts.aid conn.pending conn
 is_dropped parts conn changed form =
     ap (λ (b : Bool). if b then second_key_data parts parts.form conn else closed_by BadInbound conn) changed
     ∙ ap (λ (f : Form). second_key_data parts f conn) form
 
 second_key_came : (parts : InboundParts) (conn : Session) (turn : Turn) (pending : Pending) → (may_have_changed conn.unheard && is_paint_or_read pending) ≡ true → parts.form ≡ Modified
-    → data_came parts turn pending conn ≡ second_key parts.aid conn.pending conn
+    → data_came parts turn pending conn ≡ second_key parts parts.aid conn.pending conn
 second_key_came parts conn turn (Pending.Writing number command) may form = is_dropped parts conn (both_true (may_have_changed conn.unheard) true may).0 form
 second_key_came parts conn turn (Pending.Reading number) may form =
     ap (λ (f : Form). buffer_came parts f conn) form ∙ is_dropped parts conn (both_true (may_have_changed conn.unheard) true may).0 form
@@ -193,15 +236,15 @@ module _ (one_header : OneHeader) (fault_or_header : FaultIsNoHeader) (one_inbou
   awaited_is_taken conn body parts step awaited is (TakesData.no_data fault bad no_key e) =
       absurd (no_fault conn.size (form_awaited conn.pending) parts fault body awaited.form awaited.size is bad)
 
-  -- and a second key's data is dropped by its AID, in whatever form it is read
+  -- and a second key's data is taken alike, in whatever form it is read
   second_is_taken : (conn : Session) (body : List ℕ) (parts : InboundParts) (step : HostStep) → IsSecondKeyIn conn parts → IsInbound parts body → TakesData conn body step → step ≡ data_came parts conn.turn conn.pending conn
   second_is_taken conn body parts step second is (TakesData.hears read form size is_read e) =
       let modified = heard_as_awaited conn body parts read conn.pending refl second is form size is_read in
       e ∙ second_key_came read conn conn.turn conn.pending second.may_be modified
-      ∙ ap (λ (aid : Aid). second_key aid conn.pending conn) (one_aid read parts body is_read is)
+      ∙ same_second_key read parts body conn.pending conn is_read is modified second.form
       ∙ sym (second_key_came parts conn conn.turn conn.pending second.may_be second.form)
   second_is_taken conn body parts step second is (TakesData.is_second_key fault read bad may form size is_read e) =
-      e ∙ ap (λ (aid : Aid). second_key aid conn.pending conn) (one_aid read parts body is_read is)
+      e ∙ same_second_key read parts body conn.pending conn is_read is form second.form
       ∙ sym (second_key_came parts conn conn.turn conn.pending second.may_be second.form)
   second_is_taken conn body parts step second is (TakesData.no_data fault bad no_key e) =
       let large = second_key_size conn conn.pending in

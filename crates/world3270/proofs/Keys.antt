@@ -41,7 +41,7 @@ use Rattle.world3270.specs.model.Link.{Link, sent, term_stepped}
 use Rattle.world3270.specs.refinement.Phases.{SessionPhase, LinkPhase, IsInFlight, IsAt, turn_at, pending_at, served_down, served_up}
 use Rattle.world3270.specs.statement.TurnReasons.{IsCleared, IsHome, IsOpenBy}
 use Rattle.host_core.specs.declared.unheard.Unheard.{Unheard}
-use Rattle.world3270.specs.refinement.Invariant.{LocalState, local_state_of, once_taken, FactsAreExact, IfRelies, Operates, Sees, IsPressed, WillSee, Fact, ConnectionInvariant, Sizes, ShownAt}
+use Rattle.world3270.specs.refinement.Invariant.{LocalState, local_state_of, once_taken, FactsAreExact, IfRelies, Operates, Sees, IsPressed, WasShown, WillSee, Fact, ConnectionInvariant, Sizes, ShownAt}
 use Rattle.world3270.specs.model.Terminal.{Display, is_bound, bound_to, data_of, erases_if, outcome_of, key_came}
 use Rattle.world3270.specs.refinement.View.{View, view_of}
 use Rattle.world3270.proofs.Down.{ok_map}
@@ -319,7 +319,7 @@ module _ (given : LowerLaws) (app : Application) (link : Link) (k : ConnectionIn
     moment = LinkPhase.InSession lu from;
     sizes = record { host = k.sizes.host; screen = k.sizes.screen; same = λ steady. same };
     at = stays_at screen lock erased;
-    fact = typing.stay screen lock erased (record { shown = f.shown; lock = free; exact = f.exact; meets = f.meets; closed = f.closed; knows = f.knows; held = held; messages = f.messages; noted = f.noted });
+    fact = typing.stay screen lock erased (record { shown = f.shown; lock = free; uncleared = f.uncleared; exact = f.exact; meets = f.meets; closed = f.closed; knows = f.knows; held = held; messages = f.messages; noted = f.noted });
     shown = typing.shown screen;
   }
 
@@ -341,11 +341,16 @@ module _ (given : LowerLaws) (app : Application) (link : Link) (k : ConnectionIn
         sizes = record { host = k.sizes.host; screen = k.sizes.screen; same = λ steady. same };
         at = typing.at_to parts screen lock erased;
         fact = typing.press parts screen lock erased
-            (record { lock = waits; form = key_form v.size screen; size = key_size v.size screen ∙ same; pressed = key_aid v.size screen; cursor = key_cursor v.size screen; some = λ none. some (sym is ∙ none); home = λ clear. home (sym is ∙ clear) })
+            (record { lock = waits; uncleared = f.uncleared; form = key_form v.size screen; size = key_size v.size screen ∙ same; pressed = key_aid v.size screen; cursor = key_cursor v.size screen; some = λ none. some (sym is ∙ none); home = λ clear. home (sym is ∙ clear) })
             (will_see given v.host.unheard erased v.host.size v.size shadow f.shown screen aid is (whole ∙ ap (λ (s : ScreenSize). cells_in s) same) f.exact f.knows f.closed f.meets keeps)
             (takes_notes given v.host.size erased f.shown.cells screen.cells aid keeps f.messages);
         shown = typing.shown_to parts screen;
       }
+
+-- the screen on which he types meets the belief
+pub was_shown : (app : Application) (link : Link) (k : ConnectionInvariant app (view_of link)) → link.term.display.size ≡ link.host.size → (shadow : Shadow) → Operates shadow (local_state_of (view_of link)) → WasShown link.host.size shadow
+was_shown app link k same shadow f =
+    record { shown = f.shown; whole = sym f.held.same_length ∙ k.whole ∙ ap (λ (s : ScreenSize). cells_in s) same; messages = f.messages; meets = f.meets }
 
 -- ---- the moments at which he types
 
@@ -376,7 +381,7 @@ types_now given app link k free = by_moment k.moment k.sizes k.at k.fact k.shown
           typing = record {
             to = λ parts. SessionPhase.KeySentAfterResponse kind number command parts;
             stay = λ screen lock erased operates. operates;
-            press = λ parts screen lock erased pressed sees takes. (pressed, sees, takes, f.exact);
+            press = λ parts screen lock erased pressed sees takes. (pressed, sees, takes, f.exact, was_shown app link k (s.same refl) shadow f);
             at_to = λ parts screen lock erased. sends_at given app link k lu (SessionPhase.AwaitingWriteResponse kind number command) shadow at (s.same refl) f (SessionPhase.KeySentAfterResponse kind number command parts) parts screen lock erased refl refl refl refl;
             shown = λ screen. shown;
             shown_to = λ parts screen. shown;
@@ -393,7 +398,7 @@ types_now given app link k free = by_moment k.moment k.sizes k.at k.fact k.shown
           typing = record {
             to = λ parts. SessionPhase.KeySent parts;
             stay = λ screen lock erased operates. operates;
-            press = λ parts screen lock erased pressed sees takes. (pressed, sees, takes);
+            press = λ parts screen lock erased pressed sees takes. (pressed, sees, takes, was_shown app link k (s.same refl) link.host.shadow f);
             at_to = λ parts screen lock erased. sends_at given app link k lu SessionPhase.OperatorTyping link.host.shadow at (s.same refl) f (SessionPhase.KeySent parts) parts screen lock erased refl refl refl refl;
             shown = λ screen. shown;
             shown_to = λ parts screen. shown;

@@ -20,6 +20,7 @@ pub mod Keys
 pub mod RuleKeys
 pub mod SecondKeys
 pub mod HeardTurns
+pub mod Returning
 pub mod NotesHeld
 pub mod Simulation
 pub mod SimulatedKeys

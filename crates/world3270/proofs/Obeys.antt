@@ -24,7 +24,7 @@ use Rattle.world3270.specs.statement.Headline.{SentFields}
 use Rattle.world3270.specs.model.Link.{Link}
 use Rattle.world3270.specs.refinement.Phases.{Kind, NegotiationPhase, SessionPhase, LinkPhase, IsInFlight, IsAt, talk_in}
 use Rattle.world3270.specs.statement.TurnReasons.{IsOccasion, IsCursorFor, IsOpenBy, IsOpenFor}
-use Rattle.world3270.specs.refinement.Invariant.{LocalState, IsNew, Decides, local_state_of, once_taken, FactsAreExact, Sees, Fact, ConnectionInvariant, Sizes, IsKnownIfRead, ShownAt}
+use Rattle.world3270.specs.refinement.Invariant.{LocalState, IsNew, Decides, local_state_of, once_taken, FactsAreExact, Sees, WasNoted, Fact, ConnectionInvariant, Sizes, IsKnownIfRead, ShownAt}
 use Rattle.world3270.specs.model.Terminal.{took}
 use Rattle.world3270.specs.refinement.View.{view_of}
 use Rattle.world3270.proofs.Queues.{front, nothing}
@@ -112,9 +112,12 @@ obeys given app is link message rest e k = by_moment k.moment k.sizes k.at k.fac
         as_message app link rest (ToTerminal.Note number command) message first.0
         (takes_note given app is link rest k (s.same refl) lu number command (SessionPhase.KeyCrossingNote number command parts) (SessionPhase.KeyBeforeNoteResponse number command parts) at f.2.note f.2.takes
         (record { host_talk = λ talk is. is; turn = refl; pending = refl; up = refl }) first.1 (
-          record { lock = f.0.lock; form = f.0.form; size = f.0.size; pressed = f.0.pressed ∙ sym noted.aid; cursor = λ long. f.0.cursor (sym (ap is_short_aid noted.aid) ∙ long) ∙ ap (λ (n : ℕ). Some n) (sym noted.cursor); some = λ none. f.0.some (sym noted.aid ∙ none); home = λ clear. noted.cursor ∙ f.0.home (sym noted.aid ∙ clear) },
-          ok_map (Sees link.host.unheard link.host.size screen) (λ shadow. Sees link.host.unheard link.host.size (after_command command screen) (once_taken link.host.size command shadow)) (heard (cells_in link.host.size) link.host.shadow parts)
-              (λ shadow seen. sees_noted given link.host.unheard link.host.size command screen shadow f.2.note (whole_here given app is link rest k (s.same refl)) noted seen) f.1,
+          record { lock = f.0.lock; uncleared = f.0.uncleared; form = f.0.form; size = f.0.size; pressed = f.0.pressed ∙ sym noted.aid; cursor = λ long. f.0.cursor (sym (ap is_short_aid noted.aid) ∙ long) ∙ ap (λ (n : ℕ). Some n) (sym noted.cursor); some = λ none. f.0.some (sym noted.aid ∙ none); home = λ clear. noted.cursor ∙ f.0.home (sym noted.aid ∙ clear) },
+          ok_map (Sees link.host.unheard link.host.size screen) (λ shadow. Sees link.host.unheard link.host.size (after_command command screen) (once_taken link.host.size command shadow) × WasNoted link.host.size command shadow) (heard (cells_in link.host.size) link.host.shadow parts)
+              (λ shadow seen. (
+                sees_noted given link.host.unheard link.host.size command screen shadow f.2.note (whole_here given app is link rest k (s.same refl)) noted seen,
+                record { screen = screen; whole = whole_here given app is link rest k (s.same refl); over = noted.over; meets = seen.meets },
+              )) f.1,
         ) shown)
     by_serving lu (SessionPhase.DecidingNoteSent number command) s at f shown =
         let first = front link.lost link.down message rest _ [] e at.goes_down in

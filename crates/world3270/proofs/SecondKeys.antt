@@ -1,20 +1,24 @@
 -- The queue of a terminal that doesn't wait, beside what one says that does: second keys are between its messages, each where the host
 -- drops it.
-use Rattle.std.proofs.Common.{◌≡◌, ◌⊎◌, inl, inr, Bool, true, false, ℕ, Option, List, [], ◌∷◌, ◌++◌, append-nil, append_assoc, refl, ap, sym, subst, ◌∙◌, if◌then◌else◌}
+use Rattle.std.proofs.Common.{◌≡◌, ◌⊎◌, inl, inr, Bool, true, false, ℕ, Option, None, List, [], ◌∷◌, ◌++◌, append-nil, append_assoc, refl, ap, sym, subst, ◌∙◌, if◌then◌else◌}
 use Rattle.codes3270.specs.declared.attention.Aid.{Aid}
 use Rattle.codes3270.specs.declared.attention.Aid.TheVariants.{NoAid, Enter, Clear, Pf, Pa}
 use Rattle.codes3270.specs.declared.size.Model.{Model}
 use Rattle.datastream.specs.Grammar.{CommandParts}
+use Rattle.datastream.specs.InboundFields.{buffer_data}
 use Rattle.datastream.specs.InboundText.{InboundParts}
+use Rattle.datastream.specs.Screen.{Screen}
 use Rattle.datastream.specs.declared.inbound_part.Form.{Form}
 use Rattle.datastream.specs.declared.inbound_part.Form.TheVariants.{Modified}
 use Rattle.keyboard.specs.declared.key.Lock.TheVariants.{Wait}
+use Rattle.shadow.specs.RuleBreaks.{rule_break}
 use Rattle.host_core.specs.Application.{Application}
 use Rattle.host_core.specs.Messages.{ToHost}
 use Rattle.host_core.specs.Session.{Session, Pending, is_agreed}
-use Rattle.host_core.specs.Takes.{Answers, buffer_came, closed_by, data_came, dropping, may_have_changed, once_agreed, out_of_turn, second_key, second_key_data, took}
+use Rattle.host_core.specs.Takes.{Answers, buffer_came, closed_by, data_came, dropping, is_read_believed, may_have_changed, once_agreed, out_of_turn, second_key, second_key_data, took}
 use Rattle.host_core.specs.declared.turn.Turn.{Turn}
 use Rattle.host_core.specs.declared.turn.Turn.TheVariants as whose
+use Rattle.tn3270e_msg.specs.Talk.{NegotiationMessage}
 use Rattle.tn3270e_msg.specs.declared.cause.Cause.TheVariants.{BadInbound}
 use Rattle.world3270.specs.model.Link.{Link}
 use Rattle.world3270.specs.refinement.Phases.{NegotiationPhase, SessionPhase, LinkPhase, IsInFlight, pending_at, turn_at, up_at}
@@ -70,6 +74,20 @@ AddsSecondKeys turn pending told (message ∷ real) =
     ((is_dropping turn pending ≡ true) × IsSecondKey message × AddsSecondKeys turn pending told real)
     ⊎ ((rest : List ToHost) × (told ≡ message ∷ rest) × AddsSecondKeys (turn_after message turn) (pending_after message pending) rest real)
 
+-- What the waiting terminal says, and what the other one says but for second keys: the same; but a host that only verifies the answer to a
+-- Read Buffer makes the same of both answers.
+pub data SaysAlike (conn : Session) (told said : List ToHost) : Type 0 where
+  same : said ≡ told → SaysAlike conn told said
+  checked : (number : ℕ) (one other : Screen) (rest : List ToHost) → conn.pending ≡ Pending.Reading number → is_read_believed conn ≡ false
+      → rule_break conn.shadow one.cells ≡ None → rule_break conn.shadow other.cells ≡ None
+      → told ≡ ToHost.Data (buffer_data conn.size one) ∷ rest → said ≡ ToHost.Data (buffer_data conn.size other) ∷ rest → SaysAlike conn told said
+
+-- `told`: what a terminal says that waits; `real`: what comes up
+pub record Says (conn : Session) (told real : List ToHost) : Type 0 where
+  pub said : List ToHost
+  pub alike : SaysAlike conn told said
+  pub up : AddsSecondKeys conn.turn conn.pending said real
+
 -- whether the host drops a key once all this was heard
 abbrev pub drops_behind : List ToHost → Turn → Pending → Bool
 drops_behind [] turn pending = is_dropping turn pending
@@ -101,6 +119,51 @@ same_more turn pending told real (message ∷ messages) x =
     (subst (λ (l : List ToHost). AddsSecondKeys turn pending ((told ++ message ∷ []) ++ messages) l) (append_assoc real (message ∷ []) messages)
     (same_more turn pending (told ++ message ∷ []) (real ++ message ∷ []) messages (same_last turn pending told real message x)))
 
+alike_more : (conn : Session) (told said messages : List ToHost) → SaysAlike conn told said → SaysAlike conn (told ++ messages) (said ++ messages)
+alike_more conn told said messages (SaysAlike.same is) = SaysAlike.same (ap (λ (l : List ToHost). l ++ messages) is)
+alike_more conn told said messages (SaysAlike.checked number one other rest pends skips one_kept other_kept is_told is_said) =
+    SaysAlike.checked number one other (rest ++ messages) pends skips one_kept other_kept (ap (λ (l : List ToHost). l ++ messages) is_told) (ap (λ (l : List ToHost). l ++ messages) is_said)
+
+pub says_more : (conn : Session) (told real messages : List ToHost) → Says conn told real → Says conn (told ++ messages) (real ++ messages)
+says_more conn told real messages s = record {
+  said = s.said ++ messages;
+  alike = alike_more conn told s.said messages s.alike;
+  up = same_more conn.turn conn.pending s.said real messages s.up;
+}
+
+-- a second key comes last
+pub key_last : (conn : Session) (told real : List ToHost) (key : ToHost) → IsSecondKey key → drops_behind told conn.turn conn.pending ≡ true → Says conn told real → Says conn told (real ++ key ∷ [])
+key_last conn told real key is drops s = record {
+  said = s.said;
+  alike = s.alike;
+  up = extra_last conn.turn conn.pending s.said real key is (by_alike s.alike) s.up;
+}
+  where
+    by_alike : SaysAlike conn told s.said → drops_behind s.said conn.turn conn.pending ≡ true
+    by_alike (SaysAlike.same is_same) = ap (λ (l : List ToHost). drops_behind l conn.turn conn.pending) is_same ∙ drops
+    by_alike (SaysAlike.checked number one other rest pends skips one_kept other_kept is_told is_said) =
+        ap (λ (l : List ToHost). drops_behind l conn.turn conn.pending) is_said
+        ∙ sym (ap (λ (l : List ToHost). drops_behind l conn.turn conn.pending) is_told)
+        ∙ drops
+
+-- nothing is read where nothing was asked
+pub alike_unread : (conn : Session) (told said : List ToHost) → conn.pending ≡ Pending.Nothing → SaysAlike conn told said → said ≡ told
+alike_unread conn told said quiet (SaysAlike.same is) = is
+alike_unread conn told said quiet (SaysAlike.checked number one other rest pends skips one_kept other_kept is_told is_said) =
+    absurd (let wrong : Pending.Reading number ≡ Pending.Nothing = sym pends ∙ quiet in cc)
+
+-- nor said
+pub alike_silent : (conn : Session) (told said : List ToHost) → told ≡ [] → SaysAlike conn told said → said ≡ []
+alike_silent conn told said none (SaysAlike.same is) = is ∙ none
+alike_silent conn told said none (SaysAlike.checked number one other rest pends skips one_kept other_kept is_told is_said) =
+    absurd (let wrong : ToHost.Data (buffer_data conn.size one) ∷ rest ≡ [] = sym is_told ∙ none in cc)
+
+-- nothing is said to the talk but what the waiting terminal says
+pub alike_talk : (conn : Session) (told said : List ToHost) (saying : NegotiationMessage) (rest : List ToHost) → said ≡ ToHost.TalksUp saying ∷ rest → SaysAlike conn told said → told ≡ ToHost.TalksUp saying ∷ rest
+alike_talk conn told said saying rest is (SaysAlike.same is_same) = sym is_same ∙ is
+alike_talk conn told said saying rest is (SaysAlike.checked number one other more pends skips one_kept other_kept is_told is_said) =
+    absurd (let wrong : ToHost.Data (buffer_data conn.size other) ∷ more ≡ ToHost.TalksUp saying ∷ rest = sym is_said ∙ is in cc)
+
 -- ---- the host acts, or sends a note
 
 -- where there are second keys alone, they are dropped at any moment at which the host drops keys
@@ -125,7 +188,7 @@ noted_extras number command told (ToHost.TalksUp saying ∷ real) (inr x) = inr 
 
 -- ---- the host drops it
 
-second_key_is : (parts : InboundParts) (conn : Session) (aid : Aid) → is_key aid ≡ true → second_key aid conn.pending conn ≡ dropping aid conn
+second_key_is : (parts : InboundParts) (conn : Session) (aid : Aid) → is_key aid ≡ true → second_key parts aid conn.pending conn ≡ dropping aid conn
 second_key_is parts conn Enter key = refl
 second_key_is parts conn (Pf number) key = refl
 second_key_is parts conn (Pa number) key = refl

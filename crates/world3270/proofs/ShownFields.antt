@@ -3,7 +3,7 @@ use Rattle.std.proofs.Common.{◌≡◌, ◌≢◌, ◌⊎◌, inl, inr, ◌+◌
 use Rattle.std.specs.BTreeMap.{insert_entry}
 use Rattle.std.specs.List.{Contains, list_any}
 use Rattle.std.specs.Ordering.{is_eq, nat_cmp}
-use Rattle.std.specs.Prelude.{⊤, All, cond, is_some, slice_get, slice_index_or, unwrap_or}
+use Rattle.std.specs.Prelude.{⊤, cond, is_some, slice_get, slice_index_or, unwrap_or}
 use Rattle.std.proofs.lemmas.Bool.{cases_eq}
 use Rattle.std.proofs.lemmas.Option.{get_or_from_slice_get, same_Some, slice_get_within}
 use Rattle.codes3270.specs.declared.attention.Aid.{Aid}
@@ -33,6 +33,7 @@ use Rattle.shadow.specs.Fits.{fields_fit, is_keep, is_paintable}
 use Rattle.shadow.specs.Heard.{after_attention}
 use Rattle.shadow.specs.Meets.{Meets}
 use Rattle.shadow.specs.Painted.{cells_under, painted_from, plainly_painted}
+use Rattle.shadow.specs.Settled.{IsSettled}
 use Rattle.shadow.specs.PaintedFields.{HasField, KeptStaysThere, WantsKept, WantsWritten, WrittenIsThere}
 use Rattle.shadow.proofs.Keeps.{no_keep, paintable_fits}
 use Rattle.shadow.proofs.Paints.{length-under}
@@ -47,7 +48,7 @@ use Rattle.host_core.specs.declared.turn_reason.TurnReason.TheVariants as turn_r
 use Rattle.host_core.specs.declared.unheard.Unheard.{Unheard}
 use Rattle.host_core.specs.declared.unheard.Unheard.TheVariants as unheards
 use Rattle.world3270.specs.statement.Asked.{IsFieldText}
-use Rattle.world3270.specs.statement.Showing.{IsDecided, IsKnownIfRead, IsTextKnown, KnowsItsFields, ShowsItsPanel}
+use Rattle.world3270.specs.statement.Showing.{IsDecided, IsKnownIfRead, KnowsItsFields, ShowsItsPanel}
 use Rattle.world3270.proofs.Acting.{none_whole, wanted_in_a_way}
 use Rattle.world3270.proofs.Asked.{IsTextOf, asked_sure, belief_there, learned_has, stands_at, sure_told}
 use Rattle.world3270.specs.statement.ShownFields.{AreShown, IsKept, IsWritten, OtherTextsAreNot, ShowsField, ValuesAreShown, WantsItsFields, fitted, is_again}
@@ -160,7 +161,7 @@ is_character extent i below = (omega arith, omega (arith, below))
 
 -- nothing of the panel is in doubt, or the screen was read
 abbrev pub IsSure : Application → Session → Type 0
-IsSure app conn = (list_any (is_in_doubt conn.shadow) (app.fields conn.panel) ≡ false) ⊎ All IsTextKnown (fields_of conn.shadow)
+IsSure app conn = (list_any (is_in_doubt conn.shadow) (app.fields conn.panel) ≡ false) ⊎ IsSettled conn.shadow
 
 -- An act that keeps fields shows the same panel again, with the texts that are known as the values of its fields.
 record Keeps (app : Application) (conn : Session) (panel : ℕ) (values : Values) : Type 0 where
@@ -334,7 +335,7 @@ keeps_none unheard shadow wanted none fits =
 
 -- a field of the screen before has a text that is known
 text_known_there : (unheard : Unheard) (over : Shadow) (before : Screen) (wanted : WantedScreen) (field : PanelField) (its : Field) (cell : ℕ) → is_paintable (known_despite unheard over) wanted ≡ true → Meets over before → slice_get wanted.cells cell ≡ Some want.Keep
-    → HasField before its → its.place ≡ field.extent.first - 1 → All IsTextKnown (fields_of over) → IsTextOf (belief_of over field)
+    → HasField before its → its.place ≡ field.extent.first - 1 → IsSettled over → IsTextOf (belief_of over field)
 text_known_there unheard Shadow.NothingKnown before wanted field its cell fits meets at there place settled = absurd (none_there wanted.cells cell (keeps_none unheard Shadow.NothingKnown wanted refl fits) at)
 text_known_there unheard (Shadow.Unformatted known) before wanted field its cell fits meets at there place settled =
     absurd (none_there wanted.cells cell (keeps_none unheard (Shadow.Unformatted known) wanted refl fits) at)

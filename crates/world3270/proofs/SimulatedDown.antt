@@ -1,5 +1,5 @@
--- What comes down: the waiting terminal takes a paint, and answers a Read Buffer, on the screen as it is, which is told then.
-use Rattle.std.proofs.Common.{◌≡◌, ◌<◌, ◌||◌, Bool, true, false, ℕ, Option, None, List, [], ◌∷◌, length, refl, ap, sym, subst, ◌∙◌}
+-- What comes down: the waiting terminal takes a paint, and answers a Read Buffer after PA, on the screen as it is, which is told then.
+use Rattle.std.proofs.Common.{◌≡◌, ◌<◌, ◌||◌, Bool, true, false, ℕ, Option, None, List, [], ◌∷◌, ◌++◌, if◌then◌else◌, length, refl, ap, sym, subst, ◌∙◌}
 use Rattle.std.specs.Prelude.{is_some}
 use Rattle.codes3270.specs.Size.{ScreenSize, cells_in}
 use Rattle.codes3270.specs.declared.attention.Aid.{Aid}
@@ -12,26 +12,35 @@ use Rattle.keyboard.specs.State.{freed}
 use Rattle.shadow.specs.Belief.{Shadow}
 use Rattle.shadow.specs.Meets.{Meets}
 use Rattle.shadow.specs.Painted.{plainly_painted}
+use Rattle.shadow.specs.RuleBreaks.{rule_break}
 use Rattle.tn3270e_msg.specs.Talk.{NegotiationMessage}
 use Rattle.tn3270e_msg.specs.TermTable.{Term}
 use Rattle.tn3270e_msg.specs.declared.cause.Cause.{Cause}
 use Rattle.host_core.specs.Application.{Application, IsApplication, message_place}
 use Rattle.host_core.specs.Messages.{ToHost, ToTerminal, Verdict}
-use Rattle.world3270.specs.statement.EveryTerminal.{LinkWithReport, paint_executed, told_if}
+use Rattle.host_core.specs.Takes.{is_after_pa, is_read_believed}
+use Rattle.world3270.specs.statement.EveryTerminal.{LinkWithReport, is_pa, paint_executed, told_if}
 use Rattle.world3270.specs.refinement.LowerLaws.{LowerLaws}
 use Rattle.world3270.specs.model.Link.{Link, sent, term_left_if, term_stepped}
 use Rattle.world3270.specs.refinement.Invariant.{ConnectionInvariant}
 use Rattle.world3270.specs.model.Terminal.{Display, TermEnd, TermStep, bound_to, is_bound, note_came, once_bound, paint_came, read_came, talked}
 use Rattle.world3270.specs.refinement.View.{view_of}
-use Rattle.world3270.proofs.ComesDown.{note_comes, paint_comes, read_comes}
+use Rattle.world3270.proofs.ComesDown.{ReadComes, note_comes, paint_comes, read_comes}
 use Rattle.world3270.proofs.Down.{bound, paints_on, read_of, reads_on, shape_of_model, showing, term_view}
 use Rattle.world3270.proofs.Obeys.{obeys}
 use Rattle.world3270.proofs.Keys.{or_false}
 use Rattle.world3270.proofs.NotesHeld.{note_held}
 use Rattle.world3270.proofs.ReadsInput.{reads_input}
-use Rattle.world3270.proofs.SecondKeys.{AddsSecondKeys}
+use Rattle.world3270.proofs.Returning.{pa_counts, read_skipped}
+use Rattle.world3270.proofs.SecondKeys.{Says, SaysAlike, alike_silent, same_last}
 use Rattle.world3270.proofs.Simulation.{Simulated, agrees_now, both_say, since_same}
 use Rattle.world3270.proofs.StillKept.{still_as_left, still_kept}
+use Rattle.world3270.proofs.Up.{skipped_when}
+
+-- nothing in the queue, where nothing is under way
+no_front : (queue vanished : List ToHost) → queue ++ vanished ≡ [] → queue ≡ []
+no_front [] vanished none = refl
+no_front (message ∷ queue) vanished none = absurd (cc)
 
 module _ (given : LowerLaws) (app : Application) (is : IsApplication app) (lu : List ℕ) (t : LinkWithReport) (s : Simulated app lu t) where
   abbrev end : Link
@@ -66,6 +75,8 @@ module _ (given : LowerLaws) (app : Application) (is : IsApplication app) (lu : 
         agreed = s.agreed;
         any = s.any;
         unsure = s.unsure;
+        marks = s.marks;
+        returning = s.returning;
         display = s.display;
         waits = s.waits;
         host_here = s.host_here;
@@ -125,6 +136,8 @@ module _ (given : LowerLaws) (app : Application) (is : IsApplication app) (lu : 
         agreed = s.agreed;
         any = s.any;
         unsure = s.unsure;
+        marks = s.marks;
+        returning = s.returning;
         display = sym (ap (λ (d : Display). record d { size = wanted.size; screen = new; keyboard = freed end.term.display.keyboard; last_restored = new; before_restored = screen; erased = false }) s.simulates.since.rest);
         waits = refl;
         host_here = s.host_here;
@@ -145,38 +158,138 @@ module _ (given : LowerLaws) (app : Application) (is : IsApplication app) (lu : 
 
   -- ---- a Read Buffer
 
-  -- The screen as it is goes up, and the waiting terminal has it from then on: the host is told what was typed in the wait.
+  -- The screen as it is goes up. After PA the waiting terminal has it from then on: the host is told what was typed in the wait. After any
+  -- other key the waiting terminal sends its own, and neither answer counts.
   pub read_still : (number : ℕ) (rest : List ToTerminal) → now.down ≡ ToTerminal.ReadBuffer number ∷ rest
       → Simulated app lu (taken_so (is_bound now.term) (ToTerminal.ReadBuffer number) (read_came now.term) rest)
   read_still number rest e =
-      let comes = read_comes app end number rest (sym s.simulates.down ∙ e) s.kept (agrees_now s) in
-      let since = s.simulates.since in
-      let old : Screen = end.term.display.screen in
-      let screen : Screen = now.term.display.screen in
-      let erased : Bool = end.term.display.erased || since.erased in
-      let row : ℕ = message_place end.term.display.size in
-      let heard_as : Screen = record screen { aid = old.aid } in
-      let same_shape : now.term.display.size ≡ end.term.display.size = ap (λ (d : Display). d.size) since.rest in
-      let kept : ConnectionInvariant app (view_of (term_view (read_of screen erased end.term) rest end)) =
-      reads_on app end rest s.kept comes.same comes.lu comes.number comes.at comes.fact comes.shown comes.left screen erased
-      (since.held.same_length ∙ s.kept.whole)
-      (subst (λ (size : ℕ). screen.cursor < size) (since.held.same_length ∙ s.kept.whole) since.cursor)
-      (still_kept given.keys.round end.term.display.erased since.erased end.term.display.last_restored.cells old.cells screen.cells (s.kept.unreturned comes.fact.not_cleared) since.held)
-      (still_as_left given.keys.round since.erased row end.term.display.last_restored.cells old.cells screen.cells (s.kept.as_left comes.fact.not_cleared) since.held)
-      (reads_input given.keys.round given.belief.reads given.belief.doubt_input end.host.size since.erased end.host.shadow old heard_as comes.fact.decides.sees.meets since.held)
-      (given.belief.unbroken since.erased end.host.shadow old heard_as comes.fact.decides.sees.meets since.held) in
-      let said : ToHost = ToHost.Data (buffer_data end.term.display.size screen) in
-      let same_aid : old.aid ≡ t.told.screen.aid = ap (λ (d : Display). d.screen.aid) s.display in
-      subst (λ (b : Bool). Simulated app lu (taken_so b (ToTerminal.ReadBuffer number) (read_came now.term) rest)) (sym (bound_now (bound end s.kept.wanted comes.lu _ comes.at)))
-      (record {
-        told = term_view (read_of screen erased end.term) rest end;
-        kept = kept;
+      subst (λ (b : Bool). Simulated app lu (taken_so b (ToTerminal.ReadBuffer number) (read_came now.term) rest)) (sym (bound_now is_bound_told)) (by_key (is_pa t.told.screen.aid) refl)
+    where
+      down : end.down ≡ ToTerminal.ReadBuffer number ∷ rest
+      down = sym s.simulates.down ∙ e
+
+      comes : ReadComes app end s.kept.wanted rest
+      comes = read_comes app end number rest down s.kept (agrees_now s)
+
+      is_bound_told : is_bound end.term ≡ true
+      is_bound_told = bound end s.kept.wanted comes.lu _ comes.at
+
+      old : Screen
+      old = end.term.display.screen
+
+      screen : Screen
+      screen = now.term.display.screen
+
+      same_aid : old.aid ≡ t.told.screen.aid
+      same_aid = ap (λ (d : Display). d.screen.aid) s.display
+
+      counts_by : is_after_pa end.host.turn_reason ≡ is_pa t.told.screen.aid
+      counts_by = pa_counts end.host.turn_reason old.aid comes.fact.decides.turn_reason ∙ ap is_pa same_aid
+
+      same_shape : now.term.display.size ≡ end.term.display.size
+      same_shape = ap (λ (d : Display). d.size) s.simulates.since.rest
+
+      heard_as : Screen
+      heard_as = record screen { aid = old.aid }
+
+      unbroken : rule_break end.host.shadow screen.cells ≡ None
+      unbroken = given.belief.unbroken s.simulates.since.erased end.host.shadow old heard_as comes.fact.decides.sees.meets s.simulates.since.held
+
+      -- what is told then
+      abbrev told_if_pa : Bool → Display
+      told_if_pa pa = if pa then record now.term.display { screen = record screen { aid = t.told.screen.aid } } else t.told
+
+      abbrev read_so : Bool → LinkWithReport
+      read_so pa = record { link = term_stepped (read_came now.term) rest now; told = told_if_pa pa; waits = t.waits }
+
+      after_pa : is_pa t.told.screen.aid ≡ true → Simulated app lu (read_so true)
+      after_pa pa =
+          let since = s.simulates.since in
+          let erased : Bool = end.term.display.erased || since.erased in
+          let row : ℕ = message_place end.term.display.size in
+          let kept : ConnectionInvariant app (view_of (term_view (read_of screen erased end.term) rest end)) =
+          reads_on app end rest s.kept comes.same comes.lu comes.number comes.at comes.fact comes.shown comes.left screen erased
+          (since.held.same_length ∙ s.kept.whole)
+          (subst (λ (size : ℕ). screen.cursor < size) (since.held.same_length ∙ s.kept.whole) since.cursor)
+          (still_kept given.keys.round end.term.display.erased since.erased end.term.display.last_restored.cells old.cells screen.cells (s.kept.unreturned comes.fact.not_cleared) since.held)
+          (still_as_left given.keys.round since.erased row end.term.display.last_restored.cells old.cells screen.cells (s.kept.as_left comes.fact.not_cleared) since.held)
+          (reads_input given.keys.round given.belief.reads given.belief.doubt_input end.host.size since.erased end.host.shadow old heard_as comes.fact.decides.sees.meets since.held)
+          unbroken
+          (λ skipped. absurd (let wrong : false ≡ true = sym (skipped_when end.host.unheard end.host.turn_reason end.host.shadow skipped).no_pa ∙ counts_by ∙ pa in cc)) in
+          let said : ToHost = ToHost.Data (buffer_data end.term.display.size screen) in
+          record {
+            told = term_view (read_of screen erased end.term) rest end;
+            kept = kept;
+            agreed = s.agreed;
+            any = s.any;
+            unsure = s.unsure;
+            marks = s.marks;
+            returning = s.returning;
+            display = ap (λ (aid : Aid). record end.term.display { screen = record screen { aid = aid }; erased = erased }) same_aid
+                ∙ ap (λ (b : Bool). record end.term.display { screen = record screen { aid = t.told.screen.aid }; erased = b }) (sym since.erasing)
+                ∙ sym (ap (λ (d : Display). record d { screen = record screen { aid = t.told.screen.aid }; keyboard = end.term.display.keyboard }) since.rest);
+            waits = s.waits;
+            host_here = s.host_here;
+            term_here = s.term_here;
+            simulates = record {
+              host = s.simulates.host;
+              lost = s.simulates.lost;
+              down = refl;
+              talk = s.simulates.talk;
+              up = subst (λ (shape : ScreenSize). Says end.host (sent end.lost end.up (said ∷ [])) (sent now.lost now.up (ToHost.Data (buffer_data shape screen) ∷ []))) (sym same_shape)
+                  (both_say end now (said ∷ []) s.simulates.lost s.simulates.up);
+              since = record {
+                erased = false;
+                held = given.keys.at_first screen.cells;
+                rest = since.rest;
+                erasing = since.erasing ∙ sym (or_false erased);
+                same = λ free. absurd (free comes.fact.decides.lock);
+                cursor = since.cursor;
+              };
+            };
+          }
+
+      -- both answer, and the host believes neither
+      both_read : is_pa t.told.screen.aid ≡ false → Says end.host (sent end.lost end.up (ToHost.Data (buffer_data end.term.display.size old) ∷ [])) (sent now.lost now.up (ToHost.Data (buffer_data now.term.display.size screen) ∷ []))
+      both_read no_pa = subst (λ (lost : Bool). Says end.host (sent end.lost end.up (one ∷ [])) (sent lost now.up (other ∷ []))) (sym s.simulates.lost) (by_lost end.lost)
+        where
+          one : ToHost
+          one = ToHost.Data (buffer_data end.term.display.size old)
+
+          other : ToHost
+          other = ToHost.Data (buffer_data now.term.display.size screen)
+
+          said : List ToHost
+          said = s.simulates.up.said
+
+          silent : end.up ≡ []
+          silent = no_front end.up comes.at.goes_up.vanished comes.at.goes_up.whole
+
+          skips : is_read_believed end.host ≡ false
+          skips = read_skipped given end.host comes.number comes.at.turn comes.at.pending s.any (counts_by ∙ no_pa) s.returning
+
+          by_lost : (lost : Bool) → Says end.host (sent lost end.up (one ∷ [])) (sent lost now.up (other ∷ []))
+          by_lost true = s.simulates.up
+          by_lost false = record {
+            said = said ++ other ∷ [];
+            alike = SaysAlike.checked comes.number old screen [] comes.at.pending skips
+                (given.belief.unbroken false end.host.shadow old old comes.fact.decides.sees.meets (given.keys.at_first old.cells)) unbroken
+                (ap (λ (l : List ToHost). l ++ one ∷ []) silent ∙ ap (λ (shape : ScreenSize). ToHost.Data (buffer_data shape old) ∷ []) comes.same)
+                (ap (λ (l : List ToHost). l ++ other ∷ []) (alike_silent end.host end.up said silent s.simulates.up.alike) ∙ ap (λ (shape : ScreenSize). ToHost.Data (buffer_data shape screen) ∷ []) (same_shape ∙ comes.same));
+            up = same_last end.host.turn end.host.pending said now.up other s.simulates.up.up;
+          }
+
+      after_others : is_pa t.told.screen.aid ≡ false → Simulated app lu (read_so false)
+      after_others no_pa = record {
+        told = term_view (read_came end.term) rest end;
+        kept = subst (λ (b : Bool). ConnectionInvariant app (view_of (term_view (once_bound b (read_came end.term) end.term) rest end))) is_bound_told
+            (obeys given app is end (ToTerminal.ReadBuffer number) rest down s.kept).kept;
         agreed = s.agreed;
         any = s.any;
         unsure = s.unsure;
-        display = ap (λ (aid : Aid). record end.term.display { screen = record screen { aid = aid }; erased = erased }) same_aid
-            ∙ ap (λ (b : Bool). record end.term.display { screen = record screen { aid = t.told.screen.aid }; erased = b }) (sym since.erasing)
-            ∙ sym (ap (λ (d : Display). record d { screen = record screen { aid = t.told.screen.aid }; keyboard = end.term.display.keyboard }) since.rest);
+        marks = s.marks;
+        returning = s.returning;
+        display = s.display;
         waits = s.waits;
         host_here = s.host_here;
         term_here = s.term_here;
@@ -185,18 +298,14 @@ module _ (given : LowerLaws) (app : Application) (is : IsApplication app) (lu : 
           lost = s.simulates.lost;
           down = refl;
           talk = s.simulates.talk;
-          up = subst (λ (shape : ScreenSize). AddsSecondKeys end.host.turn end.host.pending (sent end.lost end.up (said ∷ [])) (sent now.lost now.up (ToHost.Data (buffer_data shape screen) ∷ []))) (sym same_shape)
-              (both_say end now (said ∷ []) s.simulates.lost s.simulates.up);
-          since = record {
-            erased = false;
-            held = given.keys.at_first screen.cells;
-            rest = since.rest;
-            erasing = since.erasing ∙ sym (or_false erased);
-            same = λ free. absurd (free comes.fact.decides.lock);
-            cursor = since.cursor;
-          };
+          up = both_read no_pa;
+          since = s.simulates.since;
         };
-      })
+      }
+
+      by_key : (pa : Bool) → is_pa t.told.screen.aid ≡ pa → Simulated app lu (taken_so true (ToTerminal.ReadBuffer number) (read_came now.term) rest)
+      by_key true pa = subst (λ (b : Bool). Simulated app lu (read_so b)) (sym pa) (after_pa pa)
+      by_key false no_pa = subst (λ (b : Bool). Simulated app lu (read_so b)) (sym no_pa) (after_others no_pa)
 
   -- ---- a note
 
@@ -216,6 +325,8 @@ module _ (given : LowerLaws) (app : Application) (is : IsApplication app) (lu : 
         agreed = s.agreed;
         any = s.any;
         unsure = s.unsure;
+        marks = s.marks;
+        returning = s.returning;
         display = ap (λ (d : Display). record d { screen = after_command command d.screen }) s.display;
         waits = s.waits;
         host_here = s.host_here;

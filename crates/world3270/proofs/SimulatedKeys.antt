@@ -24,7 +24,7 @@ use Rattle.world3270.specs.model.Terminal.{Display, TermStep, bound_to, data_of,
 use Rattle.world3270.proofs.Keys.{types_now}
 use Rattle.world3270.proofs.Queues.{nothing_sent}
 use Rattle.world3270.proofs.RuleKeys.{edited_link, edits_kept, sends_kept, sent_link, with_aid-aid, with_aid-cursor, with_aid-whole}
-use Rattle.world3270.proofs.SecondKeys.{AddsSecondKeys, IsSecondKey, extra_last, is_key, waits_drop}
+use Rattle.world3270.proofs.SecondKeys.{IsSecondKey, Says, is_key, key_last, waits_drop}
 use Rattle.world3270.proofs.Sent.{key_aid, key_form}
 use Rattle.world3270.proofs.Simulation.{Simulated, both_say, is_waiting, since_same}
 
@@ -55,8 +55,8 @@ module _ (given : LowerLaws) (app : Application) (lu : List ℕ) (t : LinkWithRe
   now = t.link
 
   -- nothing is sent
-  silent_up : AddsSecondKeys told.host.turn told.host.pending told.up (sent now.lost now.up [])
-  silent_up = subst (λ (up : List ToHost). AddsSecondKeys told.host.turn told.host.pending told.up up) (sym (nothing_sent now.lost now.up)) s.simulates.up
+  silent_up : Says told.host told.up (sent now.lost now.up [])
+  silent_up = subst (λ (up : List ToHost). Says told.host told.up up) (sym (nothing_sent now.lost now.up)) s.simulates.up
 
   -- ---- in the operator's turn
 
@@ -76,6 +76,8 @@ module _ (given : LowerLaws) (app : Application) (lu : List ℕ) (t : LinkWithRe
         agreed = s.agreed;
         any = s.any;
         unsure = s.unsure;
+        marks = s.marks;
+        returning = s.returning;
         display = ap (λ (d : Display). record (edited cells cursor erases d) { keyboard = freed told.term.display.keyboard }) (sym same);
         waits = refl;
         host_here = s.host_here;
@@ -85,7 +87,7 @@ module _ (given : LowerLaws) (app : Application) (lu : List ℕ) (t : LinkWithRe
           lost = s.simulates.lost;
           down = s.simulates.down;
           talk = s.simulates.talk;
-          up = subst (λ (up : List ToHost). AddsSecondKeys told.host.turn told.host.pending up (sent now.lost now.up [])) (sym (nothing_sent told.lost told.up)) silent_up;
+          up = subst (λ (up : List ToHost). Says told.host up (sent now.lost now.up [])) (sym (nothing_sent told.lost told.up)) silent_up;
           since = since_same given end.term.display link.term.display (ap (λ (d : Display). record (edited cells cursor erases d) { keyboard = keyboard }) same) on;
         };
       }
@@ -108,6 +110,8 @@ module _ (given : LowerLaws) (app : Application) (lu : List ℕ) (t : LinkWithRe
         agreed = s.agreed;
         any = s.any;
         unsure = s.unsure;
+        marks = s.marks;
+        returning = s.returning;
         display = ap (λ (d : Display). record (after_sending aid d) { keyboard = record told.term.display.keyboard { lock = Wait } }) (sym same);
         waits = ap (λ (bound : Bool). is_queued (data_of bound (Send aid) now.term.display.size (with_aid aid now.term.display.screen))) (bound_both ∙ bound_told);
         host_here = s.host_here;
@@ -117,7 +121,7 @@ module _ (given : LowerLaws) (app : Application) (lu : List ℕ) (t : LinkWithRe
           lost = s.simulates.lost;
           down = s.simulates.down;
           talk = s.simulates.talk;
-          up = subst (λ (says : List ToHost). AddsSecondKeys told.host.turn told.host.pending (sent told.lost told.up (data_by aid told.term)) (sent now.lost now.up says)) (sym says_so)
+          up = subst (λ (says : List ToHost). Says told.host (sent told.lost told.up (data_by aid told.term)) (sent now.lost now.up says)) (sym says_so)
               (both_say told now (data_by aid told.term) s.simulates.lost s.simulates.up);
           since = since_same given end.term.display step.end.display (ap (λ (d : Display). record (after_sending aid d) { keyboard = keyboard }) same)
               (subst (λ (size : ℕ). (with_aid aid now.term.display.screen).cursor < size) (sym (with_aid-whole aid now.term.display.screen)) (with_aid-cursor aid now.term.display.screen (length now.term.display.screen.cells) s.simulates.since.cursor));
@@ -139,6 +143,8 @@ module _ (given : LowerLaws) (app : Application) (lu : List ℕ) (t : LinkWithRe
         agreed = s.agreed;
         any = s.any;
         unsure = s.unsure;
+        marks = s.marks;
+        returning = s.returning;
         display = s.display;
         waits = sym (ap is_waiting waits);
         host_here = s.host_here;
@@ -176,6 +182,8 @@ module _ (given : LowerLaws) (app : Application) (lu : List ℕ) (t : LinkWithRe
         agreed = s.agreed;
         any = s.any;
         unsure = s.unsure;
+        marks = s.marks;
+        returning = s.returning;
         display = s.display;
         waits = sym (ap is_waiting waits);
         host_here = s.host_here;
@@ -205,11 +213,11 @@ module _ (given : LowerLaws) (app : Application) (lu : List ℕ) (t : LinkWithRe
         key = ap is_key (key_aid now.term.display.size (with_aid aid now.term.display.screen) ∙ with_aid-aid aid now.term.display.screen) ∙ key;
       }
 
-      by_bound : (bound lost : Bool) → now.lost ≡ lost → AddsSecondKeys told.host.turn told.host.pending told.up (sent lost now.up (data_of bound (Send aid) now.term.display.size (with_aid aid now.term.display.screen)))
-      by_bound false lost is = subst (λ (up : List ToHost). AddsSecondKeys told.host.turn told.host.pending told.up up) (sym (nothing_sent lost now.up)) s.simulates.up
+      by_bound : (bound lost : Bool) → now.lost ≡ lost → Says told.host told.up (sent lost now.up (data_of bound (Send aid) now.term.display.size (with_aid aid now.term.display.screen)))
+      by_bound false lost is = subst (λ (up : List ToHost). Says told.host told.up up) (sym (nothing_sent lost now.up)) s.simulates.up
       by_bound true true is = s.simulates.up
       by_bound true false is =
-          extra_last told.host.turn told.host.pending told.up now.up (key_data aid) second
+          key_last told.host told.up now.up (key_data aid) second
           (waits_drop app told s.kept (sym s.simulates.lost ∙ is) waits) s.simulates.up
 
   -- ---- both

@@ -1,31 +1,29 @@
 -- What a host makes of the next message, at each moment.
-use Rattle.std.proofs.Common.{◌≡◌, ℕ, Bool, true, false, Option, None, Some, Result, Ok, Err, List, [], ◌∷◌, ◌++◌, refl, ap, sym, subst, ◌∙◌, IsOkAnd, IfOk}
+use Rattle.std.proofs.Common.{◌≡◌, ◌||◌, not, ℕ, Bool, true, false, Option, None, Some, Result, Ok, Err, List, [], ◌∷◌, ◌++◌, refl, ap, sym, subst, ◌∙◌, IsOkAnd, IfOk}
 use Rattle.tn3270e_msg.specs.Device.{device_for}
 use Rattle.codes3270.specs.declared.size.Model.{Model}
+use Rattle.codes3270.specs.Aid.{is_short_aid}
 use Rattle.codes3270.specs.Size.{ScreenSize, cells_in}
 use Rattle.codes3270.specs.declared.attention.Aid.{Aid}
 use Rattle.codes3270.specs.declared.attention.Aid.TheVariants.{NoAid, Enter, Clear, Pf, Pa}
 use Rattle.datastream.specs.Grammar.{CommandParts}
-use Rattle.datastream.specs.Fields.{Field, fields}
 use Rattle.datastream.specs.InboundFields.{buffer_data, cells_sent}
 use Rattle.datastream.specs.InboundText.{InboundParts}
-use Rattle.datastream.specs.Screen.{Screen, text_before_attribute}
-use Rattle.datastream.specs.declared.inbound_part.Form.{Form}
-use Rattle.datastream.specs.declared.inbound_part.Form.TheVariants.{Modified, Buffer}
+use Rattle.datastream.specs.Screen.{Screen}
+use Rattle.datastream.specs.declared.inbound_part.Form.TheVariants.{Modified}
 use Rattle.lu_pool.specs.Asking.{answer_to}
 use Rattle.lu_pool.specs.HolderLaws.{IsSound}
 use Rattle.lu_pool.specs.declared.entry.Entry.{Entry}
 use Rattle.shadow.specs.RuleBreaks.{rule_break}
 use Rattle.shadow.specs.declared.rule_break.RuleBreak.{RuleBreak}
 use Rattle.shadow.proofs.Sent.{cells_back}
-use Rattle.shadow.specs.Belief.{Shadow, fields_of}
+use Rattle.shadow.specs.Belief.{Shadow}
 use Rattle.shadow.specs.Exactness.{KnownIsExact, ProtectedIsExact}
-use Rattle.shadow.specs.Heard.{heard, heard_form}
+use Rattle.shadow.specs.Heard.{heard}
 use Rattle.shadow.specs.Laws.{Believed}
 use Rattle.shadow.specs.TextUnknown.{NothingIsOpen}
-use Rattle.shadow.specs.AfterReadBuffer.{belief_seen, denies_buffer, formatted_or, seen}
+use Rattle.shadow.specs.Settled.{IsSettled, is_settled}
 use Rattle.shadow.specs.declared.fault.HeardFault.{HeardFault}
-use Rattle.shadow.specs.declared.fault.HeardFault.TheVariants.{Contradiction}
 use Rattle.telnet_wire.specs.declared.wire.Verb.TheVariants.{Will}
 use Rattle.tn3270e_msg.specs.HostTable.{host_transition, answer_transition, request_transition, named_transition, granted}
 use Rattle.tn3270e_msg.specs.Message.{Connect}
@@ -46,14 +44,16 @@ use Rattle.host_core.specs.declared.turn_reason.TurnReason.TheVariants as turn_r
 use Rattle.host_core.specs.Session.{Session, Pending, is_agreed}
 use Rattle.host_core.specs.Rejections.{lu_asked}
 use Rattle.host_core.specs.declared.rejection.Rejection.{Rejection}
-use Rattle.host_core.specs.Takes.{buffer_heard, is_verified, rule_broken_by, unless_broken, HostStep, Answers, quiet, with_talk, replied, granted_by, talked_on, talked, hears, believed, once_read, key_came, key_data_came, data_came, answered, if_answers, response_came, once_agreed, took}
-use Rattle.std.specs.Prelude.{All, map, unwrap_or, if◌then◌else◌}
-use Rattle.std.proofs.lemmas.List.Elements.{All-nil, All-cons}
+use Rattle.shadow.specs.Exactness.{is_erase}
+use Rattle.host_core.specs.Takes.{buffer_heard, is_after_pa, is_read_believed, is_verified, may_be_read, may_have_changed, only_read, refused, rule_broken_by, unheard_next, unless_broken, HostStep, Answers, quiet, with_talk, replied, granted_by, talked_on, talked, hears, believed, once_read, key_came, key_data_came, data_came, answered, if_answers, response_came, once_agreed, took}
+use Rattle.host_core.specs.declared.unheard.Unheard.{Unheard}
+use Rattle.host_core.specs.declared.unheard.Unheard.TheVariants as unheards
+use Rattle.std.specs.Prelude.{⊤, unwrap_or, if◌then◌else◌}
 use Rattle.world3270.specs.refinement.LowerLaws.{LowerLaws}
 use Rattle.world3270.specs.model.Link.{Link, sent}
 use Rattle.world3270.specs.refinement.Phases.{Kind, awaiting, NegotiationPhase, SessionPhase, LinkPhase, IsInFlight, IsAgreed, IsAt, IsHostTalk, IsTermTalk, host_in_talk, turn_at, pending_at, down_at, up_at, served_down, served_up}
 use Rattle.world3270.specs.statement.TurnReasons.{IsOccasion, IsCursorFor, IsOpenBy, IsOpenFor}
-use Rattle.world3270.specs.refinement.Invariant.{local_state_of, once_taken, FactsAreExact, MayBeGranted, Sees, IsPressed, WillBeHeard, IsReported, Fact, ConnectionInvariant, Sizes, IsTextKnown, IsKnownIfRead, IsUnread, ShownAt}
+use Rattle.world3270.specs.refinement.Invariant.{local_state_of, once_taken, FactsAreExact, MayBeGranted, Sees, IsPressed, WasNoted, WillBeHeard, Decides, IsReported, Fact, ConnectionInvariant, Sizes, IsKnownIfRead, IsUnread, ShownAt}
 use Rattle.world3270.specs.refinement.View.{view_of}
 use Rattle.world3270.proofs.OneOfMany.{same_number}
 use Rattle.world3270.proofs.Queues.{more, front, nothing}
@@ -215,16 +215,31 @@ module _ (app : Application) (pool : List Entry) (link : Link) (rest : List ToHo
 
 -- ---- responses
 
-answers_it : (kind : Kind) (number : ℕ) (command : CommandParts) (conn : Session) → response_came number Verdict.Positive (awaiting kind number command) conn ≡ quiet (answered command conn)
-answers_it Kind.APaint number command conn = ap (λ b. if_answers b (quiet (answered command conn)) conn) (same_number number)
-answers_it Kind.ANote number command conn = ap (λ b. if_answers b (quiet (answered command conn)) conn) (same_number number)
+-- Clear wasn't pressed out of turn while a paint waits for its answer
+abbrev pub IsUncleared : Kind → Unheard → Type 0
+IsUncleared Kind.APaint unheard = may_be_read unheard ≡ true
+IsUncleared Kind.ANote unheard = ⊤
 
-pub response_took : (pool : Answers) (conn : Session) (kind : Kind) (number : ℕ) (command : CommandParts) → is_agreed conn.talk.state ≡ true → conn.pending ≡ awaiting kind number command
+pub is_uncleared : (kind : Kind) (unheard : Unheard) → may_be_read unheard ≡ true → IsUncleared kind unheard
+is_uncleared Kind.APaint unheard may = may
+is_uncleared Kind.ANote unheard may = tt
+
+-- the connection after a paint is answered, if Clear was pressed out of turn
+abbrev cleared_since : CommandParts → Session → Session
+cleared_since command conn = if is_erase command.code then answered command (record conn { unheard = unheard_next conn.unheard }) else refused conn
+
+answers_it : (kind : Kind) (number : ℕ) (command : CommandParts) (conn : Session) → IsUncleared kind conn.unheard → response_came number Verdict.Positive (awaiting kind number command) conn ≡ quiet (answered command conn)
+answers_it Kind.APaint number command conn may =
+    ap (λ b. if_answers b (quiet (if may_be_read conn.unheard then answered command conn else cleared_since command conn)) conn) (same_number number)
+    ∙ ap (λ (b : Bool). quiet (if b then answered command conn else cleared_since command conn)) may
+answers_it Kind.ANote number command conn may = ap (λ b. if_answers b (quiet (answered command conn)) conn) (same_number number)
+
+pub response_took : (pool : Answers) (conn : Session) (kind : Kind) (number : ℕ) (command : CommandParts) → is_agreed conn.talk.state ≡ true → conn.pending ≡ awaiting kind number command → IsUncleared kind conn.unheard
     → took pool conn (ToHost.Response number Verdict.Positive) ≡ quiet (answered command conn)
-response_took pool conn kind number command agrees pends =
+response_took pool conn kind number command agrees pends may =
     ap (λ b. once_agreed b (response_came number Verdict.Positive conn.pending conn) conn) agrees
     ∙ ap (λ p. response_came number Verdict.Positive p conn) pends
-    ∙ answers_it kind number command conn
+    ∙ answers_it kind number command conn may
 
 -- ---- data
 
@@ -257,7 +272,7 @@ key_took pool conn parts aid agrees turns time form is some =
 
 pub buffer_took : (pool : Answers) (conn : Session) (size : ScreenSize) (screen : Screen) (number : ℕ) → is_agreed conn.talk.state ≡ true → conn.pending ≡ Pending.Reading number
     → rule_broken_by (buffer_data size screen) conn ≡ None
-    → took pool conn (ToHost.Data (buffer_data size screen)) ≡ believed (once_read conn.turn_reason) Pending.Nothing (buffer_data size screen).cursor conn (hears (buffer_data size screen) conn)
+    → took pool conn (ToHost.Data (buffer_data size screen)) ≡ buffer_heard (buffer_data size screen) conn
 buffer_took pool conn size screen number agrees pends unbroken =
     let parts : InboundParts = buffer_data size screen in
     ap (λ b. once_agreed b (data_came parts conn.turn conn.pending conn) conn) agrees
@@ -272,6 +287,29 @@ none_broken false broken e = refl
 pub unbroken_read : (conn : Session) (size : ScreenSize) (screen : Screen) → rule_break conn.shadow screen.cells ≡ None → rule_broken_by (buffer_data size screen) conn ≡ None
 unbroken_read conn size screen unbroken =
     none_broken (is_verified conn) (rule_break conn.shadow (cells_sent (buffer_data size screen).parts)) (ap (rule_break conn.shadow) (cells_back screen.cells) ∙ unbroken)
+
+-- the answer is believed if it counts,
+pub buffer_counts : (parts : InboundParts) (conn : Session) → is_read_believed conn ≡ true → buffer_heard parts conn ≡ believed (once_read conn.turn_reason) Pending.Nothing parts.cursor conn (hears parts conn)
+buffer_counts parts conn is = ap (λ (b : Bool). if b then believed (once_read conn.turn_reason) Pending.Nothing parts.cursor conn (hears parts conn) else quiet (only_read conn)) is
+
+-- and else changes nothing that is believed
+pub buffer_skipped : (parts : InboundParts) (conn : Session) → is_read_believed conn ≡ false → buffer_heard parts conn ≡ quiet (only_read conn)
+buffer_skipped parts conn is = ap (λ (b : Bool). if b then believed (once_read conn.turn_reason) Pending.Nothing parts.cursor conn (hears parts conn) else quiet (only_read conn)) is
+
+-- where it doesn't count, the host doesn't rely on the wait, the key wasn't PA, and all texts are known
+pub record DoesNotCount (unheard : Unheard) (reason : TurnReason) (shadow : Shadow) : Type 0 where
+  pub any : may_have_changed unheard ≡ true
+  pub no_pa : is_after_pa reason ≡ false
+  pub settled : is_settled shadow ≡ true
+
+pub skipped_when : (unheard : Unheard) (reason : TurnReason) (shadow : Shadow) → (not (may_have_changed unheard) || (is_after_pa reason || not (is_settled shadow))) ≡ false → DoesNotCount unheard reason shadow
+skipped_when unheard reason shadow is = by_parts (may_have_changed unheard) (is_after_pa reason) (is_settled shadow) refl refl refl is
+  where
+    by_parts : (any pa settled : Bool) → may_have_changed unheard ≡ any → is_after_pa reason ≡ pa → is_settled shadow ≡ settled → (not any || (pa || not settled)) ≡ false → DoesNotCount unheard reason shadow
+    by_parts true false true any no_pa settled is = record { any = any; no_pa = no_pa; settled = settled }
+    by_parts false pa settled any no_pa known is = absurd (cc)
+    by_parts true true settled any no_pa known is = absurd (cc)
+    by_parts true false false any no_pa known is = absurd (cc)
 
 -- nothing is open, so much the less after some keys
 all_open : (aid : Aid) (buffered : Bool) (s : Shadow) → NothingIsOpen s → IsOpenBy aid buffered s
@@ -293,25 +331,7 @@ read_occasion turn_reasons.Agreement aid is = is
 read_occasion (turn_reasons.Key pressed buffered) aid is = is
 read_occasion turn_reasons.Refusal aid is = absurd is
 
--- what is believed of a screen that was read is settled
-seen_settled : (fields : List Field) → All IsTextKnown (map belief_seen fields)
-seen_settled [] = All-nil IsTextKnown
-seen_settled (field ∷ fields) = All-cons IsTextKnown (belief_seen field) (map belief_seen fields) refl (seen_settled fields)
-
-formatted_settled : (fields : List Field) (chars : List ℕ) → All IsTextKnown (fields_of (formatted_or fields chars))
-formatted_settled [] chars = All-nil IsTextKnown
-formatted_settled (field ∷ fields) chars = seen_settled (field ∷ fields)
-
-read_is_settled : (size : ℕ) (shadow : Shadow) (parts : InboundParts) → parts.form ≡ Buffer → IfOk (heard size shadow parts) (λ s. All IsTextKnown (fields_of s))
-read_is_settled size shadow parts form =
-    subst (λ (f : Form). IfOk (heard_form f size shadow parts.aid parts.parts) (λ s. All IsTextKnown (fields_of s))) (sym form)
-    (by_denial (denies_buffer shadow (cells_sent parts.parts)))
-  where
-    by_denial : (denied : Bool) → IfOk (if denied then Err Contradiction else Ok (seen (cells_sent parts.parts))) (λ s. All IsTextKnown (fields_of s))
-    by_denial true = tt
-    by_denial false = formatted_settled (fields (cells_sent parts.parts)) (text_before_attribute (cells_sent parts.parts))
-
-settled_read : (turn_reason : TurnReason) (shadow : Shadow) → All IsTextKnown (fields_of shadow) → IsKnownIfRead (once_read turn_reason) shadow
+settled_read : (turn_reason : TurnReason) (shadow : Shadow) → IsSettled shadow → IsKnownIfRead (once_read turn_reason) shadow
 settled_read turn_reasons.Agreement shadow settled = tt
 settled_read (turn_reasons.Key aid buffered) shadow settled = settled
 settled_read turn_reasons.Refusal shadow settled = tt
@@ -327,6 +347,18 @@ read_cursor : (turn_reason : TurnReason) (aid : Aid) (place : ℕ) → (turn_rea
 read_cursor turn_reasons.Agreement aid place later occasion uncleared = absurd (later refl)
 read_cursor (turn_reasons.Key pressed buffered) aid place later occasion uncleared = (refl, λ clear. absurd (uncleared (sym occasion.0 ∙ clear)))
 read_cursor turn_reasons.Refusal aid place later occasion uncleared = tt
+
+-- and it knew that where the answer doesn't count, since Enter and PF keys send the cursor address
+known_cursor : (turn_reason : TurnReason) (aid : Aid) (known place : ℕ) → is_after_pa turn_reason ≡ false → IsOccasion turn_reason aid → (aid ≡ Clear → ⊥) → IsCursorFor turn_reason known place → IsCursorFor (once_read turn_reason) known place
+known_cursor turn_reasons.Agreement aid known place no_pa occasion uncleared on = on
+known_cursor (turn_reasons.Key Enter true) aid known place no_pa occasion uncleared on = on
+known_cursor (turn_reasons.Key Enter false) aid known place no_pa occasion uncleared on = (on.0 refl, on.1)
+known_cursor (turn_reasons.Key (Pf key) true) aid known place no_pa occasion uncleared on = on
+known_cursor (turn_reasons.Key (Pf key) false) aid known place no_pa occasion uncleared on = (on.0 refl, on.1)
+known_cursor (turn_reasons.Key (Pa key) buffered) aid known place no_pa occasion uncleared on = absurd (cc)
+known_cursor (turn_reasons.Key Clear buffered) aid known place no_pa occasion uncleared on = absurd (uncleared (sym occasion.0))
+known_cursor (turn_reasons.Key NoAid buffered) aid known place no_pa occasion uncleared on = absurd (occasion.1 (sym occasion.0))
+known_cursor turn_reasons.Refusal aid known place no_pa occasion uncleared on = tt
 
 -- reading isn't the first that happens
 read_later : (turn_reason : TurnReason) → (turn_reason ≡ turn_reasons.Agreement → ⊥) → once_read turn_reason ≡ turn_reasons.Agreement → ⊥
@@ -375,13 +407,13 @@ module _ (given : LowerLaws) (app : Application) (pool : List Entry) (link : Lin
 
   -- a response to a write
   hears_response : (lu : List ℕ) (from to : SessionPhase) (kind : Kind) (number : ℕ) (command : CommandParts) (message : ToHost) → IsAt (view_of link) k.wanted (LinkPhase.InSession lu from) → message ≡ ToHost.Response number Verdict.Positive
-      → pending_at (LinkPhase.InSession lu from) ≡ awaiting kind number command → FactsAreExact (once_taken link.host.size command link.host.shadow)
+      → pending_at (LinkPhase.InSession lu from) ≡ awaiting kind number command → IsUncleared kind link.host.unheard → FactsAreExact (once_taken link.host.size command link.host.shadow)
       → turn_at (LinkPhase.InSession lu from) ≡ turn_at (LinkPhase.InSession lu to) → Pending.Nothing ≡ pending_at (LinkPhase.InSession lu to) → served_down from ++ [] ≡ served_down to
       → IsInFlight link.lost rest (served_up to) → Fact k.wanted (local_state_of (view_of (host_view (quiet (answered command link.host)) rest link))) (LinkPhase.InSession lu to)
       → ShownAt app link.term.waits (answered command link.host) link.term.display.before_restored link.term.display.last_restored link.term.display.screen (LinkPhase.InSession lu to) → Answered app pool link rest (took (answer_to pool) link.host message)
-  hears_response lu from to kind number command message at e waits exact turn pends down left fact shown =
+  hears_response lu from to kind number command message at e waits may exact turn pends down left fact shown =
       as_step app pool link rest k (ToHost.Response number Verdict.Positive) message (quiet (answered command link.host)) e
-      (response_took (answer_to pool) link.host kind number command (agreed_at app pool link rest k lu from at) (at.pending ∙ waits))
+      (response_took (answer_to pool) link.host kind number command (agreed_at app pool link rest k lu from at) (at.pending ∙ waits) may)
       (serves app pool link rest k lu from to (answered command link.host) same at refl refl exact (at.turn ∙ turn) pends down left fact shown)
 
   -- the whole screen, as it was asked for
@@ -389,23 +421,51 @@ module _ (given : LowerLaws) (app : Application) (pool : List Entry) (link : Lin
       → message ≡ ToHost.Data parts → IsInFlight link.lost rest [] → ShownAt app link.term.waits link.host link.term.display.before_restored link.term.display.last_restored link.term.display.screen (LinkPhase.InSession lu (SessionPhase.BufferReturning number parts))
       → Answered app pool link rest (took (answer_to pool) link.host message)
   hears_buffer lu number parts message at f e left shown =
-      let said : Screen = record screen { aid = parts.aid } in
-      let read : InboundParts = buffer_data link.host.size said in
-      as_step app pool link rest k (ToHost.Data read) message (believed (once_read link.host.turn_reason) Pending.Nothing read.cursor link.host (hears read link.host)) (e ∙ ap (λ p. ToHost.Data p) f.says)
+      as_step app pool link rest k (ToHost.Data read) message (buffer_heard read link.host) (e ∙ ap (λ p. ToHost.Data p) f.says)
       (buffer_took (answer_to pool) link.host link.host.size said number (agreed_at app pool link rest k lu (SessionPhase.BufferReturning number parts) at) at.pending
       (unbroken_read link.host link.host.size said f.unbroken))
-      (believes lu (SessionPhase.BufferReturning number parts) SessionPhase.Deciding read (once_read link.host.turn_reason) Pending.Nothing read.cursor (λ s. Sees link.host.unheard link.host.size screen s × NothingIsOpen s × All IsTextKnown (fields_of s)) (hears read link.host) at
-      (given.belief.heard_exact size link.host.shadow read k.exact.known) (given.belief.heard_protected size link.host.shadow read k.exact.protected)
-      (by_result (heard size link.host.shadow read) f.will
-      (given.belief.heard_exact size link.host.shadow read k.exact.known) (given.belief.heard_protected size link.host.shadow read k.exact.protected) (given.belief.read_leaves size link.host.shadow read refl) (read_is_settled size link.host.shadow read refl))
-      refl refl refl left (λ shadow sees. record { lock = f.lock; turn_reason = read_occasion link.host.turn_reason screen.aid f.turn_reason; cursor = read_cursor link.host.turn_reason screen.aid screen.cursor f.not_first f.turn_reason f.not_cleared; closed = λ relies. open_read link.host.turn_reason shadow link.host.shadow sees.1 (f.closed relies); sees = sees.0 })
-      (λ shadow sees. (λ later. shown f.not_first, settled_read link.host.turn_reason shadow sees.2, λ is_first. absurd (read_later link.host.turn_reason f.not_first is_first))))
+      (by_test (is_read_believed link.host) refl)
     where
-      by_result : (r : Result Shadow HeardFault) → IsOkAnd r (Believed false screen) → IfOk r KnownIsExact → IfOk r ProtectedIsExact → IfOk r NothingIsOpen → IfOk r (λ s. All IsTextKnown (fields_of s))
-          → IsOkAnd r (λ s. Sees link.host.unheard link.host.size screen s × NothingIsOpen s × All IsTextKnown (fields_of s))
+      said : Screen
+      said = record screen { aid = parts.aid }
+
+      read : InboundParts
+      read = buffer_data link.host.size said
+
+      by_result : (r : Result Shadow HeardFault) → IsOkAnd r (Believed false screen) → IfOk r KnownIsExact → IfOk r ProtectedIsExact → IfOk r NothingIsOpen → IfOk r IsSettled
+          → IsOkAnd r (λ s. Sees link.host.unheard link.host.size screen s × NothingIsOpen s × IsSettled s)
       by_result (Ok s) believed known protected closed settled =
           (record { exact = record { known = known; protected = protected }; closed = λ relies. all_open screen.aid false s closed; cleared = λ clear. absurd (f.not_cleared clear); bare = λ clear. absurd (f.not_cleared clear); meets = believed.0; lists = believed.1; told = λ sent. believed.2 refl }, closed, settled)
       by_result (Err fault) believed known protected closed settled = absurd believed
+
+      -- it counts
+      heard_now : Answered app pool link rest (believed (once_read link.host.turn_reason) Pending.Nothing read.cursor link.host (hears read link.host))
+      heard_now =
+          believes lu (SessionPhase.BufferReturning number parts) SessionPhase.Deciding read (once_read link.host.turn_reason) Pending.Nothing read.cursor (λ s. Sees link.host.unheard link.host.size screen s × NothingIsOpen s × IsSettled s) (hears read link.host) at
+          (given.belief.heard_exact size link.host.shadow read k.exact.known) (given.belief.heard_protected size link.host.shadow read k.exact.protected)
+          (by_result (heard size link.host.shadow read) f.will
+          (given.belief.heard_exact size link.host.shadow read k.exact.known) (given.belief.heard_protected size link.host.shadow read k.exact.protected) (given.belief.read_leaves size link.host.shadow read refl) (given.belief.read_settles size link.host.shadow read refl))
+          refl refl refl left (λ shadow sees. record { lock = f.lock; turn_reason = read_occasion link.host.turn_reason screen.aid f.turn_reason; cursor = read_cursor link.host.turn_reason screen.aid screen.cursor f.not_first f.turn_reason f.not_cleared; closed = λ relies. open_read link.host.turn_reason shadow link.host.shadow sees.1 (f.closed relies); sees = sees.0 })
+          (λ shadow sees. (λ later. shown f.not_first, settled_read link.host.turn_reason shadow sees.2, λ is_first. absurd (read_later link.host.turn_reason f.not_first is_first)))
+
+      -- or not: the host decides by what it knew
+      skipped_now : is_read_believed link.host ≡ false → Answered app pool link rest (quiet (only_read link.host))
+      skipped_now is =
+          let when : DoesNotCount link.host.unheard link.host.turn_reason link.host.shadow = skipped_when link.host.unheard link.host.turn_reason link.host.shadow is in
+          let knew : Decides (local_state_of (view_of link)) link.host.shadow = f.known is in
+          serves app pool link rest k lu (SessionPhase.BufferReturning number parts) SessionPhase.Deciding (only_read link.host) same at refl refl k.exact refl refl refl left
+          (record {
+            lock = f.lock;
+            turn_reason = read_occasion link.host.turn_reason screen.aid f.turn_reason;
+            cursor = known_cursor link.host.turn_reason screen.aid link.host.cursor screen.cursor when.no_pa f.turn_reason f.not_cleared knew.cursor;
+            closed = λ relies. absurd (let wrong : false ≡ true = sym (ap may_have_changed relies) ∙ when.any in cc);
+            sees = knew.sees;
+          })
+          (λ later. shown f.not_first, settled_read link.host.turn_reason link.host.shadow ((given.belief.settled link.host.shadow).0 when.settled), λ is_first. absurd (read_later link.host.turn_reason f.not_first is_first))
+
+      by_test : (b : Bool) → is_read_believed link.host ≡ b → Answered app pool link rest (buffer_heard read link.host)
+      by_test true is = subst (Answered app pool link rest) (sym (buffer_counts read link.host is)) heard_now
+      by_test false is = subst (Answered app pool link rest) (sym (buffer_skipped read link.host is)) (skipped_now is)
 
 -- ---- any message, at any moment
 
@@ -446,19 +506,19 @@ answers given app pool sound link message rest e k = by_moment k.moment k.sizes 
         hears_buffer given app pool link rest k (s.same refl) lu number parts message at f first.0 first.1 shown
     by_serving lu (SessionPhase.DecidingNoteAnswered number command) s at f shown =
         let first = front link.lost link.up message rest _ [] e at.goes_up in
-        hears_response given app pool link rest k (s.same refl) lu (SessionPhase.DecidingNoteAnswered number command) SessionPhase.Deciding Kind.ANote number command message at first.0 refl f.sees.exact refl refl refl first.1
+        hears_response given app pool link rest k (s.same refl) lu (SessionPhase.DecidingNoteAnswered number command) SessionPhase.Deciding Kind.ANote number command message at first.0 refl tt f.sees.exact refl refl refl first.1
         (record { lock = f.lock; turn_reason = f.turn_reason; cursor = f.cursor; closed = f.closed; sees = f.sees })
         (λ _. shown.0, unread_settled link.host.turn_reason (once_taken link.host.size command link.host.shadow) shown.1, λ is_first. absurd (subst IsUnread is_first shown.1))
     by_serving lu (SessionPhase.AwaitingWriteResponse kind number command) s at f shown =
         let first = front link.lost link.up message rest _ [] e at.goes_up in
-        hears_response given app pool link rest k (s.same refl) lu (SessionPhase.AwaitingWriteResponse kind number command) SessionPhase.OperatorTyping kind number command message at first.0 refl f.exact refl refl refl first.1
-        (record { shown = f.shown; lock = f.lock; exact = f.exact; meets = f.meets; closed = f.closed; knows = f.knows; held = f.held; messages = f.messages; noted = f.noted })
+        hears_response given app pool link rest k (s.same refl) lu (SessionPhase.AwaitingWriteResponse kind number command) SessionPhase.OperatorTyping kind number command message at first.0 refl (is_uncleared kind link.host.unheard f.uncleared) f.exact refl refl refl first.1
+        (record { shown = f.shown; lock = f.lock; uncleared = f.uncleared; exact = f.exact; meets = f.meets; closed = f.closed; knows = f.knows; held = f.held; messages = f.messages; noted = f.noted })
         shown
     by_serving lu (SessionPhase.KeySentAfterResponse kind number command parts) s at f shown =
         let first = front link.lost link.up message rest _ _ e at.goes_up in
         hears_response given app pool link rest k (s.same refl) lu (SessionPhase.KeySentAfterResponse kind number command parts) (SessionPhase.KeySent parts) kind number command message at first.0 refl
-        f.3 refl refl refl first.1
-        (record { lock = f.0.lock; form = f.0.form; size = f.0.size; pressed = f.0.pressed; cursor = f.0.cursor; some = f.0.some; home = f.0.home }, f.1, f.2)
+        (is_uncleared kind link.host.unheard f.0.uncleared) f.3 refl refl refl first.1
+        (record { lock = f.0.lock; uncleared = f.0.uncleared; form = f.0.form; size = f.0.size; pressed = f.0.pressed; cursor = f.0.cursor; some = f.0.some; home = f.0.home }, f.1, f.2, f.4)
         shown
     by_serving lu (SessionPhase.KeySent parts) s at f shown =
         let first = front link.lost link.up message rest _ [] e at.goes_up in
@@ -472,9 +532,9 @@ answers given app pool sound link message rest e k = by_moment k.moment k.sizes 
         (λ shadow sees. (shown, tt))
     by_serving lu (SessionPhase.KeyBeforeNoteResponse number command parts) s at f shown =
         let first = front link.lost link.up message rest _ _ e at.goes_up in
-        hears_key given app pool link rest k (s.same refl) lu (SessionPhase.KeyBeforeNoteResponse number command parts) (SessionPhase.DecidingNoteAnswered number command) parts message (λ shadow. Sees link.host.unheard link.host.size screen (once_taken link.host.size command shadow)) at f.0 f.1 first.0 refl
+        hears_key given app pool link rest k (s.same refl) lu (SessionPhase.KeyBeforeNoteResponse number command parts) (SessionPhase.DecidingNoteAnswered number command) parts message (λ shadow. Sees link.host.unheard link.host.size screen (once_taken link.host.size command shadow) × WasNoted link.host.size command shadow) at f.0 f.1 first.0 refl
         (IsKeyTime.note_waits number command refl) refl refl refl first.1
-        (λ shadow sees. record { lock = f.0.lock; turn_reason = (refl, f.0.some); cursor = (λ long. ap (λ (c : Option ℕ). unwrap_or c link.host.cursor) (f.0.cursor long), f.0.home); closed = sees.closed; sees = sees })
+        (λ shadow sees. record { lock = f.0.lock; turn_reason = (refl, f.0.some); cursor = (λ long. ap (λ (c : Option ℕ). unwrap_or c link.host.cursor) (f.0.cursor long), f.0.home); closed = sees.0.closed; sees = sees.0 })
         (λ shadow sees. (shown, tt))
     by_serving lu SessionPhase.Deciding s at f shown = no_more at.goes_up
     by_serving lu (SessionPhase.Reading number) s at f shown = no_more at.goes_up

@@ -46,7 +46,7 @@ use shadow::laws::{
     what_is_believed_has_a_size, what_is_exact_is_so, what_is_in_doubt_is_allowed,
     what_is_known_is_exact, what_is_protected_is_exact, what_is_read_is_heard,
     what_is_sent_is_heard, what_is_wanted_is_painted, what_is_written_is_taken,
-    what_leaves_nothing_open,
+    what_leaves_nothing_open, what_returns_input_is_settled,
 };
 use tn3270e_msg::laws::one_reading;
 
@@ -69,6 +69,7 @@ fn what_is_given()
     the_pool_is_a_map();
     what_is_written_is_taken();
     what_leaves_nothing_open();
+    what_returns_input_is_settled();
     what_is_in_doubt_is_allowed();
     what_a_note_keeps();
     what_a_note_leaves();

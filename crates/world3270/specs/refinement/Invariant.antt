@@ -1,5 +1,5 @@
 -- The invariant of the headline, for proofs: what holds of a connection at each of its moments (our profile).
-use Rattle.std.specs.Prelude.{◌≡◌, ◌<◌, ⊤, ℕ, Bool, false, List, length, Option, Some, None, IsTrue, IsOkAnd, true}
+use Rattle.std.specs.Prelude.{◌≡◌, ◌<◌, ◌||◌, not, ⊤, ℕ, Bool, false, List, length, Option, Some, None, IsTrue, IsOkAnd, true}
 use Rattle.codes3270.specs.Aid.{is_short_aid}
 use Rattle.codes3270.specs.Size.{ScreenSize, cells_in}
 use Rattle.codes3270.specs.declared.attention.Aid.TheVariants.{NoAid, Clear}
@@ -19,6 +19,8 @@ use Rattle.shadow.specs.Exactness.{KnownIsExact, ProtectedIsExact}
 use Rattle.shadow.specs.Heard.{heard}
 use Rattle.shadow.specs.Laws.{Believed}
 use Rattle.shadow.specs.Meets.{Meets, Knows, ListsFields, IsTold}
+use Rattle.shadow.specs.Notes.{OverwritesProtected}
+use Rattle.shadow.specs.Settled.{is_settled}
 use Rattle.shadow.specs.TextUnknown.{NothingIsOpen}
 use Rattle.shadow.specs.Paint.{paint}
 use Rattle.shadow.specs.Taken.{taken}
@@ -28,7 +30,7 @@ use Rattle.host_core.specs.Application.{Application, IsSizeOf, message_place}
 use Rattle.host_core.specs.Session.{Session}
 use Rattle.host_core.specs.Laws.{IsPaintable}
 use Rattle.host_core.specs.NoteLaws.{HasMessageRow, HasNoFields, TakesNotes, IsNoteOf}
-use Rattle.host_core.specs.Takes.{may_have_changed}
+use Rattle.host_core.specs.Takes.{is_after_pa, may_be_read, may_have_changed}
 use Rattle.host_core.specs.declared.turn_reason.TurnReason.{TurnReason}
 use Rattle.host_core.specs.declared.turn_reason.TurnReason.TheVariants as turn_reasons
 use Rattle.host_core.specs.declared.unheard.Unheard.{Unheard}
@@ -37,7 +39,7 @@ use Rattle.world3270.specs.statement.AsLeft.{ProtectedIsAsLeft}
 use Rattle.world3270.specs.statement.Headline.{SentFields}
 use Rattle.world3270.specs.refinement.Phases.{NegotiationPhase, SessionPhase, LinkPhase, IsAt}
 use Rattle.world3270.specs.statement.Showing.{WantsItsPanelOn, ShowsItsPanel}
-pub use Rattle.world3270.specs.statement.Showing.{IsTextKnown, IsKnownIfRead}
+pub use Rattle.world3270.specs.statement.Showing.{IsKnownIfRead}
 use Rattle.world3270.specs.statement.TurnReasons.{IsOccasion, IsCursorFor, IsHome, IsOpenBy, IsOpenFor, IsCleared}
 use Rattle.world3270.specs.refinement.Unreturned.{NotedSince, UnmodifiedIsKept}
 use Rattle.world3270.specs.refinement.View.{View}
@@ -115,6 +117,7 @@ pub record IsPainted (s : LocalState) (command : CommandParts) (wanted : WantedS
   pub command_is : command ≡ paint (cells_in wanted.size) over wanted
   pub meets : Meets over s.screen
   pub closed : IfRelies s.unheard (NothingIsOpen over)
+  pub uncleared : may_be_read s.unheard ≡ true
   pub doubts : may_have_changed s.unheard ≡ true → AllowsInput over s.screen
   pub paintable : IsPaintable s.size over wanted
 
@@ -123,6 +126,7 @@ pub record IsPainted (s : LocalState) (command : CommandParts) (wanted : WantedS
 pub record Operates (shadow : Shadow) (s : LocalState) : Type 0 where
   pub shown : Screen
   pub lock : s.lock ≡ Wait → ⊥
+  pub uncleared : may_be_read s.unheard ≡ true
   pub exact : FactsAreExact shadow
   pub meets : Meets shadow shown
   pub closed : IfRelies s.unheard (NothingIsOpen shadow)
@@ -144,12 +148,27 @@ pub record Sees (unheard : Unheard) (size : ScreenSize) (screen : Screen) (shado
 -- Holds while a key's data is under way, and the keyboard is locked.
 pub record IsPressed (s : LocalState) (parts : InboundParts) : Type 0 where
   pub lock : s.lock ≡ Wait
+  pub uncleared : may_be_read s.unheard ≡ true
   pub form : parts.form ≡ Modified
   pub size : parts.size ≡ s.size
   pub pressed : parts.aid ≡ s.screen.aid
   pub cursor : is_short_aid s.screen.aid ≡ false → parts.cursor ≡ Some s.screen.cursor
   pub some : s.screen.aid ≡ NoAid → ⊥
   pub home : IsHome s.screen.aid s.screen.cursor
+
+-- Holds if the belief is true of a screen of this size with a row for messages, as the one on which a key was pressed.
+pub record WasShown (size : ScreenSize) (shadow : Shadow) : Type 0 where
+  pub shown : Screen
+  pub whole : length shown.cells ≡ cells_in size
+  pub messages : HasMessageRow size shown.cells
+  pub meets : Meets shadow shown
+
+-- Holds if the belief is true of the screen of this size on which a note was written, over protected characters.
+pub record WasNoted (size : ScreenSize) (command : CommandParts) (shadow : Shadow) : Type 0 where
+  pub screen : Screen
+  pub whole : length screen.cells ≡ cells_in size
+  pub over : OverwritesProtected command screen
+  pub meets : Meets shadow screen
 
 -- The host will accept the key's data, and then `Then` holds of its belief.
 abbrev pub WillBeHeard : ScreenSize → Shadow → InboundParts → (Shadow → Type 0) → Type 0
@@ -172,7 +191,12 @@ pub record IsRead (s : LocalState) : Type 0 where
   pub not_cleared : s.screen.aid ≡ Clear → ⊥
   pub not_first : s.turn_reason ≡ turn_reasons.Agreement → ⊥
 
--- Holds while the whole screen is under way to the host, with any AID: what the host hears of it, it then believes.
+-- whether the answer to Read Buffer counts (`is_read_believed`)
+abbrev pub counts : LocalState → Bool
+counts s = not (may_have_changed s.unheard) || (is_after_pa s.turn_reason || not (is_settled s.shadow))
+
+-- Holds while the whole screen is under way to the host, with any AID: if it counts, the host then believes what it hears
+-- of it; else the host decides by what it knows.
 pub record IsReported (s : LocalState) (parts : InboundParts) : Type 0 where
   pub lock : s.lock ≡ Wait
   pub turn_reason : IsOccasion s.turn_reason s.screen.aid
@@ -182,6 +206,7 @@ pub record IsReported (s : LocalState) (parts : InboundParts) : Type 0 where
   pub says : parts ≡ buffer_data s.size (record s.screen { aid = parts.aid })
   pub will : WillBeHeard s.size s.shadow (buffer_data s.size s.screen) (Believed false s.screen)
   pub unbroken : rule_break s.shadow s.screen.cells ≡ None
+  pub known : counts s ≡ false → Decides s s.shadow
 
 -- Holds if the note may be written on the screen.
 pub record MayBeNoted (s : LocalState) (command : CommandParts) : Type 0 where
@@ -209,15 +234,16 @@ ServingFact s (SessionPhase.AwaitingWriteResponse kind number command) = Operate
 ServingFact s SessionPhase.OperatorTyping = Operates s.shadow s
 ServingFact s (SessionPhase.Noting number command) = Operates s.shadow s × IsNoteOf s.size command
 ServingFact s (SessionPhase.KeySent parts) = IsPressed s parts × WillSee s s.shadow parts
-    × TakesNotes s.size s.screen.cells
+    × TakesNotes s.size s.screen.cells × WasShown s.size s.shadow
 ServingFact s (SessionPhase.KeySentAfterResponse kind number command parts) =
     IsPressed s parts × WillSee s (once_taken s.size command s.shadow) parts × TakesNotes s.size s.screen.cells
-    × FactsAreExact (once_taken s.size command s.shadow)
+    × FactsAreExact (once_taken s.size command s.shadow) × WasShown s.size (once_taken s.size command s.shadow)
 ServingFact s (SessionPhase.KeyCrossingNote number command parts) = IsPressed s parts × WillSee s s.shadow parts
     × MayBeNoted s command
 ServingFact s (SessionPhase.KeyBeforeNoteResponse number command parts) =
     IsPressed s parts
-    × WillBeHeard s.size s.shadow parts (λ shadow. Sees s.unheard s.size s.screen (once_taken s.size command shadow))
+    × WillBeHeard s.size s.shadow parts
+    (λ shadow. Sees s.unheard s.size s.screen (once_taken s.size command shadow) × WasNoted s.size command shadow)
 
 abbrev pub Fact : Option (List ℕ) → LocalState → LinkPhase → Type 0
 Fact wanted s (LinkPhase.Negotiating talking) = IsNew s × TalkFact wanted talking

@@ -9,6 +9,7 @@ use Rattle.shadow.specs.Exactness.{NothingIsExact, HeardStaysExact, HeardStaysPr
 use Rattle.shadow.specs.Laws.{HearsModified, HearsBuffer, PaintIsEncoded, PaintIsTaken, PaintedIsKnown, WantedIsPainted, WrittenIsTaken}
 use Rattle.shadow.specs.Notes.{PlacedStaysKnown, NoteStaysListed, NoteStaysTold, NoteStaysExact, NoteOpensNothing}
 use Rattle.shadow.specs.RuleBreaks.{RulesAreNotBroken}
+use Rattle.shadow.specs.Settled.{NoteReturnsInput, NoteStaysSettled, PaintReturnsInput, ReadIsSettled, ReturnedIsSettled, SettledIsDecided}
 use Rattle.shadow.specs.TextUnknown.{ClearIsHeard, LongOpensNothing, ReadLeavesNothingOpen, PaintOpensNothing}
 use Rattle.tn3270e_msg.specs.Laws.{NameIsReadAsItself}
 use Rattle.lu_pool.specs.HolderLaws.{PoolsAreSound, StaysSoundFree, StaysSoundGranted, StaysSoundBack, NobodyHolds, AnswersWhatIsFree, AnswersNames, AnswersTheName, GrantIsHeld, OthersStay, OthersKeep, BackIsFree}
@@ -36,6 +37,10 @@ pub record BeliefLaws : Type 0 where
   pub long_opens : LongOpensNothing
   pub read_leaves : ReadLeavesNothingOpen
   pub paint_opens : PaintOpensNothing
+  pub settled : SettledIsDecided
+  pub returned_settles : ReturnedIsSettled
+  pub read_settles : ReadIsSettled
+  pub paint_returns : PaintReturnsInput
   pub doubt_allows : DoubtAllowsTheScreen
   pub doubt_input : DoubtAllowsInput
   pub doubt_exact : DoubtStaysExact
@@ -66,6 +71,8 @@ pub record NoteLaws : Type 0 where
   pub stays_told : NoteStaysTold
   pub exact : NoteStaysExact
   pub opens : NoteOpensNothing
+  pub returns : NoteReturnsInput
+  pub stays_settled : NoteStaysSettled
   pub are_notes : NotesAreNotes
   pub overwrites : NotesOverwrite
   pub over_characters : NotesAreOverCharacters

@@ -3,7 +3,7 @@
 use Rattle.std.specs.Prelude.{◌≡◌, ◌≢◌, ⊤, ◌||◌, ℕ, Bool, true, false, List, [], ◌∷◌, None, Some, if◌then◌else◌, is_some}
 use Rattle.codes3270.specs.Size.{cells_in}
 use Rattle.codes3270.specs.declared.attention.Aid.{Aid}
-use Rattle.codes3270.specs.declared.attention.Aid.TheVariants.{NoAid, Clear}
+use Rattle.codes3270.specs.declared.attention.Aid.TheVariants.{NoAid, Clear, Pa}
 use Rattle.datastream.specs.Meaning.{after_command}
 use Rattle.datastream.specs.Wanted.{WantedScreen}
 use Rattle.keyboard.specs.State.{freed}
@@ -15,6 +15,7 @@ use Rattle.panels.specs.declared.message.Message.{Message}
 use Rattle.shadow.specs.Belief.{Shadow}
 use Rattle.shadow.specs.Doubt.{doubted}
 use Rattle.shadow.specs.Paint.{paint}
+use Rattle.shadow.specs.Settled.{WantsInputReturned}
 use Rattle.tn3270e_msg.specs.Device.{model_of}
 use Rattle.tn3270e_msg.specs.declared.device.Device.{Device}
 use Rattle.tn3270e_msg.specs.declared.host_talk.HostState.TheVariants.{Agreed as HostAgreed}
@@ -43,8 +44,9 @@ use Rattle.world3270.specs.model.Terminal.{Display, TermEnd, TermStep, bound_to,
 -- ---- the connection, and the screen that the host was told
 
 -- `told`: what the terminal displayed after the first key since the last paint that sent data, or what it displays now
--- if there was no such key; before the first paint, the blank screen of the begin. When the terminal takes a Read
--- Buffer, `told` becomes its screen at that time, with the AID of `told`. A note is written over `told` too.
+-- if there was no such key; before the first paint, the blank screen of the begin. If that key was PA, which sends no
+-- fields, `told` becomes the terminal's screen when it takes a Read Buffer, with the AID of `told`. A note is written
+-- over `told` too.
 -- `waits`: there was such a key since the last paint (a 3278's keyboard would be locked), or no paint was taken yet.
 -- No step of either end reads `told` or `waits`.
 pub record LinkWithReport : Type 0 where
@@ -83,10 +85,16 @@ executed end (ToTerminal.TalksDown saying) = term_took end (ToTerminal.TalksDown
 executed end (ToTerminal.ReadBuffer number) = term_took end (ToTerminal.ReadBuffer number)
 executed end (ToTerminal.Note number command) = term_took end (ToTerminal.Note number command)
 
+-- the AID of a PA key
+abbrev pub is_pa : Aid → Bool
+is_pa (Pa key) = true
+is_pa _ = false
+
 -- what the host was told, after a terminal that is bound has taken a message and displays `now`
 abbrev pub told_after : ToTerminal → (told now : Display) → Display
 told_after (ToTerminal.Paint number wanted over) told now = now
-told_after (ToTerminal.ReadBuffer number) told now = record now { screen = record now.screen { aid = told.screen.aid } }
+told_after (ToTerminal.ReadBuffer number) told now =
+    if is_pa told.screen.aid then record now { screen = record now.screen { aid = told.screen.aid } } else told
 told_after (ToTerminal.Note number command) told now = record told { screen = after_command command told.screen }
 told_after (ToTerminal.TalksDown saying) told now = told
 
@@ -174,15 +182,23 @@ AreByTheRules app (move ∷ moves) t = IsByTheRules move t × AreByTheRules app 
 
 -- ---- agreement
 
+-- Holds if each input field of each screen that the application asks for is written with MDT on, so that Enter and PF
+-- keys return its text.
+abbrev pub MarksInput : Application → Type 0
+MarksInput app = (panel : ℕ) (values : Values) (message : Message) (keep : Bool)
+    → WantsInputReturned (app.screen panel values message keep)
+
 -- Both ends as they are just after the host has agreed on this LU (RFC 1647, section 7). The host is as at the begin of
 -- the connection, but for the state of the negotiation; it may or may not verify its terminals. The terminal is bound
 -- to the LU, or will be by the FUNCTIONS IS under way; it has a blank screen, of the size with which each connection
 -- begins and of the model of the device type that it requested (with or without -E), after any requests of functions.
+-- The application marks its input fields, as `Host` does for such terminals.
 pub record FirstPaint (app : Application) (lu : List ℕ) (t : LinkWithReport) : Type 0 where
   pub device : Device
   pub agreed : t.link.host.talk.state ≡ HostAgreed device lu
   pub serves : Terminals
   pub any : unheard_of serves ≡ Input
+  pub returns : MarksInput app
   pub host : t.link.host ≡ record (new_conn serves app) { talk = t.link.host.talk }
   pub binds : Binds lu t.link.term.talk.talk.state t.link.down
   pub blank : t.link.term.display

@@ -1,16 +1,17 @@
 -- The screens that show a panel, after a decision of the host or an answer of the application (our profile).
-use Rattle.std.specs.Prelude.{◌≡◌, ⊤, ℕ, Bool, true, false, All}
+use Rattle.std.specs.Prelude.{◌≡◌, ⊤, ℕ, Bool, true, false}
 use Rattle.datastream.specs.Screen.{Screen}
 use Rattle.datastream.specs.Wanted.{WantedScreen}
-use Rattle.shadow.specs.Belief.{Belief, Shadow, fields_of}
+use Rattle.shadow.specs.Belief.{Shadow}
 use Rattle.shadow.specs.Fits.{is_paintable}
 use Rattle.shadow.specs.Meets.{Meets}
 use Rattle.shadow.specs.Painted.{plainly_painted}
+use Rattle.shadow.specs.Settled.{IsSettled}
 use Rattle.panels.specs.Screen.{Values}
 use Rattle.panels.specs.declared.message.Message.{Message}
 use Rattle.tn3270e_msg.specs.Talk.{Talk}
 use Rattle.tn3270e_msg.specs.declared.host_talk.HostState.{HostState}
-use Rattle.host_core.specs.Acts.{Act, Decision, decision_on, is_settled_fact, values_shown, wanted_by, when_shown}
+use Rattle.host_core.specs.Acts.{Act, Decision, decision_on, values_shown, wanted_by, when_shown}
 use Rattle.host_core.specs.Application.{Application}
 use Rattle.host_core.specs.Questions.{act_by, is_ask, panel_for}
 use Rattle.host_core.specs.Session.{Session, model_in}
@@ -26,14 +27,10 @@ pub data IsDecided (app : Application) (conn : Session) (act : Act) : Type 0 whe
   by_application : (said : ApplicationAnswer) → is_ask (decision_on app conn conn.turn_reason) ≡ true
       → act ≡ act_by app conn said (panel_for app conn said) → IsDecided app conn act
 
--- Holds if the text of a field is known, perhaps but for its nulls.
-abbrev pub IsTextKnown : Belief → Type 0
-IsTextKnown belief = is_settled_fact belief.fact ≡ true
-
--- Holds if the screen wasn't read since the key, or the text of each field is known.
+-- Holds if the screen wasn't read since the key, or the text of each field is known, but for its nulls.
 abbrev pub IsKnownIfRead : TurnReason → Shadow → Type 0
 IsKnownIfRead turn_reasons.Agreement shadow = ⊤
-IsKnownIfRead (turn_reasons.Key aid true) shadow = All IsTextKnown (fields_of shadow)
+IsKnownIfRead (turn_reasons.Key aid true) shadow = IsSettled shadow
 IsKnownIfRead (turn_reasons.Key aid false) shadow = ⊤
 IsKnownIfRead turn_reasons.Refusal shadow = ⊤
 
