@@ -1,6 +1,6 @@
 -- No field is in doubt after Enter or a PF key, where the application marks its input fields and the host keeps none: a paint leaves MDT of
 -- each on, so that such a key returns each text.
-use Rattle.std.proofs.Common.{◌≡◌, ◌&&◌, ◌||◌, not, Option, Bool, true, false, ℕ, List, [], ◌∷◌, Result, Ok, Err, IsOkAnd, IfOk, refl, ap, sym, subst, ◌∙◌, if◌then◌else◌}
+use Rattle.std.proofs.Common.{◌≡◌, ◌&&◌, ◌||◌, not, Option, None, Bool, true, false, ℕ, List, [], ◌∷◌, Result, Ok, Err, IsOkAnd, IfOk, refl, ap, sym, subst, ◌∙◌, if◌then◌else◌}
 use Rattle.std.specs.Prelude.{⊤, length}
 use Rattle.std.specs.List.{list_any}
 use Rattle.std.proofs.lemmas.List.Elements.{All-nil}

@@ -196,10 +196,10 @@ module _ (given : LowerLaws) (app : Application) (is : IsApplication app) (lu : 
       unbroken = given.belief.unbroken s.simulates.since.erased end.host.shadow old heard_as comes.fact.decides.sees.meets s.simulates.since.held
 
       -- what is told then
-      abbrev told_if_pa : Bool → Display
+      told_if_pa : Bool → Display
       told_if_pa pa = if pa then record now.term.display { screen = record screen { aid = t.told.screen.aid } } else t.told
 
-      abbrev read_so : Bool → LinkWithReport
+      read_so : Bool → LinkWithReport
       read_so pa = record { link = term_stepped (read_came now.term) rest now; told = told_if_pa pa; waits = t.waits }
 
       after_pa : is_pa t.told.screen.aid ≡ true → Simulated app lu (read_so true)

@@ -124,6 +124,12 @@ both_say end now says lost up = subst (λ (l : Bool). Says end.host (sent end.lo
 
 -- ---- what the host makes of what both say
 
+heads : (one other : ToHost) (rest more : List ToHost) → one ∷ rest ≡ other ∷ more → one ≡ other
+heads one other rest more is = cc
+
+tails : (one other : ToHost) (rest more : List ToHost) → one ∷ rest ≡ other ∷ more → rest ≡ more
+tails one other rest more is = cc
+
 -- what the waiting terminal says first, of which the host makes the same as of this message
 pub record HeardAlike (pool : Answers) (conn : Session) (told : List ToHost) (message : ToHost) (others : List ToHost) : Type 0 where
   pub first : ToHost
