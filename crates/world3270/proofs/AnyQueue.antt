@@ -55,7 +55,7 @@ use Rattle.world3270.proofs.Known.{the_sizes}
 use Rattle.world3270.proofs.Queues.{front, nothing}
 use Rattle.world3270.proofs.SecondKeys.{AddsSecondKeys, IsSecondKey, SaysAlike, alike_silent, alike_talk, is_dropping, pending_after, second_key_dropped, unless_read}
 use Rattle.world3270.proofs.SimulatedHost.{may_note_when, nothing_up}
-use Rattle.world3270.proofs.Simulation.{Simulated, agrees_now}
+use Rattle.world3270.proofs.Simulation.{HeardAlike, Simulated, agrees_now, heard_alike}
 use Rattle.world3270.proofs.TalkStates.{agreed_there}
 use Rattle.world3270.proofs.Worlds.{some_cells}
 

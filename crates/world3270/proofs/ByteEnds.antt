@@ -103,7 +103,7 @@ pub begin_is_reached : MessageLaws → BeginIsReached
 begin_is_reached known begin is = record {
   are_events = tt;
   typed = All-nil IsWellFormed;
-  panels = refl;
+  panels = is.marked;
   stands = begin_stands (nothing_stands all_items RepresentsUp refl known.links.no_bytes known.links.start) begin.serves begin.panels begin.pool begin.models;
 }
 

@@ -1,5 +1,5 @@
 -- What a host makes of a message leaves its number and its values as they are, and its turn; it says nothing but talk.
-use Rattle.std.proofs.Common.{◌≡◌, ◌⊎◌, inl, inr, ◌==◌, ℕ, Bool, true, false, Option, None, Result, Ok, Err, List, [], map, refl, ◌∙◌, if◌then◌else◌, Some}
+use Rattle.std.proofs.Common.{◌≡◌, ◌⊎◌, inl, inr, ◌==◌, ℕ, Bool, true, false, Option, None, Result, Ok, Err, List, [], map, refl, sym, ◌∙◌, if◌then◌else◌, Some}
 use Rattle.codes3270.specs.declared.attention.Aid.{Aid}
 use Rattle.codes3270.specs.declared.attention.Aid.TheVariants.{NoAid, Enter, Clear, Pf, Pa}
 use Rattle.datastream.specs.Grammar.{CommandParts}
@@ -18,6 +18,8 @@ use Rattle.tn3270e_msg.specs.declared.host_talk.HostState.TheVariants.{Offered, 
 use Rattle.tn3270e_msg.specs.declared.reply.Reason.{Reason}
 use Rattle.tn3270e_msg.specs.declared.reply.Reply.{Reply}
 use Rattle.tn3270e_msg.specs.declared.reply.Reply.TheVariants as reply
+use Rattle.host_core.specs.Acts.{Act, done}
+use Rattle.host_core.specs.Application.{Application}
 use Rattle.host_core.specs.Messages.{ToTerminal, ToHost, Verdict}
 use Rattle.host_core.specs.declared.turn.Turn.{Turn}
 use Rattle.host_core.specs.declared.turn.Turn.TheVariants as whose
@@ -39,26 +41,26 @@ pub record JustTalks (old : Session) (step : HostStep) : Type 0 where
   pub message : step.conn.message ≡ old.message
   pub turn : old.turn ≡ whose.Host → step.conn.turn ≡ whose.Host
   pub pending : (step.conn.pending ≡ old.pending) ⊎ (step.conn.pending ≡ Pending.Nothing)
-  pub unheard : may_have_changed old.unheard ≡ true → may_have_changed step.conn.unheard ≡ true
+  pub unheard : may_have_changed step.conn.unheard ≡ may_have_changed old.unheard
   pub reason : (step.conn.turn_reason ≡ old.turn_reason) ⊎ (step.conn.turn_reason ≡ turn_reasons.Agreement → ⊥)
   pub talk : List NegotiationMessage
   pub says : step.sends ≡ map ToTerminal.TalksDown talk
 
 quietly : (conn : Session) → JustTalks conn (quiet conn)
-quietly conn = record { number = refl; size = refl; panel = refl; values = refl; message = refl; turn = λ is. is; pending = inl refl; unheard = λ any. any; reason = inl refl; talk = []; says = refl }
+quietly conn = record { number = refl; size = refl; panel = refl; values = refl; message = refl; turn = λ is. is; pending = inl refl; unheard = refl; reason = inl refl; talk = []; says = refl }
 
 closes : (conn : Session) (cause : Cause) → JustTalks conn (closed_by cause conn)
-closes conn cause = record { number = refl; size = refl; panel = refl; values = refl; message = refl; turn = λ is. is; pending = inl refl; unheard = λ any. any; reason = inl refl; talk = []; says = refl }
+closes conn cause = record { number = refl; size = refl; panel = refl; values = refl; message = refl; turn = λ is. is; pending = inl refl; unheard = refl; reason = inl refl; talk = []; says = refl }
 
 -- nothing is pending then
 settles : (conn new : Session) → new.next_seq ≡ conn.next_seq → new.size ≡ conn.size → new.panel ≡ conn.panel → new.values ≡ conn.values → new.message ≡ conn.message → (conn.turn ≡ whose.Host → new.turn ≡ whose.Host)
-    → new.pending ≡ Pending.Nothing → (may_have_changed conn.unheard ≡ true → may_have_changed new.unheard ≡ true) → (new.turn_reason ≡ conn.turn_reason) ⊎ (new.turn_reason ≡ turn_reasons.Agreement → ⊥) → JustTalks conn (quiet new)
+    → new.pending ≡ Pending.Nothing → may_have_changed new.unheard ≡ may_have_changed conn.unheard → (new.turn_reason ≡ conn.turn_reason) ⊎ (new.turn_reason ≡ turn_reasons.Agreement → ⊥) → JustTalks conn (quiet new)
 settles conn new number shape panel values message turn none unheard reason =
     record { number = number; size = shape; panel = panel; values = values; message = message; turn = turn; pending = inr none; unheard = unheard; reason = reason; talk = []; says = refl }
 
 replies : (conn : Session) (lu grants : Option (List ℕ)) (next : Talk HostState × Reply) → JustTalks conn (replied conn lu grants next)
 replies conn lu grants next =
-    record { number = refl; size = refl; panel = refl; values = refl; message = refl; turn = λ is. is; pending = inl refl; unheard = λ any. any; reason = inl refl; talk = sayings next.1; says = refl }
+    record { number = refl; size = refl; panel = refl; values = refl; message = refl; turn = λ is. is; pending = inl refl; unheard = refl; reason = inl refl; talk = sayings next.1; says = refl }
 
 asks : (conn : Session) (lu : Option (List ℕ)) (talk : Talk HostState) (answer : Result (List ℕ) Reason) (state : HostState) → JustTalks conn (asked conn lu talk answer state)
 asks conn lu talk answer (Asking device) = replies conn lu (granted_by answer) (follow Closed talk (answer_transition device answer))
@@ -85,7 +87,7 @@ believes : (turn_reason : TurnReason) (pending : Pending) (cursor : Option ℕ) 
     → (turn_reason ≡ conn.turn_reason) ⊎ (turn_reason ≡ turn_reasons.Agreement → ⊥)
     → JustTalks conn (believed turn_reason pending cursor conn result)
 believes turn_reason pending cursor conn (Ok shadow) waits reason =
-    record { number = refl; size = refl; panel = refl; values = refl; message = refl; turn = λ is. refl; pending = waits; unheard = λ any. any; reason = reason; talk = []; says = refl }
+    record { number = refl; size = refl; panel = refl; values = refl; message = refl; turn = λ is. refl; pending = waits; unheard = refl; reason = reason; talk = []; says = refl }
 believes turn_reason pending cursor conn (Err fault) waits reason = closes conn _
 
 hears_key : (parts : InboundParts) (aid : Aid) (conn : Session) → JustTalks conn (key_came parts aid conn)
@@ -101,41 +103,41 @@ hears_key_data parts AllModified conn = closes conn _
 hears_key_data parts Buffer conn = closes conn _
 
 drops : (conn new : Session) (aid : Aid) → new.next_seq ≡ conn.next_seq → new.size ≡ conn.size → new.panel ≡ conn.panel → new.values ≡ conn.values → new.message ≡ conn.message → new.turn ≡ conn.turn → new.pending ≡ conn.pending
-    → (may_have_changed conn.unheard ≡ true → may_have_changed new.unheard ≡ true) → new.turn_reason ≡ conn.turn_reason → JustTalks conn (dropping aid new)
+    → may_have_changed new.unheard ≡ may_have_changed conn.unheard → new.turn_reason ≡ conn.turn_reason → JustTalks conn (dropping aid new)
 drops conn new aid number shape panel values message turn pending unheard reason =
     record { number = number; size = shape; panel = panel; values = values; message = message; turn = λ is. turn ∙ is; pending = inl pending; unheard = unheard; reason = inl reason; talk = []; says = refl }
 
-drops_clear : (conn : Session) → JustTalks conn (dropping Clear (record conn { unheard = unheards.Clear }))
-drops_clear conn = drops conn (record conn { unheard = unheards.Clear }) Clear refl refl refl refl refl refl refl (λ any. refl) refl
+drops_clear : (conn : Session) → may_have_changed conn.unheard ≡ true → JustTalks conn (dropping Clear (record conn { unheard = unheards.Clear }))
+drops_clear conn any = drops conn (record conn { unheard = unheards.Clear }) Clear refl refl refl refl refl refl refl (sym any) refl
 
-hears_clear : (parts : InboundParts) (conn : Session) → JustTalks conn (clear_came parts conn)
-hears_clear parts conn = by_test (is_unread conn.turn_reason)
+hears_clear : (parts : InboundParts) (conn : Session) → may_have_changed conn.unheard ≡ true → JustTalks conn (clear_came parts conn)
+hears_clear parts conn any = by_test (is_unread conn.turn_reason)
   where
     by_test : (b : Bool) → JustTalks conn (if b then key_came parts Clear conn else dropping Clear (record conn { unheard = unheards.Clear }))
     by_test true = hears_key parts Clear conn
-    by_test false = drops_clear conn
+    by_test false = drops_clear conn any
 
-drops_key : (parts : InboundParts) (aid : Aid) (pending : Pending) (conn : Session) → JustTalks conn (second_key parts aid pending conn)
-drops_key parts NoAid pending conn = closes conn _
-drops_key parts Enter pending conn = drops conn conn Enter refl refl refl refl refl refl refl (λ any. any) refl
-drops_key parts Clear Pending.Nothing conn = hears_clear parts conn
-drops_key parts Clear (Pending.Writing number command) conn = drops_clear conn
-drops_key parts Clear (Pending.Reading number) conn = hears_clear parts conn
-drops_key parts Clear (Pending.Noting number command) conn = hears_clear parts conn
-drops_key parts (Pf key) pending conn = drops conn conn (Pf key) refl refl refl refl refl refl refl (λ any. any) refl
-drops_key parts (Pa key) pending conn = drops conn conn (Pa key) refl refl refl refl refl refl refl (λ any. any) refl
+drops_key : (parts : InboundParts) (aid : Aid) (pending : Pending) (conn : Session) → may_have_changed conn.unheard ≡ true → JustTalks conn (second_key parts aid pending conn)
+drops_key parts NoAid pending conn any = closes conn _
+drops_key parts Enter pending conn any = drops conn conn Enter refl refl refl refl refl refl refl refl refl
+drops_key parts Clear Pending.Nothing conn any = hears_clear parts conn any
+drops_key parts Clear (Pending.Writing number command) conn any = drops_clear conn any
+drops_key parts Clear (Pending.Reading number) conn any = hears_clear parts conn any
+drops_key parts Clear (Pending.Noting number command) conn any = hears_clear parts conn any
+drops_key parts (Pf key) pending conn any = drops conn conn (Pf key) refl refl refl refl refl refl refl refl refl
+drops_key parts (Pa key) pending conn any = drops conn conn (Pa key) refl refl refl refl refl refl refl refl refl
 
-drops_key_data : (parts : InboundParts) (form : Form) (conn : Session) → JustTalks conn (second_key_data parts form conn)
-drops_key_data parts Modified conn = drops_key parts parts.aid conn.pending conn
-drops_key_data parts AllModified conn = closes conn _
-drops_key_data parts Buffer conn = closes conn _
+drops_key_data : (parts : InboundParts) (form : Form) (conn : Session) → may_have_changed conn.unheard ≡ true → JustTalks conn (second_key_data parts form conn)
+drops_key_data parts Modified conn any = drops_key parts parts.aid conn.pending conn any
+drops_key_data parts AllModified conn any = closes conn _
+drops_key_data parts Buffer conn any = closes conn _
 
 comes_out_of_turn : (parts : InboundParts) (conn : Session) → JustTalks conn (out_of_turn parts conn)
-comes_out_of_turn parts conn = by_test (may_have_changed conn.unheard)
+comes_out_of_turn parts conn = by_test (may_have_changed conn.unheard) refl
   where
-    by_test : (b : Bool) → JustTalks conn (if b then second_key_data parts parts.form conn else closed_by BadInbound conn)
-    by_test true = drops_key_data parts parts.form conn
-    by_test false = closes conn BadInbound
+    by_test : (b : Bool) → may_have_changed conn.unheard ≡ b → JustTalks conn (if b then second_key_data parts parts.form conn else closed_by BadInbound conn)
+    by_test true any = drops_key_data parts parts.form conn any
+    by_test false relies = closes conn BadInbound
 
 read_reason : (reason : TurnReason) → (once_read reason ≡ reason) ⊎ (once_read reason ≡ turn_reasons.Agreement → ⊥)
 read_reason turn_reasons.Agreement = inl refl
@@ -150,8 +152,8 @@ hears_buffer parts Buffer conn = by_break (rule_broken_by parts conn)
       where
         by_count : (b : Bool) → JustTalks conn (if b then believed (once_read conn.turn_reason) Pending.Nothing parts.cursor conn (hears parts conn) else quiet (only_read conn))
         by_count true = believes (once_read conn.turn_reason) Pending.Nothing parts.cursor conn (hears parts conn) (inr refl) (read_reason conn.turn_reason)
-        by_count false = settles conn (only_read conn) refl refl refl refl refl (λ is. refl) refl (λ any. any) (read_reason conn.turn_reason)
-    by_break (Some broken) = record { size = refl; number = refl; panel = refl; values = refl; message = refl; turn = λ is. is; pending = inl refl; unheard = λ any. any; reason = inl refl; talk = []; says = refl }
+        by_count false = settles conn (only_read conn) refl refl refl refl refl (λ is. refl) refl refl (read_reason conn.turn_reason)
+    by_break (Some broken) = record { size = refl; number = refl; panel = refl; values = refl; message = refl; turn = λ is. is; pending = inl refl; unheard = refl; reason = inl refl; talk = []; says = refl }
 hears_buffer parts Modified conn = comes_out_of_turn parts conn
 hears_buffer parts AllModified conn = comes_out_of_turn parts conn
 
@@ -174,17 +176,17 @@ loses_a_write command conn = by_test (is_erase command.code)
   where
     by_test : (b : Bool) → JustTalks conn (if b then closed_by Negative conn else quiet (refused conn))
     by_test true = closes conn Negative
-    by_test false = settles conn (refused conn) refl refl refl refl refl (λ is. refl) refl (λ any. any) (inr (λ e. cc))
+    by_test false = settles conn (refused conn) refl refl refl refl refl (λ is. refl) refl refl (inr (λ e. cc))
 
 judges : (command : CommandParts) (verdict : Verdict) (conn : Session) → JustTalks conn (verdict_came command verdict conn)
-judges command Verdict.Positive conn = settles conn (answered command conn) refl refl refl refl refl (λ is. is) refl (λ any. any) (inl refl)
+judges command Verdict.Positive conn = settles conn (answered command conn) refl refl refl refl refl (λ is. is) refl refl (inl refl)
 judges command Verdict.Negative conn = loses_a_write command conn
 
--- what is shown doesn't make the host rely on the wait
-pub still_unheard : (unheard : Unheard) → may_have_changed unheard ≡ true → may_have_changed (unheard_next unheard) ≡ true
-still_unheard unheards.Nothing any = absurd (cc)
-still_unheard unheards.Input any = refl
-still_unheard unheards.Clear any = refl
+-- what is shown doesn't change whether the host relies on the wait
+pub still_changed : (unheard : Unheard) → may_have_changed (unheard_next unheard) ≡ may_have_changed unheard
+still_changed unheards.Nothing = refl
+still_changed unheards.Input = refl
+still_changed unheards.Clear = refl
 
 paints : (command : CommandParts) (conn : Session) → JustTalks conn (quiet (paint_answered command conn))
 paints command conn = by_test (may_be_read conn.unheard) (is_erase command.code)
@@ -193,9 +195,9 @@ paints command conn = by_test (may_be_read conn.unheard) (is_erase command.code)
     cleared = answered command (record conn { unheard = unheard_next conn.unheard })
 
     by_test : (read erases : Bool) → JustTalks conn (quiet (if read then answered command conn else if erases then cleared else refused conn))
-    by_test true erases = settles conn (answered command conn) refl refl refl refl refl (λ is. is) refl (λ any. any) (inl refl)
-    by_test false true = settles conn cleared refl refl refl refl refl (λ is. is) refl (still_unheard conn.unheard) (inl refl)
-    by_test false false = settles conn (refused conn) refl refl refl refl refl (λ is. refl) refl (λ any. any) (inr (λ e. cc))
+    by_test true erases = settles conn (answered command conn) refl refl refl refl refl (λ is. is) refl refl (inl refl)
+    by_test false true = settles conn cleared refl refl refl refl refl (λ is. is) refl (still_changed conn.unheard) (inl refl)
+    by_test false false = settles conn (refused conn) refl refl refl refl refl (λ is. refl) refl refl (inr (λ e. cc))
 
 judges_paint : (command : CommandParts) (verdict : Verdict) (conn : Session) → JustTalks conn (paint_verdict_came command verdict conn)
 judges_paint command Verdict.Positive conn = paints command conn
@@ -203,7 +205,7 @@ judges_paint command Verdict.Negative conn = loses_a_write command conn
 
 judges_read : (answers : Bool) (verdict : Verdict) (conn : Session) → JustTalks conn (read_verdict_came answers verdict conn)
 judges_read answers Verdict.Positive conn = closes conn _
-judges_read answers Verdict.Negative conn = if_it_answers answers _ conn (settles conn (refused conn) refl refl refl refl refl (λ is. refl) refl (λ any. any) (inr (λ e. cc)))
+judges_read answers Verdict.Negative conn = if_it_answers answers _ conn (settles conn (refused conn) refl refl refl refl refl (λ is. refl) refl refl (inr (λ e. cc)))
 
 is_answered : (number : ℕ) (verdict : Verdict) (pending : Pending) (conn : Session) → JustTalks conn (response_came number verdict pending conn)
 is_answered number verdict Pending.Nothing conn = closes conn _
@@ -224,3 +226,9 @@ just_talks pool conn (ToHost.TalksUp saying) =
 just_talks pool conn (ToHost.Data parts) = once_it_agreed (is_agreed conn.talk.state) _ conn (hears_data parts conn.turn conn.pending conn)
 just_talks pool conn (ToHost.Response number verdict) =
     once_it_agreed (is_agreed conn.talk.state) _ conn (is_answered number verdict conn.pending conn)
+
+-- ---- an act
+
+pub act_changed : (app : Application) (conn : Session) (act : Act) → may_have_changed (done app conn act).conn.unheard ≡ may_have_changed conn.unheard
+act_changed app conn Act.Read = refl
+act_changed app conn (Act.Show panel message keep values) = still_changed conn.unheard

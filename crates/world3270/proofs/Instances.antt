@@ -29,14 +29,14 @@ use Rattle.tn3270e_msg.specs.declared.term_talk.TermState.TheVariants.{Functions
 use Rattle.host_core.specs.Acts.{Act, Decision, acted, decided, decision_on, done as done_act, may_act}
 use Rattle.host_core.specs.Application.{Application, IsApplication, application_of}
 use Rattle.host_core.specs.Feeds.{IsOpen}
-use Rattle.host_core.specs.Laws.{PanelsAreShown}
+use Rattle.host_core.specs.Laws.{MarksInput, PanelsAreShown, ServedIsMarked}
 use Rattle.host_core.specs.Messages.{ToHost, ToTerminal}
 use Rattle.host_core.specs.Notes.{may_note, noted, noted_as}
 use Rattle.host_core.specs.Questions.{act_by, answered_on, has_its_panel, is_asking, panel_for}
 use Rattle.host_core.specs.Rejections.{lu_asked}
 use Rattle.host_core.specs.Session.{Pending, Session, agreed_lu, is_agreed, new_conn, unheard_of}
 use Rattle.host_core.specs.State.{Connection, Host, Service, most_connections, state_at, unused}
-use Rattle.host_core.specs.Takes.{Answers, HostStep, asked, data_came, once_agreed, response_came, talked_on, took as host_took}
+use Rattle.host_core.specs.Takes.{Answers, HostStep, asked, data_came, may_have_changed, once_agreed, response_came, talked_on, took as host_took}
 use Rattle.host_core.specs.declared.question.Answer.{Answer as ApplicationAnswer}
 use Rattle.host_core.specs.declared.terminals.Terminals.{Terminals}
 use Rattle.host_core.specs.declared.turn.Turn.{Turn}
@@ -69,6 +69,7 @@ use Rattle.world3270.proofs.HeardTurns.{goes_on}
 use Rattle.world3270.proofs.HostSteps.{just_talks}
 use Rattle.world3270.proofs.Keys.{key_waits}
 use Rattle.world3270.proofs.ScreensFound.{AreTalk, AreTalkUp, IsQuiet, is_quiet}
+use Rattle.world3270.proofs.Relying.{marked_there}
 use Rattle.world3270.proofs.Represents.{all_heard}
 use Rattle.world3270.proofs.Sendable.{blank_sendable}
 use Rattle.world3270.proofs.Simulation.{has_agreed}
@@ -300,13 +301,14 @@ pub blank_of : (app : Application) (lu : List ℕ) (link : Link) → IsFresh app
     → link.term.display ≡ record (new_display (model_of now.device) app.begins) { keyboard = link.term.display.keyboard }
 blank_of app lu link fresh now = fresh.display_is ∙ ap (λ (m : Model). record (new_display m app.begins) { keyboard = link.term.display.keyboard }) (sym now.model)
 
-pub first_of : (app : Application) (lu : List ℕ) (link : Link) → (fresh : IsFresh app link.host link.term.display) → unheard_of fresh.serves ≡ Input → link.host_here ≡ true → IsAgreedHere app lu link
+pub first_of : (app : Application) → MarksInput app → (lu : List ℕ) (link : Link) → (fresh : IsFresh app link.host link.term.display) → unheard_of fresh.serves ≡ Input → link.host_here ≡ true → IsAgreedHere app lu link
     → FirstPaint app lu (begin_of link)
-first_of app lu link fresh any here now = record {
+first_of app marks lu link fresh any here now = record {
   device = now.device;
   agreed = now.agreed;
   serves = fresh.serves;
   any = any;
+  returns = marks;
   host = fresh.host_is;
   binds = now.binds;
   blank = blank_of app lu link fresh now;
@@ -371,8 +373,8 @@ stands_moved number terminal bytes link stands there live =
 pub is_open_now : (service : Service) (rest : Rest) (conn : Session) → service ≡ Service.Open rest conn → IsOpen service
 is_open_now service rest conn is = subst IsOpen (sym is) tt
 
-pub worlds_begin : LowerLaws → PanelsAreShown → WorldsBeginOverBytes
-worlds_begin given panels number terminal lu bytes is is_host a =
+pub worlds_begin : LowerLaws → PanelsAreShown → ServedIsMarked → WorldsBeginOverBytes
+worlds_begin given panels served number terminal lu bytes is is_host a =
     subst (λ (p : Panels). BeginsOverBytes (application_of p) number lu (over_bytes number terminal bytes)) (sym is.reached.panels)
     (record {
       begin = begins;
@@ -435,7 +437,8 @@ worlds_begin given panels number terminal lu bytes is is_host a =
     blank_is = blank_of app lu link fresh now
 
     first : FirstPaint app lu begins
-    first = first_of app lu link fresh (sym (ap (λ (h : Session). h.unheard) fresh.host_is) ∙ sym (ap (λ (h : Session). h.unheard) same) ∙ a.any) here now
+    first = first_of app (marked_there served setup is.is_begin is.events number (ap may_have_changed (sym (ap (λ (h : Session). h.unheard) same) ∙ a.any))) lu link fresh
+        (sym (ap (λ (h : Session). h.unheard) fresh.host_is) ∙ sym (ap (λ (h : Session). h.unheard) same) ∙ a.any) here now
 
     represents : Represents number (over_bytes number terminal bytes) begins
     represents = record {

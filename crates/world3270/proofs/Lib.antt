@@ -9,6 +9,7 @@ pub mod AskedPanels
 pub mod Leading
 pub mod KeysAsked
 pub mod Instances
+pub mod Relying
 pub mod AskedOverBytes
 pub mod Down
 pub mod Obeys

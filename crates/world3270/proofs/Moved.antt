@@ -25,6 +25,7 @@ use Rattle.tn3270e_msg.specs.declared.host_talk.HostState.{HostState}
 use Rattle.tn3270e_msg.specs.declared.host_talk.HostState.TheVariants.{Offered, Asked, Asking, Named, Countered, Agreed, Closed}
 use Rattle.host_core.specs.Acts.{Act, Decision, Sent, acted, decided, decision_on, done as done_act, may_act, unheard_next}
 use Rattle.host_core.specs.Application.{Application, IsApplication, application_of}
+use Rattle.host_core.specs.Laws.{MarksInput, ServedIsMarked}
 use Rattle.host_core.specs.Messages.{ToHost, ToTerminal, Verdict}
 use Rattle.host_core.specs.Notes.{IsNoteText, may_note, noted, noted_as}
 use Rattle.host_core.specs.Questions.{act_by, answered_on, has_its_panel, is_asking, panel_for}
@@ -64,11 +65,13 @@ use Rattle.world3270.proofs.ComesDown.{PaintComes, paint_comes}
 use Rattle.world3270.proofs.Down.{term_view}
 use Rattle.world3270.proofs.Everywhere.{Steps, everywhere}
 use Rattle.world3270.proofs.HeardTurns.{goes_on}
+use Rattle.world3270.proofs.HostSteps.{act_changed, just_talks}
 use Rattle.world3270.proofs.Instances.{IsAgreedHere, IsFresh, agreed_here, as_moved, begin_of, first_of, fresh_pending, fresh_turn, key_fresh, quiet_fresh, said_talk, same_fresh, is_open_now, stands_moved}
 use Rattle.world3270.proofs.KeyMoves.{stepped}
 use Rattle.world3270.proofs.Keys.{Waits, quiet_done, quiet_refused, waits}
 use Rattle.world3270.proofs.Known.{Facts, facts_now, is_application}
 use Rattle.world3270.proofs.Obeys.{obeys}
+use Rattle.world3270.proofs.Relying.{marked_there}
 use Rattle.world3270.proofs.ScreensFound.{AreTalk, AreTalkUp}
 use Rattle.world3270.proofs.Simulation.{has_agreed}
 use Rattle.world3270.proofs.SimulatedHost.{act_talk}
@@ -139,15 +142,6 @@ abbrev IsSending : Session → Option Sent → Type 0
 IsSending conn None = ⊤
 IsSending conn (Some sending) =
     (is_agreed conn.talk.state ≡ true) × (sending.conn.talk ≡ conn.talk) × (may_have_changed sending.conn.unheard ≡ may_have_changed conn.unheard)
-
-still_changed : (unheard : Unheard) → may_have_changed (unheard_next unheard) ≡ may_have_changed unheard
-still_changed unheards.Nothing = refl
-still_changed unheards.Input = refl
-still_changed unheards.Clear = refl
-
-act_changed : (app : Application) (conn : Session) (act : Act) → may_have_changed (done_act app conn act).conn.unheard ≡ may_have_changed conn.unheard
-act_changed app conn Act.Read = refl
-act_changed app conn (Act.Show panel message keep values) = still_changed conn.unheard
 
 acted_so : (app : Application) (conn : Session) → IsSending conn (acted app conn)
 acted_so app conn = by_test (may_act conn.turn conn.pending (is_agreed conn.talk.state)) refl (decision_on app conn conn.turn_reason)
@@ -260,7 +254,7 @@ agreed_name (Closed cause) is = absurd (cc)
 no_lus : IsSound []
 no_lus = record { are_lus = λ place at is. absurd (cc); once = λ place other at there is. absurd (cc) }
 
-module _ (given : LowerLaws) (app : Application) (is : IsApplication app) (rules : KeepsTheRules key_came) (sending : SendingWaits)
+module _ (given : LowerLaws) (app : Application) (is : IsApplication app) (marks : MarksInput app) (rules : KeepsTheRules key_came) (sending : SendingWaits)
     (link : Link) (k : ConnectionInvariant app (view_of link)) where
   -- the host has agreed, and has shown nothing
   begun_now : IsFresh app link.host link.term.display → link.host_here ≡ true → is_agreed link.host.talk.state ≡ true → WasMoved app link ⊎ IsApart link
@@ -277,7 +271,7 @@ module _ (given : LowerLaws) (app : Application) (is : IsApplication app) (rules
             lu = named.0;
             agreed = named.1;
             begin = begin_of link;
-            begins = first_of app named.0 link f any here now;
+            begins = first_of app marks named.0 link f any here now;
             moves = [];
             by_the_rules = tt;
             same = record { link_is = refl; waits = λ waiting. (quiet_fresh given app link k f).waits };
@@ -328,19 +322,6 @@ module _ (given : LowerLaws) (app : Application) (is : IsApplication app) (rules
 
   -- ---- the host takes a message
 
-  unheard_kept : (pool : Answers) (message : ToHost) (rest : List ToHost) → link.up ≡ message ∷ rest → (host_took pool link.host message).conn.unheard ≡ link.host.unheard
-  unheard_kept pool (ToHost.TalksUp saying) rest e = ap (λ (h : Session). h.unheard) (said_talk pool link.host saying)
-  unheard_kept pool (ToHost.Data parts) rest e = by_agreed (is_agreed link.host.talk.state) refl
-    where
-      by_agreed : (b : Bool) → is_agreed link.host.talk.state ≡ b → (host_took pool link.host (ToHost.Data parts)).conn.unheard ≡ link.host.unheard
-      by_agreed true agrees = (goes_on given app pool link (ToHost.Data parts) rest e k agrees).unheard
-      by_agreed false agrees = ap (λ (b : Bool). (once_agreed b (data_came parts link.host.turn link.host.pending link.host) link.host).conn.unheard) agrees
-  unheard_kept pool (ToHost.Response number verdict) rest e = by_agreed (is_agreed link.host.talk.state) refl
-    where
-      by_agreed : (b : Bool) → is_agreed link.host.talk.state ≡ b → (host_took pool link.host (ToHost.Response number verdict)).conn.unheard ≡ link.host.unheard
-      by_agreed true agrees = (goes_on given app pool link (ToHost.Response number verdict) rest e k agrees).unheard
-      by_agreed false agrees = ap (λ (b : Bool). (once_agreed b (response_came number verdict link.host.pending link.host) link.host).conn.unheard) agrees
-
   up_moved : (pool : Answers) (message : ToHost) (rest : List ToHost) → link.up ≡ message ∷ rest → (m : WasMoved app link) → host_took (answer_to []) link.host message ≡ host_took pool link.host message
       → WasMoved app (host_stepped (host_took pool link.host message) rest link)
   up_moved pool message rest e m same_pool =
@@ -382,7 +363,7 @@ module _ (given : LowerLaws) (app : Application) (is : IsApplication app) (rules
   up_on pool message rest e (inr (inr (inr relies))) =
       let step : HostStep = host_took pool link.host message in
       inr (inr (inr (ap (λ (h : Session). may_have_changed h.unheard) (left_host step.closes (record link { up = rest; host = step.conn; down = sent link.lost link.down step.sends }))
-      ∙ ap may_have_changed (unheard_kept pool message rest e) ∙ relies)))
+      ∙ (just_talks pool link.host message).unheard ∙ relies)))
 
   -- ---- the terminal takes a message
 
@@ -485,16 +466,16 @@ module _ (given : LowerLaws) (app : Application) (is : IsApplication app) (rules
 
 -- ---- all connections
 
-followed_steps : LowerLaws → (app : Application) → IsApplication app → KeepsTheRules key_came → SendingWaits → Steps app IsEvent (IsFollowed app) (λ display. ⊤)
-followed_steps given app is rules sending = record {
+followed_steps : LowerLaws → (app : Application) → IsApplication app → MarksInput app → KeepsTheRules key_came → SendingWaits → Steps app IsEvent (IsFollowed app) (λ display. ⊤)
+followed_steps given app is marks rules sending = record {
   never = λ serves. inr (inr (inl refl));
   begins = λ serves model terminal wanted. inl (record { serves = serves; host_is = refl; display_is = refl }, refl);
-  up = λ pool link message rest e k followed. up_on given app is rules sending link k pool message rest e followed;
-  acts = λ link k followed. acts_on given app is rules sending link k followed;
-  answers = λ number said link such k followed. answers_on given app is rules sending link k said followed;
-  notes = λ number text link such k followed. notes_on given app is rules sending link k text such followed;
-  down = λ link message rest e k followed. down_on given app is rules sending link k message rest e followed;
-  key = λ terminal key link such k followed. key_on given app is rules sending link k key followed;
+  up = λ pool link message rest e k followed. up_on given app is marks rules sending link k pool message rest e followed;
+  acts = λ link k followed. acts_on given app is marks rules sending link k followed;
+  answers = λ number said link such k followed. answers_on given app is marks rules sending link k said followed;
+  notes = λ number text link such k followed. notes_on given app is marks rules sending link k text such followed;
+  down = λ link message rest e k followed. down_on given app is marks rules sending link k message rest e followed;
+  key = λ terminal key link such k followed. key_on given app is marks rules sending link k key followed;
   loses = λ link followed. inr (inr (inl refl));
   host_leaves = λ link followed. inr (inr (inl refl));
   term_leaves = λ link followed. inr (inr (inl refl));
@@ -508,9 +489,9 @@ all_such [] are = All-nil IsEvent
 all_such (event ∷ events) are = All-cons IsEvent event events are.0 (all_such events are.1)
 
 pub connections_are_moved : LowerLaws → EveryTerminal → KeepsTheRules key_came → SendingWaits → AlwaysOf ConnectionsAreMoved
-connections_are_moved given every rules sending app serves pool models events is is_pool few are number lu live agreed any =
-    by_case (settled given app is rules sending link (good.links number)
-    ((everywhere given app is IsEvent (IsFollowed app) (λ display. ⊤) (followed_steps given app is rules sending) serves pool models events is_pool are (all_such events are)).links number)
+connections_are_moved given every rules sending app serves pool models events is is_pool few are marks number lu live agreed any =
+    by_case (settled given app is marks rules sending link (good.links number)
+    ((everywhere given app is IsEvent (IsFollowed app) (λ display. ⊤) (followed_steps given app is marks rules sending) serves pool models events is_pool are (all_such events are)).links number)
     (has_agreed lu link.host.talk.state agreed))
   where
     world : World
@@ -538,8 +519,8 @@ connections_are_moved given every rules sending app serves pool models events is
 -- ---- over bytes
 
 -- the bytes of a world represent such a connection
-pub worlds_go_on : MessageLaws → EveryTerminal → KeepsTheRules key_came → SendingWaits → WorldsGoOnOverBytes
-worlds_go_on known every rules sending number terminal lu bytes is a =
+pub worlds_go_on : MessageLaws → ServedIsMarked → EveryTerminal → KeepsTheRules key_came → SendingWaits → WorldsGoOnOverBytes
+worlds_go_on known served every rules sending number terminal lu bytes is a =
     subst (λ (p : Panels). IsMovedOverBytes (application_of p) number lu (over_bytes number terminal bytes)) (sym is.reached.panels)
     (record {
       begin = goes.begin;
@@ -587,11 +568,15 @@ worlds_go_on known every rules sending number terminal lu bytes is a =
     place : world.place terminal ≡ Place.At number
     place = (world_facts.agree terminal number).1 (sym stands.term_here ∙ a.there)
 
+    unheard : may_have_changed link.host.unheard ≡ true
+    unheard = sym (ap (λ (h : Session). may_have_changed h.unheard) same) ∙ a.any
+
     goes : IsMoved app lu link
-    goes = connections_are_moved known.worlds.given every rules sending app setup.serves setup.pool setup.models is.events is_app is.is_begin.pool is.is_begin.few is.reached.are_events number lu
+    goes = connections_are_moved known.worlds.given every rules sending app setup.serves setup.pool setup.models is.events is_app is.is_begin.pool is.is_begin.few is.reached.are_events
+        (marked_there served setup is.is_begin is.events number unheard) number lu
         (sym stands.lost ∙ a.live)
         (sym (ap (λ (h : Session). agreed_lu h.talk.state) same) ∙ a.agreed)
-        (sym (ap (λ (h : Session). may_have_changed h.unheard) same) ∙ a.any)
+        unheard
 
     t : LinkWithReport
     t = after_moves app goes.moves goes.begin

@@ -35,10 +35,11 @@ use Rattle.host_core.specs.declared.turn.Turn.{Turn}
 use Rattle.host_core.specs.declared.turn.Turn.TheVariants as whose
 use Rattle.host_core.specs.declared.turn_reason.TurnReason.{TurnReason}
 use Rattle.host_core.specs.declared.turn_reason.TurnReason.TheVariants as turn_reasons
+use Rattle.host_core.specs.declared.unheard.Unheard.TheVariants as unheards
 use Rattle.host_core.specs.Session.{Session, Pending, is_agreed}
 use Rattle.host_core.specs.Rejections.{lu_asked}
 use Rattle.shadow.specs.declared.rule_break.RuleBreak.{RuleBreak}
-use Rattle.host_core.specs.Takes.{buffer_heard, rule_broken_by, unless_broken, Answers, HostStep, quiet, closed_by, asked, talked_on, hears, believed, once_read, buffer_came, key_came, key_data_came, data_came, refused, write_refused, if_answers, verdict_came, read_verdict_came, response_came, once_agreed, second_key, second_key_data, out_of_turn, may_have_changed, took as host_took}
+use Rattle.host_core.specs.Takes.{buffer_heard, clear_came, dropping, is_read_believed, is_unread, only_read, paint_verdict_came, rule_broken_by, unless_broken, Answers, HostStep, quiet, closed_by, asked, talked_on, hears, believed, once_read, buffer_came, key_came, key_data_came, data_came, refused, write_refused, if_answers, verdict_came, read_verdict_came, response_came, once_agreed, second_key, second_key_data, out_of_turn, may_have_changed, took as host_took}
 use Rattle.host_core.specs.Questions.{answered_on}
 use Rattle.world3270.specs.statement.Always.{Always}
 use Rattle.world3270.specs.refinement.LowerLaws.{LowerLaws}
@@ -165,18 +166,25 @@ key_data_grants parts Modified conn = key_grants parts parts.aid conn
 key_data_grants parts AllModified conn = refl
 key_data_grants parts Buffer conn = refl
 
-second_key_grants : (aid : Aid) (pending : Pending) (conn : Session) → (second_key aid pending conn).grants ≡ None
-second_key_grants NoAid pending conn = refl
-second_key_grants Enter pending conn = refl
-second_key_grants Clear Pending.Nothing conn = refl
-second_key_grants Clear (Pending.Writing number command) conn = refl
-second_key_grants Clear (Pending.Reading number) conn = refl
-second_key_grants Clear (Pending.Noting number command) conn = refl
-second_key_grants (Pf key) pending conn = refl
-second_key_grants (Pa key) pending conn = refl
+clear_grants : (parts : InboundParts) (conn : Session) → (clear_came parts conn).grants ≡ None
+clear_grants parts conn = by_test (is_unread conn.turn_reason)
+  where
+    by_test : (b : Bool) → HostStep.grants (if b then key_came parts Clear conn else dropping Clear (record conn { unheard = unheards.Clear })) ≡ None
+    by_test true = key_grants parts Clear conn
+    by_test false = refl
+
+second_key_grants : (parts : InboundParts) (aid : Aid) (pending : Pending) (conn : Session) → (second_key parts aid pending conn).grants ≡ None
+second_key_grants parts NoAid pending conn = refl
+second_key_grants parts Enter pending conn = refl
+second_key_grants parts Clear Pending.Nothing conn = clear_grants parts conn
+second_key_grants parts Clear (Pending.Writing number command) conn = refl
+second_key_grants parts Clear (Pending.Reading number) conn = clear_grants parts conn
+second_key_grants parts Clear (Pending.Noting number command) conn = clear_grants parts conn
+second_key_grants parts (Pf key) pending conn = refl
+second_key_grants parts (Pa key) pending conn = refl
 
 second_key_data_grants : (parts : InboundParts) (form : Form) (conn : Session) → (second_key_data parts form conn).grants ≡ None
-second_key_data_grants parts Modified conn = second_key_grants parts.aid conn.pending conn
+second_key_data_grants parts Modified conn = second_key_grants parts parts.aid conn.pending conn
 second_key_data_grants parts AllModified conn = refl
 second_key_data_grants parts Buffer conn = refl
 
@@ -191,7 +199,11 @@ buffer_grants : (parts : InboundParts) (form : Form) (conn : Session) → (buffe
 buffer_grants parts Buffer conn = by_break (rule_broken_by parts conn)
   where
     by_break : (broken : Option RuleBreak) → (unless_broken conn broken (buffer_heard parts conn)).grants ≡ None
-    by_break None = believed_grants (once_read conn.turn_reason) Pending.Nothing parts.cursor conn (hears parts conn)
+    by_break None = by_count (is_read_believed conn)
+      where
+        by_count : (b : Bool) → HostStep.grants (if b then believed (once_read conn.turn_reason) Pending.Nothing parts.cursor conn (hears parts conn) else quiet (only_read conn)) ≡ None
+        by_count true = believed_grants (once_read conn.turn_reason) Pending.Nothing parts.cursor conn (hears parts conn)
+        by_count false = refl
     by_break (Some broken) = refl
 buffer_grants parts Modified conn = out_of_turn_grants parts conn
 buffer_grants parts AllModified conn = out_of_turn_grants parts conn
@@ -219,13 +231,17 @@ verdict_grants : (command : CommandParts) (verdict : Verdict) (conn : Session) �
 verdict_grants command Verdict.Positive conn = refl
 verdict_grants command Verdict.Negative conn = write_refused_grants command conn
 
+paint_grants : (command : CommandParts) (verdict : Verdict) (conn : Session) → (paint_verdict_came command verdict conn).grants ≡ None
+paint_grants command Verdict.Positive conn = refl
+paint_grants command Verdict.Negative conn = write_refused_grants command conn
+
 read_verdict_grants : (answers : Bool) (verdict : Verdict) (conn : Session) → (read_verdict_came answers verdict conn).grants ≡ None
 read_verdict_grants answers Verdict.Positive conn = refl
 read_verdict_grants answers Verdict.Negative conn = if_answers_grants answers _ conn refl
 
 response_grants : (number : ℕ) (verdict : Verdict) (pending : Pending) (conn : Session) → (response_came number verdict pending conn).grants ≡ None
 response_grants number verdict Pending.Nothing conn = refl
-response_grants number verdict (Pending.Writing pending command) conn = if_answers_grants (number == pending) _ conn (verdict_grants command verdict conn)
+response_grants number verdict (Pending.Writing pending command) conn = if_answers_grants (number == pending) _ conn (paint_grants command verdict conn)
 response_grants number verdict (Pending.Noting pending command) conn = if_answers_grants (number == pending) _ conn (verdict_grants command verdict conn)
 response_grants number verdict (Pending.Reading pending) conn = read_verdict_grants (number == pending) verdict conn
 

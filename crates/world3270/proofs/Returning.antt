@@ -29,7 +29,7 @@ use Rattle.shadow.specs.TextUnknown.{IsClearedBelief}
 use Rattle.shadow.specs.declared.fault.HeardFault.{HeardFault}
 use Rattle.host_core.specs.Acts.{Act, done, values_shown, wanted_by, when_shown}
 use Rattle.host_core.specs.Application.{Application, IsApplication}
-use Rattle.host_core.specs.Laws.{IsPaintable}
+use Rattle.host_core.specs.Laws.{IsPaintable, MarksInput}
 use Rattle.host_core.specs.Messages.{ToHost, Verdict}
 use Rattle.host_core.specs.NoteLaws.{IsNoteOf, TakesNotes}
 use Rattle.host_core.specs.Notes.{IsNoteText, note_command, noted_as}
@@ -44,7 +44,7 @@ use Rattle.world3270.specs.refinement.Invariant.{ConnectionInvariant, Fact, IsPr
 use Rattle.world3270.specs.refinement.LowerLaws.{LowerLaws}
 use Rattle.world3270.specs.refinement.Phases.{IsAt, IsInFlight, Kind, LinkPhase, NegotiationPhase, SessionPhase, awaiting, pending_at, turn_at}
 use Rattle.world3270.specs.refinement.View.{view_of}
-use Rattle.world3270.specs.statement.EveryTerminal.{MarksInput, is_pa}
+use Rattle.world3270.specs.statement.EveryTerminal.{is_pa}
 use Rattle.world3270.specs.statement.TurnReasons.{IsOccasion}
 use Rattle.world3270.proofs.Acting.{MayAct, allows_despite}
 use Rattle.world3270.proofs.Down.{noted_on_it, shape_of_model}

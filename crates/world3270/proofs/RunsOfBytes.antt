@@ -13,7 +13,7 @@ use Rattle.panels.specs.Panel.{AreSound, HasItemsApart, HaveNumbersApart, IsLaid
 use Rattle.telnet_wire.specs.Reading.{nothing}
 use Rattle.tn3270e_msg.specs.Device.{device_for, device_of}
 use Rattle.host_core.specs.Application.{application_of}
-use Rattle.host_core.specs.Laws.{PanelsAreShown}
+use Rattle.host_core.specs.Laws.{PanelsAreShown, ServedIsMarked}
 use Rattle.host_core.specs.Sound.{HoldsJust, IsShown, IsSound}
 use Rattle.host_core.specs.State.{Connection, Service, lu_of, state_at, unused}
 use Rattle.host_core.specs.declared.terminals.Terminals.TheVariants.{Any}
@@ -108,6 +108,7 @@ sound_host = record {
   sessions = length-replicate {A = ℕ} 64 0;
   held = λ number below. held number;
   shown = shown_on;
+  marked = refl;
 }
 
 nobody_shares : (one other : ℕ) (lu : List ℕ) → lu_of (state_at one agreed_host) ≡ Some lu → lu_of (state_at other agreed_host) ≡ Some lu → one ≡ other
@@ -132,13 +133,14 @@ begin = record {
   waits = true;
 }
 
-first : FirstPaint (application_of one_panel) l1 begin
+first : ServedIsMarked → FirstPaint (application_of one_panel) l1 begin
 unfolding begin
-first = record {
+first served = record {
   device = device_for M2;
   agreed = refl;
   serves = Any;
   any = refl;
+  returns = served Any one_panel refl refl;
   host = refl;
   binds = Binds.bound refl refl;
   blank = refl;
@@ -189,12 +191,12 @@ has_agreed : agreed_seen agreed_world ≡ record { lost = false; lu = Some l1; a
 unfolding start_any asks acted_on agree request_taken agreement_taken device_of
 has_agreed = ap agreed_seen (agreeing example asks (rounds 0 2 ++ []) start_any (record { here = refl; up = refl }) (record { here = refl; down = refl }))
 
-pub a_begin : MessageLaws → PanelsAreShown → ABeginIsThere
-a_begin known panels = record {
+pub a_begin : MessageLaws → PanelsAreShown → ServedIsMarked → ABeginIsThere
+a_begin known panels served = record {
   panels = sound_panels;
   begins = record {
     begin = begin;
-    begins = first;
+    begins = first served;
     represents = represents known panels;
     below = lit≤ tt;
     is_host = record { sound = sound_host; unshared = nobody_shares };

@@ -24,7 +24,7 @@ use Rattle.world3270.specs.refinement.View.{view_of}
 use Rattle.world3270.proofs.Acting.{acts, answers_are_shown, asking_parts, loses, may_act_at, may_act_when}
 use Rattle.world3270.proofs.Noting.{notes}
 use Rattle.world3270.proofs.HeardTurns.{goes_on}
-use Rattle.world3270.proofs.HostSteps.{just_talks, still_unheard}
+use Rattle.world3270.proofs.HostSteps.{act_changed, just_talks, still_changed}
 use Rattle.world3270.proofs.Queues.{nothing_sent}
 use Rattle.world3270.proofs.Returning.{HostReturns, returns_acted, returns_heard, returns_noted}
 use Rattle.world3270.proofs.SecondKeys.{AddsSecondKeys, IsSecondKey, SaysAlike, alike_silent, alike_unread, is_dropping, noted_extras, only_extras, pending_after, second_key_dropped, turn_after}
@@ -67,7 +67,7 @@ module _ (given : LowerLaws) (app : Application) (is_app : IsApplication app) (l
       subst (λ (host : Session). Simulated app lu (record t { link = host_stepped (host_took pool host message) rest now })) (sym s.simulates.host)
       (subst (λ (made : HostStep). Simulated app lu (record t { link = host_stepped made rest now })) alike.same
       (subst (λ (closes : Option Cause). Simulated app lu (heard_by step.conn closes step.sends rest)) (sym heard.open_end)
-      (still_simulated app lu t s (host_view step others told) (heard_by step.conn None step.sends rest).link refl refl refl refl heard.kept goes.talk ((just_talks pool told.host first).unheard s.any) refl s.simulates.lost
+      (still_simulated app lu t s (host_view step others told) (heard_by step.conn None step.sends rest).link refl refl refl refl heard.kept goes.talk ((just_talks pool told.host first).unheard ∙ s.any) refl s.simulates.lost
       (ap (λ (lost : Bool). sent lost now.down step.sends) s.simulates.lost ∙ ap (λ (down : List ToTerminal). sent told.lost down step.sends) s.simulates.down)
       (returns_heard given app is_app pool told first others alike.is s.kept (agrees_now s) s.returning)
       (record {
@@ -127,10 +127,6 @@ act_drops : (app : Application) (conn : Session) (act : Act) → conn.turn ≡ w
 act_drops app conn Act.Read turns = ap (λ (turn : Turn). is_dropping turn (Pending.Reading conn.next_seq)) turns
 act_drops app conn (Act.Show panel message keep values) turns = refl
 
-act_unheard : (app : Application) (conn : Session) (act : Act) → may_have_changed conn.unheard ≡ true → may_have_changed (done app conn act).conn.unheard ≡ true
-act_unheard app conn Act.Read any = any
-act_unheard app conn (Act.Show panel message keep values) any = still_unheard conn.unheard any
-
 pub act_talk : (app : Application) (conn : Session) (act : Act) → (done app conn act).conn.talk ≡ conn.talk
 act_talk app conn Act.Read = refl
 act_talk app conn (Act.Show panel message keep values) = refl
@@ -166,8 +162,8 @@ module _ (given : LowerLaws) (app : Application) (is : IsApplication app) (lu : 
       let when = may_act_when end.host.turn end.host.pending (is_agreed end.host.talk.state) may in
       let none : end.up ≡ [] = nothing_up app end s.kept (agrees_now s) when.0 when.1 in
       let sending : Sent = done app end.host act in
-      both_send sending kept (act_talk app end.host act) (act_unheard app end.host act s.any)
-      (returns_acted given app is s.marks end s.kept (may_act_at given app is end s.kept when.0 when.1 (agrees_now s)) when.0 when.1 (still_unheard end.host.unheard s.any) s.returning act)
+      both_send sending kept (act_talk app end.host act) (act_changed app end.host act ∙ s.any)
+      (returns_acted given app is s.marks end s.kept (may_act_at given app is end s.kept when.0 when.1 (agrees_now s)) when.0 when.1 (still_changed end.host.unheard ∙ s.any) s.returning act)
       (subst (λ (told : List ToHost). AddsSecondKeys sending.conn.turn sending.conn.pending told t.link.up) (sym none)
       (only_extras end.host.turn sending.conn.turn end.host.pending sending.conn.pending t.link.up (act_drops app end.host act when.0)
       (subst (λ (said : List ToHost). AddsSecondKeys end.host.turn end.host.pending said t.link.up) (alike_silent end.host end.up s.simulates.up.said none s.simulates.up.alike) s.simulates.up.up)))

@@ -9,12 +9,13 @@ use Rattle.keyboard.specs.declared.key.Lock.{Lock}
 use Rattle.keyboard.specs.declared.key.Lock.TheVariants.{Free, Wait, Error}
 use Rattle.shadow.specs.RuleBreaks.{rule_break}
 use Rattle.host_core.specs.Application.{Application}
+use Rattle.host_core.specs.Laws.{MarksInput}
 use Rattle.host_core.specs.Messages.{ToHost}
 use Rattle.host_core.specs.Session.{Session, agreed_lu, is_agreed}
 use Rattle.host_core.specs.Takes.{Answers, may_have_changed, only_read, quiet, took}
 use Rattle.tn3270e_msg.specs.declared.host_talk.HostState.{HostState}
 use Rattle.tn3270e_msg.specs.declared.host_talk.HostState.TheVariants.{Offered, Asked, Asking, Named, Countered, Agreed, Closed}
-use Rattle.world3270.specs.statement.EveryTerminal.{LinkWithReport, MarksInput}
+use Rattle.world3270.specs.statement.EveryTerminal.{LinkWithReport}
 use Rattle.world3270.specs.refinement.LowerLaws.{LowerLaws}
 use Rattle.world3270.specs.model.Link.{Link, sent}
 use Rattle.world3270.specs.refinement.Invariant.{ConnectionInvariant}

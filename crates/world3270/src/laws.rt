@@ -35,7 +35,9 @@ ghost use Rattle.world3270.specs.statement.Unbroken.{DeliveriesCloseNothing, Nob
 ghost use Rattle.world3270.specs.refinement.RepresentsLinks.{BeginRepresents, BytesAreMarked, DownIsNotRefused, DownRepresents, HostLeaves, HostSends, LossRepresents, NopRepresents, NothingRepresents, PressRepresents, RepresentsCompose, RepresentsGoOn, TermLeaves, UpRepresents, WhatComesMayCome};
 
 use datastream::laws::{fields_both_ways, kept_since_the_write, sent_is_read, what_a_note_keeps};
-use host_core::laws::{notes_are_written, panels_are_shown, what_is_shown_fits};
+use host_core::laws::{
+    notes_are_written, panels_are_shown, what_is_served_is_marked, what_is_shown_fits,
+};
 use keyboard::laws::{keys_keep_what_was_left, sent_keys_wait, what_keys_leave_can_be_sent};
 use lu_pool::laws::the_pool_is_a_map;
 use panels::laws::{
@@ -454,6 +456,7 @@ pub fn worlds_begin_so()
     what_is_known();
     what_is_given();
     panels_are_shown();
+    what_is_served_is_marked();
     every_terminal();
     terminals_keep_the_rules();
     sent_keys_wait();

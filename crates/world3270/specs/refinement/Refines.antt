@@ -7,7 +7,7 @@ use Rattle.lu_pool.specs.declared.entry.Entry.{Entry}
 use Rattle.panels.specs.Panel.{Panels, AreSound}
 use Rattle.host_core.specs.Application.{application_of}
 use Rattle.host_core.specs.Questions.{is_ticket, ticket_of}
-use Rattle.host_core.specs.State.{Service, state_at, session_at}
+use Rattle.host_core.specs.State.{Service, served_by, state_at, session_at}
 use Rattle.host_core.specs.declared.question.Ticket.{Ticket}
 use Rattle.host_core.specs.declared.terminals.Terminals.{Terminals}
 use Rattle.world3270.specs.model.ByteRuns.{Runs, refused_at}
@@ -30,7 +30,8 @@ use Rattle.world3270.specs.declared.event.Stepped.TheVariants as stepped
 
 -- ---- a world that a list of events leads to
 
--- what a world begins with: the terminals that its host serves, the panels, the pool of LUs, and the terminals' models
+-- what a world begins with: the terminals that its host serves, the panels as it shows them to these (`served_by`), the
+-- pool of LUs, and the terminals' models
 pub record WorldSetup : Type 0 where
   pub serves : Terminals
   pub panels : Panels
@@ -39,6 +40,7 @@ pub record WorldSetup : Type 0 where
 
 pub record IsWorldSetup (begin : WorldSetup) : Type 0 where
   pub panels : AreSound begin.panels
+  pub marked : served_by begin.serves begin.panels ≡ begin.panels
   pub pool : IsPool begin.pool
   pub few : length begin.models ≤ 16
 

@@ -15,12 +15,12 @@ use Rattle.panels.specs.declared.message.Message.{Message}
 use Rattle.shadow.specs.Belief.{Shadow}
 use Rattle.shadow.specs.Doubt.{doubted}
 use Rattle.shadow.specs.Paint.{paint}
-use Rattle.shadow.specs.Settled.{WantsInputReturned}
 use Rattle.tn3270e_msg.specs.Device.{model_of}
 use Rattle.tn3270e_msg.specs.declared.device.Device.{Device}
 use Rattle.tn3270e_msg.specs.declared.host_talk.HostState.TheVariants.{Agreed as HostAgreed}
 use Rattle.host_core.specs.Acts.{Act as HostAct, Decision, acted, decision_in}
 use Rattle.host_core.specs.Application.{Application, IsApplication}
+use Rattle.host_core.specs.Laws.{MarksInput}
 use Rattle.host_core.specs.Messages.{ToTerminal, ToHost, Verdict}
 use Rattle.host_core.specs.Notes.{IsNoteText, noted}
 use Rattle.host_core.specs.Questions.{answered_on, question_in}
@@ -181,12 +181,6 @@ AreByTheRules app [] t = ⊤
 AreByTheRules app (move ∷ moves) t = IsByTheRules move t × AreByTheRules app moves (moved app move t)
 
 -- ---- agreement
-
--- Holds if each input field of each screen that the application asks for is written with MDT on, so that Enter and PF
--- keys return its text.
-abbrev pub MarksInput : Application → Type 0
-MarksInput app = (panel : ℕ) (values : Values) (message : Message) (keep : Bool)
-    → WantsInputReturned (app.screen panel values message keep)
 
 -- Both ends as they are just after the host has agreed on this LU (RFC 1647, section 7). The host is as at the begin of
 -- the connection, but for the state of the negotiation; it may or may not verify its terminals. The terminal is bound

@@ -3,6 +3,7 @@ use Rattle.std.specs.Prelude.{◌≡◌, ℕ, true, false, List, [], Some}
 use Rattle.keyboard.specs.declared.key.Lock.TheVariants.{Wait}
 use Rattle.telnet_wire.specs.Reading.{Rest}
 use Rattle.host_core.specs.Application.{Application, application_of}
+use Rattle.host_core.specs.Laws.{MarksInput}
 use Rattle.host_core.specs.Session.{Pending, Session, agreed_lu}
 use Rattle.host_core.specs.State.{Service, state_at}
 use Rattle.host_core.specs.Takes.{may_have_changed}
@@ -68,9 +69,9 @@ pub record IsMoved (app : Application) (lu : List ℕ) (link : Link) : Type 0 wh
   pub right : RightOf app lu (after_moves app moves begin)
 
 -- After any list of events each connection that isn't lost is so, if the host has agreed on an LU there, and doesn't
--- rely on the terminal's wait.
+-- rely on the terminal's wait; and if the application marks its input fields, as a host for such terminals does.
 abbrev pub ConnectionsAreMoved : Application → World → Type 0
-ConnectionsAreMoved app world = (number : ℕ) (lu : List ℕ) → let link = world.link number in link.lost ≡ false
+ConnectionsAreMoved app world = MarksInput app → (number : ℕ) (lu : List ℕ) → let link = world.link number in link.lost ≡ false
     → agreed_lu link.host.talk.state ≡ Some lu → may_have_changed link.host.unheard ≡ true → IsMoved app lu link
 
 -- ---- over bytes
