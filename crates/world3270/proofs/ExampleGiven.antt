@@ -19,27 +19,27 @@ use Rattle.panels.specs.declared.message.Message.{Message}
 use Rattle.tn3270e_msg.specs.Lu.{is_lu}
 use Rattle.host_core.specs.Application.{IsApplication, IsValidSize, IsShowable, KeepsNothing, IsSizeOf}
 use Rattle.host_core.specs.Notes.{IsNoteText, is_graphic, longest_note}
-use Rattle.world3270.specs.examples.ExampleApplication.{example, screen_of, l2, example_pool, alternate, shown_to}
+use Rattle.world3270.specs.examples.ExampleApplication.{example, example_with, screen_of, l2, example_pool, alternate, shown_to}
 use Rattle.world3270.specs.model.World.{Event, IsEvent, AreEvents}
 
 -- ---- the application
 
-showable : (panel : ℕ) (values : Values) (message : Message) (keep : Bool) → let screen = screen_of panel values message keep in IsShowable screen.size screen
-showable zero values message true = record { size = refl; cells = refl; cursor = lit< tt; messages = (refl, refl); kept = refl }
-showable zero values message false = record { size = refl; cells = refl; cursor = lit< tt; messages = (refl, refl); kept = refl }
-showable (suc zero) values message keep = record { size = refl; cells = refl; cursor = lit< tt; messages = (refl, refl); kept = refl }
-showable (suc (suc panel)) values message keep = record { size = refl; cells = refl; cursor = lit< tt; messages = (refl, refl); kept = refl }
+showable : (marked : Bool) (panel : ℕ) (values : Values) (message : Message) (keep : Bool) → let screen = screen_of marked panel values message keep in IsShowable screen.size screen
+showable marked zero values message true = record { size = refl; cells = refl; cursor = lit< tt; messages = (refl, refl); kept = refl }
+showable marked zero values message false = record { size = refl; cells = refl; cursor = lit< tt; messages = (refl, refl); kept = refl }
+showable marked (suc zero) values message keep = record { size = refl; cells = refl; cursor = lit< tt; messages = (refl, refl); kept = refl }
+showable marked (suc (suc panel)) values message keep = record { size = refl; cells = refl; cursor = lit< tt; messages = (refl, refl); kept = refl }
 
-sizes : (model : Model) (panel : ℕ) (values : Values) (message : Message) (keep : Bool) → IsSizeOf example model (screen_of (shown_to model panel) values message keep).size
-sizes M5 zero values message keep = inl refl
-sizes M5 (suc zero) values message keep = inr refl
-sizes M5 (suc (suc panel)) values message keep = inl refl
-sizes M2 zero values message keep = inl refl
-sizes M3 zero values message keep = inl refl
-sizes M4 zero values message keep = inl refl
-sizes M2 (suc panel) values message keep = inl refl
-sizes M3 (suc panel) values message keep = inl refl
-sizes M4 (suc panel) values message keep = inl refl
+sizes : (marked : Bool) (model : Model) (panel : ℕ) (values : Values) (message : Message) (keep : Bool) → IsSizeOf (example_with marked) model (screen_of marked (shown_to model panel) values message keep).size
+sizes marked M5 zero values message keep = inl refl
+sizes marked M5 (suc zero) values message keep = inr refl
+sizes marked M5 (suc (suc panel)) values message keep = inl refl
+sizes marked M2 zero values message keep = inl refl
+sizes marked M3 zero values message keep = inl refl
+sizes marked M4 zero values message keep = inl refl
+sizes marked M2 (suc panel) values message keep = inl refl
+sizes marked M3 (suc panel) values message keep = inl refl
+sizes marked M4 (suc panel) values message keep = inl refl
 
 is_shape : IsValidSize example.begins
 is_shape = record { columns = lit< tt; row = lit≤ tt; addresses = lit≤ tt }
@@ -50,13 +50,13 @@ alternates M3 = is_shape
 alternates M4 = is_shape
 alternates M5 = record { columns = lit< tt; row = lit≤ tt; addresses = lit≤ tt }
 
-whole : (panel : ℕ) (values : Values) (message : Message) → KeepsNothing (screen_of panel values message false)
-whole zero values message = refl
-whole (suc zero) values message = refl
-whole (suc (suc panel)) values message = refl
+whole : (marked : Bool) (panel : ℕ) (values : Values) (message : Message) → KeepsNothing (screen_of marked panel values message false)
+whole marked zero values message = refl
+whole marked (suc zero) values message = refl
+whole marked (suc (suc panel)) values message = refl
 
-pub is_application : IsApplication example
-is_application = record { begins = is_shape; alternates = alternates; sizes = sizes; showable = showable; whole = whole }
+pub is_application : (marked : Bool) → IsApplication (example_with marked)
+is_application marked = record { begins = is_shape; alternates = alternates; sizes = sizes marked; showable = showable marked; whole = whole marked }
 
 -- ---- the pool
 

@@ -1,5 +1,6 @@
 -- All that is said of the example.
 use Rattle.world3270.specs.examples.Example.{TheRunsEndSo}
+use Rattle.std.specs.Prelude.{false}
 use Rattle.world3270.proofs.ExampleGiven.{is_application, is_pool}
 use Rattle.world3270.proofs.RunsOfEntries.{stored_run, reconnecting_run}
 use Rattle.world3270.proofs.RunsOfLosses.{losing_run}
@@ -12,7 +13,7 @@ use Rattle.world3270.proofs.RunsOfQuestions.{asking_run}
 
 pub the_runs : TheRunsEndSo
 the_runs = record {
-  application = is_application;
+  application = is_application false;
   pool = is_pool;
   stored = stored_run;
   reconnecting = reconnecting_run;

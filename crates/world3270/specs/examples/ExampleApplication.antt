@@ -52,9 +52,14 @@ letter_field = record {
   fill = coded (codes "Y");
 }
 
-abbrev pub fields_of : ℕ → List Field
-fields_of zero = name_field ∷ letter_field ∷ []
-fields_of (suc panel) = []
+-- a field, which may be marked, as a host marks all fields that doesn't rely on the terminals' wait
+abbrev pub marked_if : Bool → Field → Field
+marked_if marked field = record field { marked = marked }
+
+-- a panel's fields, all of them marked or none
+abbrev pub fields_of : (marked : Bool) → ℕ → List Field
+fields_of marked zero = marked_if marked name_field ∷ marked_if marked letter_field ∷ []
+fields_of marked (suc panel) = []
 
 -- ---- the screens that are asked for
 
@@ -98,15 +103,15 @@ abbrev pub message_row : List Field → Message → List Want
 message_row fields message = item 16 (autoskip_attr true) (message_text fields message)
 
 -- the sign-on: a literal, the two fields, the message
-abbrev pub sign_on : Values → Message → Bool → WantedScreen
-sign_on values message keep = record {
+abbrev pub sign_on : (marked : Bool) → Values → Message → (keep : Bool) → WantedScreen
+sign_on marked values message keep = record {
   size = small;
   cells =
       item 5 (autoskip_attr false) (coded (codes "NAME"))
-      ++ field_and_stopper values message keep name_field
-      ++ field_and_stopper values message keep letter_field
+      ++ field_and_stopper values message keep (marked_if marked name_field)
+      ++ field_and_stopper values message keep (marked_if marked letter_field)
       ++ replicate 3 (want.Char 0)
-      ++ message_row (fields_of 0) message;
+      ++ message_row (fields_of marked 0) message;
   cursor = name_field.extent.first;
   reset = is_fresh message;
 }
@@ -116,7 +121,7 @@ abbrev pub tall_greeting : Values → Message → WantedScreen
 tall_greeting values message = record {
   size = tall;
   cells = item 16 (autoskip_attr false) (shown values (Show name_field.number)) ++ replicate 16 (want.Char 0)
-      ++ message_row (fields_of 1) message;
+      ++ message_row [] message;
   cursor = 0;
   reset = is_fresh message;
 }
@@ -125,15 +130,15 @@ tall_greeting values message = record {
 abbrev pub greeting : Values → Message → WantedScreen
 greeting values message = record {
   size = small;
-  cells = item 16 (autoskip_attr false) (shown values (Show name_field.number)) ++ message_row (fields_of 2) message;
+  cells = item 16 (autoskip_attr false) (shown values (Show name_field.number)) ++ message_row [] message;
   cursor = 0;
   reset = is_fresh message;
 }
 
-abbrev pub screen_of : ℕ → Values → Message → Bool → WantedScreen
-screen_of zero values message keep = sign_on values message keep
-screen_of (suc zero) values message keep = tall_greeting values message
-screen_of (suc (suc panel)) values message keep = greeting values message
+abbrev pub screen_of : (marked : Bool) → ℕ → Values → Message → (keep : Bool) → WantedScreen
+screen_of marked zero values message keep = sign_on marked values message keep
+screen_of marked (suc zero) values message keep = tall_greeting values message
+screen_of marked (suc (suc panel)) values message keep = greeting values message
 
 -- ---- the application, and the pool
 
@@ -145,18 +150,21 @@ led_to zero (Pf number) = if number == 5 then Go 1 else if number == 6 then Ask 
 led_to (suc panel) Clear = Go 0
 led_to _ _ = Again
 
-abbrev pub example : Application
-example = record {
+abbrev pub example_with : (marked : Bool) → Application
+example_with marked = record {
   begins = small;
   alternate = alternate;
   start = 0;
   has_panel = λ panel. nat_lt panel 3;
   shown = shown_to;
-  fields = fields_of;
+  fields = fields_of marked;
   values = λ panel. [];
   next = led_to;
-  screen = screen_of;
+  screen = screen_of marked;
 }
+
+abbrev pub example : Application
+example = example_with false
 
 abbrev pub l1 : List ℕ
 l1 = codes "L1"

@@ -79,15 +79,15 @@ another_sign_on = skipped (0xC3 ∷ 0xD6 ∷ 0xC4 ∷ 0xC5 ∷ []) ++ drop 5 fre
 -- what that panel asks for
 abbrev pub other_sign_on : Values → Message → Bool → WantedScreen
 other_sign_on values message keep =
-    let wanted = sign_on values message keep in
+    let wanted = sign_on false values message keep in
     record wanted { cells = item 5 (autoskip_attr false) (coded (codes "CODE")) ++ drop 5 wanted.cells }
 
 -- an application with both: panel 0, and this one for each other number
 abbrev pub two_sign_ons : Application
 two_sign_ons = record example {
-  fields = λ panel. fields_of 0;
+  fields = λ panel. fields_of false 0;
   screen = λ panel values message keep.
-      if panel == 0 then sign_on values message keep else other_sign_on values message keep;
+      if panel == 0 then sign_on false values message keep else other_sign_on values message keep;
 }
 
 -- A question isn't about that other panel if the screen that was left is the sign-on.

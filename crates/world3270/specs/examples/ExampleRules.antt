@@ -15,21 +15,28 @@ use Rattle.tn3270e_msg.specs.Device.{device_for}
 use Rattle.tn3270e_msg.specs.Talk.{start_at}
 use Rattle.tn3270e_msg.specs.declared.host_talk.HostState.TheVariants.{Agreed as HostAgreed}
 use Rattle.tn3270e_msg.specs.declared.term_talk.TermState.TheVariants.{Agreed}
+use Rattle.host_core.specs.Application.{Application, IsApplication}
 use Rattle.host_core.specs.Messages.{ToTerminal, ToHost, Verdict}
 use Rattle.host_core.specs.Session.{new_conn}
 use Rattle.host_core.specs.declared.question.Answer.{Answer as ApplicationAnswer}
 use Rattle.host_core.specs.declared.terminals.Terminals.{Terminals}
-use Rattle.host_core.specs.declared.terminals.Terminals.TheVariants.{Any, Waiting}
+use Rattle.host_core.specs.declared.terminals.Terminals.TheVariants.{Any, Verified, Waiting}
 use Rattle.world3270.specs.statement.EveryTerminal.{AreByTheRules, FirstPaint, Move, RightOf, LinkWithReport, after_moves, moved}
-use Rattle.world3270.specs.examples.ExampleApplication.{example, example_pool, l1, l2, small}
+use Rattle.world3270.specs.examples.ExampleApplication.{example, example_pool, example_with, l1, l2, small}
 use Rattle.world3270.specs.examples.ExampleQuestions.{renamed}
-use Rattle.world3270.specs.examples.ExampleScreens.{fresh_sign_on, message_seen, no_message, skipped}
+use Rattle.world3270.specs.examples.ExampleScreens.{message_seen, no_message, skipped}
 use Rattle.world3270.specs.model.Link.{term_stepped}
 use Rattle.world3270.specs.statement.RuleLaws.{impatient_key, pasted}
 use Rattle.world3270.specs.statement.Rules.{after_sending, shows}
 use Rattle.world3270.specs.model.Terminal.{TermEnd, TermStep, new_display}
 
 -- ---- what happens
+
+-- the example as a host for these terminals shows it: one that doesn't rely on their wait marks its fields
+abbrev pub example_for : Terminals → Application
+example_for Waiting = example
+example_for Any = example_with true
+example_for Verified = example_with true
 
 -- A host that serves these terminals has granted L1; the terminal is bound to this LU.
 abbrev pub agreed_with : Terminals → List ℕ → LinkWithReport
@@ -45,7 +52,7 @@ agreed_with serves mine =
         down = [];
         up = [];
         host_here = true;
-        host = record (new_conn serves example) { talk = start_at (HostAgreed (device_for M2) l1) };
+        host = record (new_conn serves (example_for serves)) { talk = start_at (HostAgreed (device_for M2) l1) };
         term_here = Some 0;
         term = end;
       };
@@ -53,28 +60,32 @@ agreed_with serves mine =
       waits = true;
     }
 
--- a step of a run, as a function of the connection's state
+-- a step of a run, as a function of the application and of the connection's state
 abbrev pub Deed : Type 0
-Deed = LinkWithReport → LinkWithReport
+Deed = Application → LinkWithReport → LinkWithReport
 
-abbrev pub after : List Deed → LinkWithReport → LinkWithReport
-after [] t = t
-after (deed ∷ deeds) t = after deeds (deed t)
+abbrev pub after_deeds : Application → List Deed → LinkWithReport → LinkWithReport
+after_deeds app [] t = t
+after_deeds app (deed ∷ deeds) t = after_deeds app deeds (deed app t)
+
+-- the connection after these, with a host that serves these terminals
+abbrev pub after : Terminals → List Deed → LinkWithReport
+after serves deeds = after_deeds (example_for serves) deeds (agreed_with serves l1)
 
 abbrev pub acts : Deed
-acts t = moved example Move.Act t
+acts app t = moved app Move.Act t
 
 abbrev pub answers : ApplicationAnswer → Deed
-answers said t = moved example (Move.Answer said) t
+answers said app t = moved app (Move.Answer said) t
 
 abbrev pub goes_down : Deed
-goes_down t = moved example Move.Down t
+goes_down app t = moved app Move.Down t
 
 abbrev pub goes_up : Deed
-goes_up t = moved example (Move.Up example_pool) t
+goes_up app t = moved app (Move.Up example_pool) t
 
 abbrev pub does : (TermEnd → TermStep) → Deed
-does step t = moved example (Move.Operate (step t.link.term)) t
+does step app t = moved app (Move.Operate (step t.link.term)) t
 
 -- a key at a terminal whose Reset ends the wait
 abbrev pub presses : Key → Deed
@@ -86,8 +97,8 @@ signs_on = acts ∷ goes_down ∷ goes_up ∷ []
 
 -- ---- the wait is ended
 
--- `A` in the first field, and PF6: the host reads the screen, and asks the application. Then Reset, and `Q` after the
--- `A`; and the application answers with the second panel, and `B` for the name.
+-- `A` in the first field, and PF6: the host, which reads the screen if it relies on the wait, asks the application. Then
+-- Reset, and `Q` after the `A`; and the application answers with the second panel, and `B` for the name.
 abbrev pub types_in_the_wait : List Deed
 types_in_the_wait =
     signs_on ++ presses (key.Char 0x41) ∷ presses (key.Pf 6) ∷ goes_up ∷ acts ∷ goes_down ∷ goes_up ∷ presses key.Reset
@@ -116,9 +127,9 @@ decides_behind = types_in_the_wait ++ presses (key.Pf 1) ∷ goes_up ∷ []
 -- A host that serves any terminal shows its panel, whatever was typed in the wait. One that relies on the wait leaves
 -- what was typed, and decides next with a belief that isn't true of the screen.
 pub record WaitingRun : Type 0 where
-  pub any : shown_by (after types_in_the_wait (agreed_with Any l1)) ≡ small_greeting renamed_seen
-  pub relying : shown_by (after types_in_the_wait (agreed_with Waiting l1)) ≡ small_greeting left_behind
-  pub wrong : RightOf example l1 (after decides_behind (agreed_with Waiting l1)) → ⊥
+  pub any : shown_by (after Any types_in_the_wait) ≡ small_greeting renamed_seen
+  pub relying : shown_by (after Waiting types_in_the_wait) ≡ small_greeting left_behind
+  pub wrong : RightOf (example_for Waiting) l1 (after Waiting decides_behind) → ⊥
 
 -- ---- what was told
 
@@ -133,7 +144,7 @@ told_the_newest t = record t { told = t.link.term.display }
 
 -- The host was told what the first Enter sent. `RightOf` doesn't hold with what the second one sent as `told`.
 pub record ToldRun : Type 0 where
-  pub newest : RightOf example l1 (told_the_newest (after enters_twice (agreed_with Any l1))) → ⊥
+  pub newest : RightOf (example_for Any) l1 (told_the_newest (after Any enters_twice)) → ⊥
 
 -- ---- a rule is broken
 
@@ -152,11 +163,11 @@ unapplied end (ToTerminal.Paint number wanted over) =
 unapplied end message = record { end = end; sends = []; closes = None }
 
 abbrev pub ignored : List ToTerminal → Deed
-ignored [] t = t
-ignored (message ∷ rest) t = record t { link = term_stepped (unapplied t.link.term message) rest t.link; waits = false }
+ignored [] app t = t
+ignored (message ∷ rest) app t = record t { link = term_stepped (unapplied t.link.term message) rest t.link; waits = false }
 
 abbrev pub ignores : Deed
-ignores t = ignored t.link.down t
+ignores app t = ignored t.link.down app t
 
 -- It edits what is protected: the first letter of `NAME`.
 abbrev pub relabels : TermEnd → TermStep
@@ -170,22 +181,22 @@ abbrev pub sends_what_was_left : TermEnd → TermStep
 sends_what_was_left end =
     let sent = after_sending Enter end.display in
     shows end.display.keyboard sent
-    (ToHost.Data (modified_data Modified small (record fresh_sign_on { aid = Enter })) ∷ []) end
+    (ToHost.Data (modified_data Modified small (record end.display.last_restored { aid = Enter })) ∷ []) end
 
 -- With one rule broken `RightOf` doesn't hold: a paint isn't applied, a protected field is changed, a text isn't sent,
 -- or the terminal is bound to another LU than the host granted.
 pub record BrokenRules : Type 0 where
-  pub applies : RightOf example l1 (after (acts ∷ ignores ∷ goes_up ∷ enters) (agreed_with Any l1)) → ⊥
-  pub edits : RightOf example l1 (after (signs_on ++ does relabels ∷ enters) (agreed_with Any l1)) → ⊥
-  pub sends : RightOf example l1
-      (after (signs_on ++ presses (key.Char 0x41) ∷ does sends_what_was_left ∷ goes_up ∷ []) (agreed_with Any l1)) → ⊥
-  pub binds : RightOf example l1 (agreed_with Any l2) → ⊥
+  pub applies : RightOf (example_for Any) l1 (after Any (acts ∷ ignores ∷ goes_up ∷ enters)) → ⊥
+  pub edits : RightOf (example_for Any) l1 (after Any (signs_on ++ does relabels ∷ enters)) → ⊥
+  pub sends : RightOf (example_for Any) l1
+      (after Any (signs_on ++ presses (key.Char 0x41) ∷ does sends_what_was_left ∷ goes_up ∷ [])) → ⊥
+  pub binds : RightOf (example_for Any) l1 (agreed_with Any l2) → ⊥
 
 -- ---- the rules are kept
 
 -- Enter, and `A` pasted in the wait
 abbrev pub entered : TermStep
-entered = impatient_key key.Enter (after signs_on (agreed_with Any l1)).link.term
+entered = impatient_key key.Enter (after Any signs_on).link.term
 
 abbrev pub pasted_behind : TermStep
 pasted_behind = pasted (0xC1 ∷ []) entered.end
@@ -195,7 +206,7 @@ kept_moves = Move.Act ∷ Move.Down ∷ Move.Up example_pool ∷ Move.Operate en
 
 -- The theorem's premises can be met, and a terminal that meets them need not wait.
 pub record KeptRules : Type 0 where
-  pub begins : FirstPaint example l1 (agreed_with Any l1)
-  pub kept : AreByTheRules example kept_moves (agreed_with Any l1)
-  pub changed : shown_by (after_moves example kept_moves (agreed_with Any l1))
-      ≢ (after_moves example kept_moves (agreed_with Any l1)).told.screen
+  pub application : IsApplication (example_for Any)
+  pub begins : FirstPaint (example_for Any) l1 (agreed_with Any l1)
+  pub kept : AreByTheRules (example_for Any) kept_moves (agreed_with Any l1)
+  pub changed : let now = after_moves (example_for Any) kept_moves (agreed_with Any l1) in shown_by now ≢ now.told.screen

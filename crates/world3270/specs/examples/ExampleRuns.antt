@@ -1,6 +1,6 @@
 -- Two runs of the example: the stored one and the reconnecting one. Readers and proofs need them, and nothing rests on
 -- them (our profile).
-use Rattle.std.specs.Prelude.{◌≡◌, true, List, [], ◌∷◌, ◌++◌}
+use Rattle.std.specs.Prelude.{◌≡◌, true, false, List, [], ◌∷◌, ◌++◌}
 use Rattle.codes3270.specs.declared.attention.Aid.TheVariants.{Enter}
 use Rattle.datastream.specs.Wanted.{WantedScreen}
 use Rattle.keyboard.specs.declared.key.Key.TheVariants as key
@@ -30,7 +30,7 @@ complete_entry = answered_again ++ presses (key.Char 0x41 ∷ key.Char 0x42 ∷ 
 
 -- the sign-on that keeps what is in its fields, and asks for the name
 abbrev pub kept_sign_on : WantedScreen
-kept_sign_on = sign_on ((letter_field.number, 0xE7 ∷ []) ∷ []) (Required name_field.number) true
+kept_sign_on = sign_on false ((letter_field.number, 0xE7 ∷ []) ∷ []) (Required name_field.number) true
 
 -- The letter is kept, not written again, and the host asks for the name; then the name is stored, and shown.
 pub record StoredRun : Type 0 where
