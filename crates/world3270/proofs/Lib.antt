@@ -110,3 +110,6 @@ pub mod ByteEnds
 pub mod Leaving
 pub mod OneWorld
 pub mod Sizes
+pub mod TakenMoves
+pub mod EventsElsewhere
+pub mod WorldMoves
