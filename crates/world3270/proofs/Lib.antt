@@ -113,3 +113,4 @@ pub mod Sizes
 pub mod TakenMoves
 pub mod EventsElsewhere
 pub mod WorldMoves
+pub mod RunsOfByteWorlds

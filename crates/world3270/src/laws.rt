@@ -441,11 +441,11 @@ pub fn every_terminal_over_bytes()
 
 /// Law: the premises of `every_terminal_over_bytes` can be met. Just after the host has agreed on an LU on a connection of
 /// a world that isn't lost, and if it doesn't rely on the terminal's wait, host, terminal and the bytes under way are a
-/// begin as that theorem requires it. Also, a begin is there: of a host with one panel, and a terminal that is bound; and
-/// a run of a world in which the host agrees.
+/// begin as that theorem requires it. Also, a begin is there: of a host with one panel, and a terminal that is bound; a
+/// run of a world in which the host agrees; and a world over bytes just after agreement, which goes on.
 /// What happens then on the connection, until it is lost, are moves over messages that keep the rules; so `every_terminal`
 /// holds of each such connection of a world. In a world over bytes its bytes represent it. And each event over bytes that
-/// doesn't lose or close the connection is moves over bytes there; so `every_terminal_over_bytes` holds of it after any
+/// neither loses nor closes the connection is moves over bytes there; so `every_terminal_over_bytes` holds of it after any
 /// such events.
 pub fn worlds_begin_so()
     ensures worlds { WorldsBeginOverBytes }
