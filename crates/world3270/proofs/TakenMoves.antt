@@ -16,6 +16,7 @@ use Rattle.world3270.specs.refinement.RepresentsEnds.{is_painted}
 use Rattle.world3270.specs.refinement.RepresentsLinks.{MayComeAll, NoneCloses, any_painted, took_down}
 use Rattle.world3270.specs.refinement.Sendable.{CanBeSent}
 use Rattle.world3270.specs.statement.EveryTerminalBytes.{IsHost, LeadTo, Moves, OverBytes, Takes}
+use Rattle.world3270.specs.statement.WorldMoves.{IsLockedIf}
 use Rattle.world3270.proofs.AnyTerminal.{TakesLaws}
 use Rattle.world3270.proofs.ByteDown.{quiet_byte}
 use Rattle.world3270.proofs.Completed.{left_down}
@@ -100,10 +101,6 @@ behind_them (message ∷ taken) others link may none =
 
 -- ---- bytes come, one after another
 
--- its keyboard is locked where a 3278's would be
-abbrev pub IsHeldIf : (waits : Bool) → TrackedTerminal → Type 0
-IsHeldIf waits tracked = waits ≡ true → tracked.terminal.station.keyboard.lock ≡ Wait
-
 held_behind : (waits took_write : Bool) (old new : Keyboard) → (waits ≡ true → old.lock ≡ Wait) → (took_write ≡ false → new ≡ old) → (if took_write then false else waits) ≡ true → new.lock ≡ Wait
 held_behind waits true old new held same is = absurd (cc)
 held_behind waits false old new held same is = ap (λ (k : Keyboard). k.lock) (same refl) ∙ held is
@@ -113,17 +110,17 @@ pub record AreTaken (app : Application) (number : ℕ) (host : Host) (bytes : Li
   pub later : Bool
   pub states : List OverBytes
   pub lead : LeadTo app number states (joined host bytes old waits) (joined host [] new later)
-  pub held : IsHeldIf later new
+  pub held : IsLockedIf later new
 
 module _ (laws : TakesLaws) (app : Application) (number : ℕ) (host : Host) (is_host : IsHost host) where
   pub all_taken : (bytes behind : List ℕ) (old new : TrackedTerminal) (rest : Rest) (link : Link) (waits : Bool) → Holds rest old link.term → BytesDown rest (bytes ++ behind) link.down
-      → MayComeAll link.term link.down → NoneCloses link.term link.down → CanBeSent link.term.display.size link.term.display.screen → IsHeldIf waits old → TrackedTakes old bytes new
+      → MayComeAll link.term link.down → NoneCloses link.term link.down → CanBeSent link.term.display.size link.term.display.screen → IsLockedIf waits old → TrackedTakes old bytes new
       → AreTaken app number host bytes old new waits
   all_taken [] behind old new rest link waits holds down may none can held same = record {
     later = waits;
     states = [];
     lead = ap (λ (t : TrackedTerminal). joined host [] t waits) same;
-    held = subst (λ (t : TrackedTerminal). IsHeldIf waits t) (sym same) held;
+    held = subst (λ (t : TrackedTerminal). IsLockedIf waits t) (sym same) held;
   }
   all_taken (byte ∷ bytes) behind old new rest link waits holds down may none can held taken =
       let mid : TrackedTerminal = taken.0 in
@@ -134,7 +131,7 @@ module _ (laws : TakesLaws) (app : Application) (number : ℕ) (host : Host) (is
       let after_them = behind_them came.taken came.others link (subst (λ (m : List ToTerminal). MayComeAll link.term m) came.whole may)
       (subst (λ (m : List ToTerminal). NoneCloses link.term m) came.whole none) in
       let others : now.down ≡ came.others = left_down came.taken came.others link came.whole in
-      let held_now : IsHeldIf (waits_behind mid waits) mid =
+      let held_now : IsLockedIf (waits_behind mid waits) mid =
       held_behind waits mid.terminal.station.took_write old.terminal.station.keyboard mid.terminal.station.keyboard held
       (λ unwritten. ran.holds.is_end.keyboard_is ∙ after_them.keyboard (sym one.marked ∙ unwritten) ∙ sym holds.is_end.keyboard_is) in
       let more = all_taken bytes behind mid new ran.rest now (waits_behind mid waits) ran.holds ran.down

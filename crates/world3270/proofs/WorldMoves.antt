@@ -57,7 +57,7 @@ use Rattle.world3270.proofs.Known.{Facts, facts_now, is_application}
 use Rattle.world3270.proofs.Moved.{edits_in_wait, queued_waits}
 use Rattle.world3270.proofs.OneOfMany.{differs as is_other}
 use Rattle.world3270.proofs.Represents.{all_heard, written_stand}
-use Rattle.world3270.proofs.TakenMoves.{IsHeldIf, all_taken, joined}
+use Rattle.world3270.proofs.TakenMoves.{all_taken, joined}
 use Rattle.world3270.proofs.Worlds.{GoodWorld, new_good, run_good}
 
 -- ---- numbers, and bytes
@@ -171,7 +171,7 @@ module _ (known : MessageLaws) (bytes : ByteWorld) (is : IsReached bytes) where
 
 module _ (known : MessageLaws) (takes : TakesLaws) (presses : TermPresses) (rules : KeepsTheRules key_came) (sending : SendingWaits)
     (number terminal : ℕ) (waits : Bool) (old new : ByteWorld) (is : IsReached old) (found : terminal_at number old.slots ≡ Some terminal) (live : is_lost number old ≡ false)
-    (locked : IsLockedIf waits (slot_at terminal old)) (is_then : IsReached new) (is_host : IsHost new.host) (live_then : is_lost number new ≡ false) where
+    (locked : IsLockedIf waits (slot_at terminal old).tracked) (is_then : IsReached new) (is_host : IsHost new.host) (live_then : is_lost number new ≡ false) where
   abbrev app : Application
   app = application_of old.host.panels
 
@@ -198,7 +198,7 @@ module _ (known : MessageLaws) (takes : TakesLaws) (presses : TermPresses) (rule
     later : Bool
     states : List OverBytes
     lead : LeadTo app number states (joined old.host [] tracked waits) (joined new.host [] (slot_at terminal new).tracked later)
-    held : IsLockedIf later (slot_at terminal new)
+    held : IsLockedIf later (slot_at terminal new).tracked
     at : (slot_at terminal new).at ≡ Some number
 
   nothing_happens : new ≡ old → Goes
@@ -206,12 +206,12 @@ module _ (known : MessageLaws) (takes : TakesLaws) (presses : TermPresses) (rule
     later = waits;
     states = [];
     lead = ap (λ (w : ByteWorld). joined w.host [] (slot_at terminal w).tracked waits) same;
-    held = subst (λ (w : ByteWorld). IsLockedIf waits (slot_at terminal w)) (sym same) locked;
+    held = subst (λ (w : ByteWorld). IsLockedIf waits (slot_at terminal w).tracked) (sym same) locked;
     at = ap (λ (w : ByteWorld). (slot_at terminal w).at) same ∙ sits;
   }
 
   -- by one move
-  one_move : (host : Host) (ours : TrackedTerminal) (later : Bool) → new.host ≡ host → slot_at terminal new ≡ record its_slot { tracked = ours } → IsHeldIf later ours
+  one_move : (host : Host) (ours : TrackedTerminal) (later : Bool) → new.host ≡ host → slot_at terminal new ≡ record its_slot { tracked = ours } → IsLockedIf later ours
       → Moves app number (joined old.host [] tracked waits) (joined host [] ours later) → Goes
   one_move host ours later host_is slot_is held move = record {
     later = later;
@@ -221,7 +221,7 @@ module _ (known : MessageLaws) (takes : TakesLaws) (presses : TermPresses) (rule
       subst IsHost host_is is_host,
       ap (λ (h : Host). joined h [] (slot_at terminal new).tracked later) host_is ∙ ap (λ (s : TerminalSlot). joined host [] s.tracked later) slot_is,
     );
-    held = subst (λ (s : TerminalSlot). IsLockedIf later s) (sym slot_is) held;
+    held = subst (λ (s : TerminalSlot). IsLockedIf later s.tracked) (sym slot_is) held;
     at = ap (λ (s : TerminalSlot). s.at) slot_is ∙ sits;
   }
 
@@ -337,7 +337,7 @@ module _ (known : MessageLaws) (takes : TakesLaws) (presses : TermPresses) (rule
                 (sym (ap (λ (h : Host). joined h [] (slot_at terminal new).tracked all.later) host_is ∙ ap (λ (s : TerminalSlot). joined host_down [] s.tracked all.later) slot_is))
                 all.lead,
           );
-          held = subst (λ (s : TerminalSlot). IsLockedIf all.later s) (sym slot_is) all.held;
+          held = subst (λ (s : TerminalSlot). IsLockedIf all.later s.tracked) (sym slot_is) all.held;
           at = ap (λ (s : TerminalSlot). s.at) slot_is ∙ sits;
         }
 
@@ -405,16 +405,16 @@ module _ (known : MessageLaws) (takes : TakesLaws) (presses : TermPresses) (rule
     by_rules : (does : Operates end step) × (waits ≡ true → key_pressed does ≢ Clear)
     by_rules = by_waits waits locked
       where
-        by_waits : (b : Bool) → IsLockedIf b its_slot → (does : Operates end step) × (b ≡ true → key_pressed does ≢ Clear)
+        by_waits : (b : Bool) → IsLockedIf b tracked → (does : Operates end step) × (b ≡ true → key_pressed does ≢ Clear)
         by_waits true holds =
             let does = edits_in_wait known.worlds.given.keys.at_first key end (holds refl) (can_be_sent known old is number terminal found).sendable.cursor in
             (does.0, λ still. does.1)
         by_waits false holds = (rules key end (can_be_sent known old is number terminal found).sendable.cursor, λ still. absurd (cc))
 
-    locked_then : IsHeldIf later_then pressed
+    locked_then : IsLockedIf later_then pressed
     locked_then = by_waits waits locked
       where
-        by_waits : (b : Bool) → IsLockedIf b its_slot → (b || is_queued step.sends) ≡ true → step.end.display.keyboard.lock ≡ Wait
+        by_waits : (b : Bool) → IsLockedIf b tracked → (b || is_queued step.sends) ≡ true → step.end.display.keyboard.lock ≡ Wait
         by_waits true holds either = (key_waits tracked.terminal.station.screen.size.columns key tracked.terminal.station.keyboard tracked.terminal.station.screen.screen (holds refl)).lock
         by_waits false holds queued = queued_waits sending key end queued
 
@@ -600,13 +600,13 @@ module _ (known : MessageLaws) (go : StepsAreSimulated) (takes : TakesLaws) (pre
       }
 
   all_are_moves : (number terminal : ℕ) (waits : Bool) (events : List Event) (old new : ByteWorld) → IsReached old → terminal_at number old.slots ≡ Some terminal → is_lost number old ≡ false
-      → IsLockedIf waits (slot_at terminal old) → GoOnAt number events old new → IsMovedTo number terminal waits old new
+      → IsLockedIf waits (slot_at terminal old).tracked → GoOnAt number events old new → IsMovedTo number terminal waits old new
   unfolding is_next
   all_are_moves number terminal waits [] old new is found live locked same = record {
     later = waits;
     states = [];
     lead = ap (over_bytes_if waits number terminal) same;
-    locked = subst (λ (w : ByteWorld). IsLockedIf waits (slot_at terminal w)) (sym same) locked;
+    locked = subst (λ (w : ByteWorld). IsLockedIf waits (slot_at terminal w).tracked) (sym same) locked;
     there = ap (λ (w : ByteWorld). terminal_at number w.slots) same ∙ found;
   }
   all_are_moves number terminal waits (event ∷ events) old new is found live locked on =

@@ -5,7 +5,8 @@ use Rattle.host_core.specs.Application.{application_of}
 use Rattle.world3270.specs.declared.event.Event.{Event}
 use Rattle.world3270.specs.declared.event.Stepped.{Stepped}
 use Rattle.world3270.specs.model.ByteSteps.{Steps, is_lost}
-use Rattle.world3270.specs.model.ByteWorld.{ByteWorld, TerminalSlot, slot_at, terminal_at}
+use Rattle.world3270.specs.model.ByteWorld.{ByteWorld, slot_at, terminal_at}
+use Rattle.world3270.specs.model.TrackedTerminals.{TrackedTerminal}
 use Rattle.world3270.specs.refinement.Refines.{IsReached, IsValidEvent}
 use Rattle.world3270.specs.statement.EveryTerminalBytes.{BeginsOverBytes, IsHost, LeadTo, OverBytes, RightOverBytes}
 use Rattle.world3270.specs.statement.Instances.{IsAgreedOn, over_bytes}
@@ -17,8 +18,8 @@ abbrev pub over_bytes_if : (waits : Bool) (number terminal : ℕ) → ByteWorld 
 over_bytes_if waits number terminal world = record (over_bytes number terminal world) { waits = waits }
 
 -- Holds if the terminal's keyboard is locked where a 3278's would be: it keeps its promise to wait.
-abbrev pub IsLockedIf : (waits : Bool) → TerminalSlot → Type 0
-IsLockedIf waits slot = waits ≡ true → slot.tracked.terminal.station.keyboard.lock ≡ Wait
+abbrev pub IsLockedIf : (waits : Bool) → TrackedTerminal → Type 0
+IsLockedIf waits tracked = waits ≡ true → tracked.terminal.station.keyboard.lock ≡ Wait
 
 -- Holds if moves lead from the connection in the old world to that in the new one, where the same terminal is at it.
 -- `waits` is what the connection's `waits` is before them, and `later` is what it is then.
@@ -27,7 +28,7 @@ pub record IsMovedTo (number terminal : ℕ) (waits : Bool) (old new : ByteWorld
   pub states : List OverBytes
   pub lead : LeadTo (application_of old.host.panels) number states (over_bytes_if waits number terminal old)
       (over_bytes_if later number terminal new)
-  pub locked : IsLockedIf later (slot_at terminal new)
+  pub locked : IsLockedIf later (slot_at terminal new).tracked
   pub there : terminal_at number new.slots ≡ Some terminal
 
 -- In each world whose bytes represent a world over messages, an event is moves on each connection that isn't lost, and
@@ -36,7 +37,7 @@ abbrev pub EventsAreMoves : Type 0
 EventsAreMoves = (number terminal : ℕ) (waits : Bool) (event : Event) (old : ByteWorld) (answer : Stepped)
     (new : ByteWorld)
     → IsReached old → terminal_at number old.slots ≡ Some terminal → is_lost number old ≡ false
-    → IsLockedIf waits (slot_at terminal old)
+    → IsLockedIf waits (slot_at terminal old).tracked
     → IsValidEvent event → Steps event old answer new → IsHost new.host → is_lost number new ≡ false
     → IsMovedTo number terminal waits old new
 
