@@ -51,8 +51,8 @@ GoOnAt number (event ∷ events) old new =
     (answer : Stepped) × (next : ByteWorld) × IsValidEvent event × Steps event old answer next × IsHost next.host
     × (is_lost number next ≡ false) × GoOnAt number events next new
 
--- Holds if the connection in the old world is a begin of `EveryTerminalOverBytes`, and moves lead from it to that in the
--- new one; so the theorem holds of it.
+-- Holds if the connection in the old world is a begin of `EveryTerminalOverBytes`, and moves lead from it to that in
+-- the new one; so the theorem holds of it.
 pub record IsOneOfThese (number terminal : ℕ) (lu : List ℕ) (old new : ByteWorld) : Type 0 where
   pub begins : BeginsOverBytes (application_of old.host.panels) number lu (over_bytes number terminal old)
   pub waits : Bool
