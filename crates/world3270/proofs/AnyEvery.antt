@@ -59,21 +59,25 @@ pub record AnyLaws : Type 0 where
   pub written : WrittenIsThere
   pub kept : KeptStaysThere
 
+-- by what is known of bytes
+pub takes_laws : MessageLaws → TermTakes → TakesKeepSendable → NopHasNoEffect → WritesAreMarked → RepresentsGoOn without_nops RepresentsDown → ItemsAreRead → TakesLaws
+takes_laws known takes keeps nop marks taken items = record {
+  takes = takes;
+  keeps = keeps;
+  nop = nop;
+  down = taken;
+  final = known.links.wrong_is_final;
+  marks = marks;
+  written = items;
+  join = stands_join without_commands IsReadAs commands_piecewise known.links.deliveries;
+}
+
 -- by what is known of bytes and of what is read of them
 pub any_laws : MessageLaws → TermTakes → TakesKeepSendable → NopHasNoEffect → WritesAreMarked → RepresentsGoOn without_nops RepresentsDown → RepresentsCompose without_nops RepresentsDown → ItemsAreRead → SentIsRead
     → WrittenIsThere → KeptStaysThere → AnyLaws
 any_laws known takes keeps nop marks taken compose items read written kept = record {
   given = known.worlds.given;
-  takes = record {
-    takes = takes;
-    keeps = keeps;
-    nop = nop;
-    down = taken;
-    final = known.links.wrong_is_final;
-    marks = marks;
-    written = items;
-    join = stands_join without_commands IsReadAs commands_piecewise known.links.deliveries;
-  };
+  takes = takes_laws known takes keeps nop marks taken items;
   hears = record {
     sends = host_sends compose;
     nop = nop_stands compose;

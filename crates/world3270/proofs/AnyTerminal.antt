@@ -352,7 +352,7 @@ module _ (laws : TakesLaws) (app : Application) (Good : LinkWithReport → Type 
       let link_is : (operated step t).link ≡ now = ap (λ (c : Option Cause). term_left_if c now) left.closes in
       let bytes : OverBytes = record old {
         up = old.up ++ does.bytes;
-        tracked = displaying step.end.display old.tracked;
+        tracked = displaying step.end.display does.number old.tracked;
         waits = old.waits || is_queued step.sends;
       } in
       let lost : false ≡ link.lost = is.stands.lost in

@@ -50,17 +50,17 @@ use Rattle.world3270.proofs.UnderWay.{came_flows, came_live, came_under_way}
 
 -- ---- what a terminal makes of bytes doesn't hang on what it has to send
 
-record ByteQuietly (old : Terminal) (byte : ℕ) (new : Terminal) : Type 0 where
-  said : List ℕ
-  out_is : new.out ≡ old.out ++ said
-  takes : (before : List ℕ) → TakesByte (record old { out = before }) byte (record new { out = before ++ said })
+pub record ByteQuietly (old : Terminal) (byte : ℕ) (new : Terminal) : Type 0 where
+  pub said : List ℕ
+  pub out_is : new.out ≡ old.out ++ said
+  pub takes : (before : List ℕ) → TakesByte (record old { out = before }) byte (record new { out = before ++ said })
 
 -- with a byte to which it says nothing
 says_nothing : (before : List ℕ) (new plain : Terminal) → new ≡ plain → record new { out = before ++ [] } ≡ record plain { out = before }
 says_nothing before new plain is =
     ap (λ (t : Terminal). record t { out = before ++ [] }) is ∙ ap (λ (o : List ℕ). record plain { out = o }) (append-nil before)
 
-quiet_byte : (old : Terminal) (byte : ℕ) (new : Terminal) → TakesByte old byte new → ByteQuietly old byte new
+pub quiet_byte : (old : Terminal) (byte : ℕ) (new : Terminal) → TakesByte old byte new → ByteQuietly old byte new
 quiet_byte old byte new (TakesByte.goes_on rest to talk at delivers is) = record {
   said = [];
   out_is = ap (λ (t : Terminal). t.out) is ∙ sym (append-nil old.out);

@@ -86,7 +86,7 @@ none_sits number terminal world none at =
     let passes : is_attached_to number (slot_at terminal world).at ≡ true = ap (is_attached_to number) at ∙ same_number number in
     absurd (cc)
 
-at_place : (slot : TerminalSlot) (place : Place) (number : ℕ) → IsAt slot place → slot.at ≡ Some number → place ≡ Place.At number
+pub at_place : (slot : TerminalSlot) (place : Place) (number : ℕ) → IsAt slot place → slot.at ≡ Some number → place ≡ Place.At number
 at_place slot (Place.At at) number is e = let same : Some at ≡ Some number = sym is ∙ e in cc
 at_place slot (Place.Alone display) number is e = let alone = is.0 in absurd (cc)
 

@@ -8,7 +8,9 @@ use Rattle.std.proofs.lemmas.Option.{same_Some}
 use Rattle.codes3270.specs.declared.size.Model.{Model}
 use Rattle.datastream.specs.InboundFields.{IsSendable}
 use Rattle.datastream.specs.Screen.{Screen}
+use Rattle.keyboard.specs.State.{Keyboard}
 use Rattle.keyboard.specs.declared.key.Key.{Key}
+use Rattle.keyboard.specs.declared.key.Lock.TheVariants.{Wait}
 use Rattle.lu_pool.specs.HolderLaws.{IsSound as IsSoundPool}
 use Rattle.panels.specs.Panel.{Panels}
 use Rattle.shadow.specs.Pairs.{Pairwise}
@@ -45,7 +47,7 @@ use Rattle.host_core.specs.declared.turn_reason.TurnReason.TheVariants as turn_r
 use Rattle.host_core.specs.declared.unheard.Unheard.TheVariants.{Input}
 use Rattle.world3270.specs.model.ByteSteps.{is_lost}
 use Rattle.world3270.proofs.HostItems.{stands_read}
-use Rattle.world3270.specs.model.ByteWorld.{Transit, host_out, is_live, is_there, transits_at, under_way, ByteWorld, terminal_at}
+use Rattle.world3270.specs.model.ByteWorld.{Transit, host_out, is_live, is_there, slot_at, transits_at, under_way, ByteWorld, terminal_at}
 use Rattle.world3270.specs.model.Link.{Link, host_left_if, host_sent, sent, term_stepped}
 use Rattle.world3270.specs.model.Terminal.{Display, after_key, key_came, new_display, took as term_took}
 use Rattle.world3270.specs.model.World.{World, new_world}
@@ -53,13 +55,13 @@ use Rattle.world3270.specs.refinement.Invariant.{ConnectionInvariant}
 use Rattle.world3270.specs.refinement.LowerLaws.{LowerLaws}
 use Rattle.world3270.specs.refinement.Phases.{IsAgreed, IsInFlight}
 use Rattle.world3270.specs.refinement.Readings.{IsReadAs}
-use Rattle.world3270.specs.refinement.Refines.{WorldSetup, after}
+use Rattle.world3270.specs.refinement.Refines.{IsReached, WorldSetup, after}
 use Rattle.world3270.specs.refinement.Representation.{conn_of, link_of, link_with}
 use Rattle.world3270.specs.refinement.Represents.{BytesDown, LinkRepresents, RepresentsUp, TermRepresents, without_commands, LinkRepresentsBy}
 use Rattle.world3270.specs.refinement.View.{View, view_of}
 use Rattle.world3270.specs.statement.EveryTerminal.{FirstPaint, LinkWithReport}
-use Rattle.world3270.specs.statement.EveryTerminalBytes.{BeginsOverBytes, Represents, link_over}
-use Rattle.world3270.specs.statement.Instances.{WorldsBeginOverBytes, over_bytes}
+use Rattle.world3270.specs.statement.EveryTerminalBytes.{BeginsOverBytes, IsHost, Represents, link_over}
+use Rattle.world3270.specs.statement.Instances.{IsAgreedOn, WorldsBeginOverBytes, over_bytes}
 use Rattle.world3270.specs.statement.Rules.{Binds}
 use Rattle.world3270.proofs.Acting.{MayAct, may_act_at, reads_later}
 use Rattle.world3270.proofs.AnyTerminal.{pairs_become}
@@ -319,7 +321,7 @@ first_of app marks lu link fresh any here now = record {
   waits = refl;
 }
 
-live_bytes : (transit : Transit) (out : List ℕ) → not (is_live transit) ≡ false → under_way transit out ≡ out
+pub live_bytes : (transit : Transit) (out : List ℕ) → not (is_live transit) ≡ false → under_way transit out ≡ out
 live_bytes Transit.Live out live = refl
 live_bytes (Transit.Cut kept) out live = absurd (cc)
 live_bytes (Transit.SenderGone bytes) out live = absurd (cc)
@@ -373,81 +375,93 @@ stands_moved number terminal bytes link stands there live =
 pub is_open_now : (service : Service) (rest : Rest) (conn : Session) → service ≡ Service.Open rest conn → IsOpen service
 is_open_now service rest conn is = subst IsOpen (sym is) tt
 
+-- a connection of a world just after agreement
+module _ (given : LowerLaws) (panels : PanelsAreShown) (served : ServedIsMarked) (number terminal : ℕ) (lu : List ℕ) (bytes : ByteWorld) (is : IsReached bytes) (a : IsAgreedOn number terminal lu bytes) where
+  abbrev setup : WorldSetup
+  setup = is.begin
+
+  abbrev app : Application
+  app = application_of setup.panels
+
+  is_app : IsApplication app
+  is_app = panels setup.panels is.is_begin.panels.otherwise is.is_begin.panels.laid_out is.is_begin.panels.apart
+
+  abbrev world : World
+  world = after setup is.events
+
+  good : GoodWorld app world
+  good = run_good given app is_app is.events (new_world app setup.serves setup.pool setup.models) is.reached.are_events (new_good given app is_app setup.serves setup.pool setup.models is.is_begin.pool)
+
+  abbrev link : Link
+  link = world.link number
+
+  stands : LinkRepresents (link_of number bytes) link
+  stands = is.reached.stands.links number
+
+  here : link.host_here ≡ true
+  here = sym stands.host_here ∙ ap is_there a.is_open
+
+  same : a.host ≡ link.host
+  same = sym (ap conn_of a.is_open) ∙ (stands.host here).host
+
+  live : link.lost ≡ false
+  live = sym stands.lost ∙ a.live
+
+  fresh : IsFresh app link.host link.term.display
+  fresh = by_either ((everywhere given app is_app (λ event. ⊤) (IsFreshOrPast app) (λ display. ⊤) (fresh_steps given app) setup.serves setup.pool setup.models is.events is.is_begin.pool is.reached.are_events (λ k d below. tt)).links number)
+    where
+      by_either : IsFreshOrPast app (world.link number) → IsFresh app link.host link.term.display
+      by_either (inl f) = f
+      by_either (inr past) = absurd (past (sym (ap (λ (h : Session). h.turn) same) ∙ a.turn) (sym (ap (λ (h : Session). h.turn_reason) same) ∙ a.first))
+
+  agreed : agreed_lu link.host.talk.state ≡ Some lu
+  agreed = sym (ap (λ (h : Session). agreed_lu h.talk.state) same) ∙ a.agreed
+
+  now : IsAgreedHere app lu link
+  now =
+      agreed_here app link (good.links number).wanted lu live agreed
+      (may_act_at given app is_app link (good.links number) (fresh_turn app link.host link.term.display fresh) (fresh_pending app link.host link.term.display fresh) (has_agreed lu link.host.talk.state agreed))
+
+  abbrev begins : LinkWithReport
+  begins = begin_of link
+
+  blank_is : link.term.display ≡ record (new_display (model_of now.device) app.begins) { keyboard = link.term.display.keyboard }
+  blank_is = blank_of app lu link fresh now
+
+  first : FirstPaint app lu begins
+  first = first_of app (marked_there served setup is.is_begin is.events number (ap may_have_changed (sym (ap (λ (h : Session). h.unheard) same) ∙ a.any))) lu link fresh
+      (sym (ap (λ (h : Session). h.unheard) fresh.host_is) ∙ sym (ap (λ (h : Session). h.unheard) same) ∙ a.any) here now
+
+  represents : Represents number (over_bytes number terminal bytes) begins
+  represents = record {
+    is_open = is_open_now (state_at number bytes.host) a.rest a.host a.is_open;
+    stands = stands_moved number terminal bytes link stands a.there a.live;
+    waits = refl;
+    unnamed = refl;
+    stored = record {
+      sendable = subst (λ (d : Display). IsSendable d.screen) (sym blank_is) (blank_sendable (model_of now.device) app.begins is_app.begins);
+      whole = (good.links number).whole;
+    };
+  }
+
+  -- its keyboard waits
+  pub begin_locked : (slot_at terminal bytes).tracked.terminal.station.keyboard.lock ≡ Wait
+  begin_locked =
+      let term : TermRepresents (link_with (Some terminal) number bytes) link =
+      subst (λ (h : Option ℕ). TermRepresents (link_with h number bytes) link) a.there (stands.term terminal (sym stands.term_here ∙ a.there)) in
+      ap (λ (k : Keyboard). k.lock) term.holds.is_end.keyboard_is ∙ (quiet_fresh given app link (good.links number) fresh).waits
+
+  pub its_begin : IsHost bytes.host → BeginsOverBytes (application_of bytes.host.panels) number lu (over_bytes number terminal bytes)
+  its_begin is_host =
+      subst (λ (p : Panels). BeginsOverBytes (application_of p) number lu (over_bytes number terminal bytes)) (sym is.reached.panels)
+      (record {
+        begin = begins;
+        begins = first;
+        represents = represents;
+        below = open_below number bytes.host a.rest a.host is_host.sound.connections a.is_open;
+        is_host = is_host;
+        pool = subst IsSoundPool (sym is.reached.stands.pool) good.sound;
+      })
+
 pub worlds_begin : LowerLaws → PanelsAreShown → ServedIsMarked → WorldsBeginOverBytes
-worlds_begin given panels served number terminal lu bytes is is_host a =
-    subst (λ (p : Panels). BeginsOverBytes (application_of p) number lu (over_bytes number terminal bytes)) (sym is.reached.panels)
-    (record {
-      begin = begins;
-      begins = first;
-      represents = represents;
-      below = open_below number bytes.host a.rest a.host is_host.sound.connections a.is_open;
-      is_host = is_host;
-      pool = subst IsSoundPool (sym is.reached.stands.pool) good.sound;
-    })
-  where
-    setup : WorldSetup
-    setup = is.begin
-
-    app : Application
-    app = application_of setup.panels
-
-    is_app : IsApplication app
-    is_app = panels setup.panels is.is_begin.panels.otherwise is.is_begin.panels.laid_out is.is_begin.panels.apart
-
-    world : World
-    world = after setup is.events
-
-    good : GoodWorld app world
-    good = run_good given app is_app is.events (new_world app setup.serves setup.pool setup.models) is.reached.are_events (new_good given app is_app setup.serves setup.pool setup.models is.is_begin.pool)
-
-    link : Link
-    link = world.link number
-
-    stands : LinkRepresents (link_of number bytes) link
-    stands = is.reached.stands.links number
-
-    here : link.host_here ≡ true
-    here = sym stands.host_here ∙ ap is_there a.is_open
-
-    same : a.host ≡ link.host
-    same = sym (ap conn_of a.is_open) ∙ (stands.host here).host
-
-    live : link.lost ≡ false
-    live = sym stands.lost ∙ a.live
-
-    fresh : IsFresh app link.host link.term.display
-    fresh = by_either ((everywhere given app is_app (λ event. ⊤) (IsFreshOrPast app) (λ display. ⊤) (fresh_steps given app) setup.serves setup.pool setup.models is.events is.is_begin.pool is.reached.are_events (λ k d below. tt)).links number)
-      where
-        by_either : IsFreshOrPast app (world.link number) → IsFresh app link.host link.term.display
-        by_either (inl f) = f
-        by_either (inr past) = absurd (past (sym (ap (λ (h : Session). h.turn) same) ∙ a.turn) (sym (ap (λ (h : Session). h.turn_reason) same) ∙ a.first))
-
-    agreed : agreed_lu link.host.talk.state ≡ Some lu
-    agreed = sym (ap (λ (h : Session). agreed_lu h.talk.state) same) ∙ a.agreed
-
-    now : IsAgreedHere app lu link
-    now =
-        agreed_here app link (good.links number).wanted lu live agreed
-        (may_act_at given app is_app link (good.links number) (fresh_turn app link.host link.term.display fresh) (fresh_pending app link.host link.term.display fresh) (has_agreed lu link.host.talk.state agreed))
-
-    begins : LinkWithReport
-    begins = begin_of link
-
-    blank_is : link.term.display ≡ record (new_display (model_of now.device) app.begins) { keyboard = link.term.display.keyboard }
-    blank_is = blank_of app lu link fresh now
-
-    first : FirstPaint app lu begins
-    first = first_of app (marked_there served setup is.is_begin is.events number (ap may_have_changed (sym (ap (λ (h : Session). h.unheard) same) ∙ a.any))) lu link fresh
-        (sym (ap (λ (h : Session). h.unheard) fresh.host_is) ∙ sym (ap (λ (h : Session). h.unheard) same) ∙ a.any) here now
-
-    represents : Represents number (over_bytes number terminal bytes) begins
-    represents = record {
-      is_open = is_open_now (state_at number bytes.host) a.rest a.host a.is_open;
-      stands = stands_moved number terminal bytes link stands a.there a.live;
-      waits = refl;
-      unnamed = refl;
-      stored = record {
-        sendable = subst (λ (d : Display). IsSendable d.screen) (sym blank_is) (blank_sendable (model_of now.device) app.begins is_app.begins);
-        whole = (good.links number).whole;
-      };
-    }
+worlds_begin given panels served number terminal lu bytes is is_host a = its_begin given panels served number terminal lu bytes is a is_host

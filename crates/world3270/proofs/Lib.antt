@@ -112,3 +112,7 @@ pub mod ByteEnds
 pub mod Leaving
 pub mod OneWorld
 pub mod Sizes
+pub mod TakenMoves
+pub mod EventsElsewhere
+pub mod WorldMoves
+pub mod RunsOfByteWorlds

@@ -214,7 +214,7 @@ lock_after (ToTerminal.Note number command) end t link was = by_bound (is_bound 
     by_bound false = was
 
 -- a key in the wait edits nothing
-edits_in_wait : HeldAtFirst → (key : Key) (end : TermEnd) → end.display.keyboard.lock ≡ Wait → end.display.screen.cursor < length end.display.screen.cells
+pub edits_in_wait : HeldAtFirst → (key : Key) (end : TermEnd) → end.display.keyboard.lock ≡ Wait → end.display.screen.cursor < length end.display.screen.cells
     → (does : Operates end (key_came key end)) × (key_pressed does ≢ Clear)
 edits_in_wait at_first key end locked below =
     let old : Screen = end.display.screen in
@@ -228,7 +228,7 @@ edits_in_wait at_first key end locked below =
     )
 
 -- a key that sends waits
-queued_waits : SendingWaits → (key : Key) (end : TermEnd) → is_queued (key_came key end).sends ≡ true → (key_came key end).end.display.keyboard.lock ≡ Wait
+pub queued_waits : SendingWaits → (key : Key) (end : TermEnd) → is_queued (key_came key end).sends ≡ true → (key_came key end).end.display.keyboard.lock ≡ Wait
 queued_waits sending key end queued = by_answer outcome.answer refl queued
   where
     outcome : Outcome

@@ -7,6 +7,8 @@ use Rattle.std.proofs.lemmas.Option.{same_Some}
 use Rattle.codes3270.specs.Size.{cells_in, model_2}
 use Rattle.codes3270.specs.declared.attribute.Cell.TheVariants.{Char}
 use Rattle.codes3270.specs.declared.size.Model.TheVariants.{M2, M5}
+use Rattle.keyboard.specs.declared.key.Key.TheVariants.{Enter}
+use Rattle.keyboard.specs.declared.key.Refusal.TheVariants.{Locked}
 use Rattle.lu_pool.specs.Pool.{Holds, entry}
 use Rattle.lu_pool.specs.declared.entry.Entry.{Entry}
 use Rattle.panels.specs.Panel.{AreSound, HasItemsApart, HaveNumbersApart, IsLaidOut, IsOfCharacters, IsOtherwise, PanelParts, ShowsItsValues, target_at, target_of}
@@ -17,19 +19,25 @@ use Rattle.host_core.specs.Laws.{PanelsAreShown, ServedIsMarked}
 use Rattle.host_core.specs.Sound.{HoldsJust, IsShown, IsSound}
 use Rattle.host_core.specs.State.{Connection, Service, lu_of, state_at, unused}
 use Rattle.host_core.specs.declared.terminals.Terminals.TheVariants.{Any}
+use Rattle.world3270.specs.declared.event.Event.TheVariants as event
+use Rattle.world3270.specs.declared.event.Stepped.TheVariants as stepped
 use Rattle.world3270.specs.examples.ExampleApplication.{example, example_pool, l1}
-use Rattle.world3270.specs.examples.ExampleBytes.{ABeginIsThere, agreed_bytes, agreed_host, agreed_seen, agreed_session, agreed_world, bound_talk, empty_panel, one_panel}
+use Rattle.world3270.specs.examples.ExampleBytes.{ABeginIsThere, agreed_byte_world, agreed_bytes, agreed_host, agreed_seen, agreed_session, agreed_world, bound_talk, empty_panel, enter_refused, one_panel}
 use Rattle.world3270.specs.examples.ExampleEnds.{l1_held, rounds}
+use Rattle.world3270.specs.model.ByteSteps.{Presses}
 use Rattle.world3270.specs.model.Terminal.{new_display}
 use Rattle.world3270.specs.model.World.{World, new_world}
 use Rattle.world3270.specs.refinement.MessageLaws.{MessageLaws}
 use Rattle.world3270.specs.refinement.Readings.{IsReadAs}
 use Rattle.world3270.specs.refinement.Represents.{RepresentsDown, without_commands, without_nops}
 use Rattle.world3270.specs.statement.EveryTerminal.{FirstPaint, LinkWithReport}
-use Rattle.world3270.specs.statement.EveryTerminalBytes.{Represents}
+use Rattle.world3270.specs.statement.EveryTerminalBytes.{IsHost, Represents}
+use Rattle.world3270.specs.statement.Instances.{IsAgreedOn}
+use Rattle.world3270.specs.statement.WorldMoves.{GoOnAt}
 use Rattle.world3270.specs.statement.Rules.{Binds}
 use Rattle.world3270.proofs.ExampleGiven.{is_pool}
 use Rattle.world3270.proofs.Represents.{nothing_stands}
+use Rattle.world3270.proofs.RunsOfByteWorlds.{is_reached}
 use Rattle.world3270.proofs.Sendable.{blank_sendable}
 use Rattle.world3270.proofs.SignedOn.{acted_on, agree, agreeing, agreement_taken, asks, request_taken}
 
@@ -191,6 +199,26 @@ has_agreed : agreed_seen agreed_world ≡ record { lost = false; lu = Some l1; a
 unfolding start_any asks acted_on agree request_taken agreement_taken device_of
 has_agreed = ap agreed_seen (agreeing example asks (rounds 0 2 ++ []) start_any (record { here = refl; up = refl }) (record { here = refl; down = refl }))
 
+is_host : IsHost agreed_host
+is_host = record { sound = sound_host; unshared = nobody_shares }
+
+just_agreed : IsAgreedOn 0 0 l1 agreed_byte_world
+just_agreed = record {
+  rest = nothing;
+  host = agreed_session;
+  is_open = refl;
+  agreed = refl;
+  any = refl;
+  turn = refl;
+  pending = refl;
+  first = refl;
+  there = refl;
+  live = refl;
+}
+
+goes_on : GoOnAt 0 (event.Key 0 Enter ∷ []) agreed_byte_world enter_refused
+goes_on = (stepped.Refused Locked, enter_refused, (tt, tt), Presses.done refl refl, is_host, refl, refl)
+
 pub a_begin : MessageLaws → PanelsAreShown → ServedIsMarked → ABeginIsThere
 a_begin known panels served = record {
   panels = sound_panels;
@@ -199,8 +227,12 @@ a_begin known panels served = record {
     begins = first served;
     represents = represents known panels;
     below = lit≤ tt;
-    is_host = record { sound = sound_host; unshared = nobody_shares };
+    is_host = is_host;
     pool = known.worlds.given.pool.sound_granted example_pool 0 l1 (known.worlds.given.pool.sound example_pool is_pool);
   };
   agreed = has_agreed;
+  reached = is_reached known sound_panels;
+  is_host = is_host;
+  just_agreed = just_agreed;
+  goes_on = goes_on;
 }

@@ -58,14 +58,14 @@ pub record IsAgreed (world : World) : Type 0 where
   pub here : (world.link 0).term_here ≡ Some 0
   pub down : (world.link 0).down ≡ ToTerminal.TalksDown (NegotiationMessage.Sub FunIs) ∷ drop 1 (world.link 0).down
 
-requested : (app : Application) (world : World) → IsRequested world → stepped_by app (Event.Up 0) world ≡ request_taken ResponsesAlone world
+pub requested : (app : Application) (world : World) → IsRequested world → stepped_by app (Event.Up 0) world ≡ request_taken ResponsesAlone world
 unfolding request_taken
 requested app world is =
     ap (λ (here : Bool). if here && is_queued (world.link 0).up then came_up 0 (world.link 0).up world else world) is.here
     ∙ ap (λ (up : List ToHost). if is_queued up then came_up 0 up world else world) is.up
     ∙ ap (λ (wanted : FunctionsOffer). request_taken wanted world) responses_alone
 
-agreed : (app : Application) (world : World) → IsAgreed world → stepped_by app (Event.Down 0) world ≡ agreement_taken ResponsesAlone world
+pub agreed : (app : Application) (world : World) → IsAgreed world → stepped_by app (Event.Down 0) world ≡ agreement_taken ResponsesAlone world
 unfolding agreement_taken
 agreed app world is =
     ap (λ (here : Option ℕ). if is_some here && is_queued (world.link 0).down then went_down 0 here world else world) is.here

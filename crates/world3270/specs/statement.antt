@@ -24,3 +24,4 @@ pub mod ProtocolErrors
 pub mod EveryTerminal
 pub mod EveryTerminalBytes
 pub mod Instances
+pub mod WorldMoves

@@ -21,6 +21,7 @@ ghost use Rattle.world3270.specs.statement.RuleLaws.{TerminalsKeepTheRules};
 ghost use Rattle.world3270.specs.model.Places.{EndsAgree, UpIsHeld, HoldersAreHere, LinksStay, HoldersStay, PoolIsSound};
 ghost use Rattle.world3270.specs.refinement.Refines.{BeginIsReached, HeadlineIsSeen, RunsAreSimulated, SameSkips, StepsAreSimulated};
 ghost use Rattle.world3270.specs.model.TrackedTerminals.{HistoryFollows};
+ghost use Rattle.world3270.specs.statement.WorldMoves.{EventsAreMoves, WorldsMoveOverBytes};
 ghost use Rattle.world3270.specs.refinement.Sendable.{AlwaysTyped, DataCanBeSpelt, PaintsAreScreens, PaintsAreSpelt, ScreensAreSendable, ScreensHaveASize, ValuesAreTexts};
 ghost use Rattle.world3270.specs.statement.Shown.{FieldsAreShown, PanelIsShown, PanelIsShownOverBytes};
 ghost use Rattle.world3270.specs.statement.ShownFields.{OtherTextsAreNot};
@@ -443,21 +444,29 @@ pub fn every_terminal_over_bytes()
 
 /// Law: the premises of `every_terminal_over_bytes` can be met. Just after the host has agreed on an LU on a connection of
 /// a world that isn't lost, and if it doesn't rely on the terminal's wait, host, terminal and the bytes under way are a
-/// begin as that theorem requires it. Also, a begin is there: of a host with one panel, and a terminal that is bound; and
-/// a run of a world in which the host agrees.
+/// begin as that theorem requires it. Also, a begin is there: of a host with one panel, and a terminal that is bound; a
+/// run of a world in which the host agrees; and a world over bytes just after agreement, which goes on.
 /// What happens then on the connection, until it is lost, are moves over messages that keep the rules; so `every_terminal`
-/// holds of each such connection of a world. In a world over bytes its bytes represent it.
+/// holds of each such connection of a world. In a world over bytes its bytes represent it. And each event over bytes that
+/// neither loses nor closes the connection is moves over bytes there; so `every_terminal_over_bytes` holds of it after any
+/// such events.
 pub fn worlds_begin_so()
     ensures worlds { WorldsBeginOverBytes }
     ensures example { ABeginIsThere }
     ensures moves { AlwaysOf ConnectionsAreMoved }
     ensures bytes { WorldsGoOnOverBytes }
+    ensures events { EventsAreMoves }
+    ensures runs { WorldsMoveOverBytes }
 {
     what_is_known();
     what_is_given();
     panels_are_shown();
     what_is_served_is_marked();
     every_terminal();
+    every_terminal_over_bytes();
     terminals_keep_the_rules();
     sent_keys_wait();
+    bytes_stand_for_messages();
+    bytes_follow_messages();
+    telnet_wire::laws::one_reading();
 }

@@ -1,9 +1,10 @@
--- A begin of `EveryTerminalOverBytes`: a host for any terminal with one panel, and a bound terminal. Readers and proofs
--- need it, and nothing rests on it (our profile).
+-- A begin of `EveryTerminalOverBytes`: a host for any terminal with one panel, and a bound terminal; and a world over
+-- bytes that has both. Readers and proofs need them, and nothing rests on them (our profile).
 use Rattle.std.specs.Prelude.{◌≡◌, codes, ℕ, Bool, true, false, List, [], ◌∷◌, Option, None, Some, replicate}
 use Rattle.codes3270.specs.Size.{cells_in, model_2}
 use Rattle.codes3270.specs.declared.size.Model.TheVariants.{M2, M5}
 use Rattle.datastream.specs.Screen.{blank_screen}
+use Rattle.keyboard.specs.declared.key.Key.TheVariants.{Enter}
 use Rattle.panels.specs.Panel.{AreSound, PanelParts, Panels}
 use Rattle.presentation.specs.Sizes.{blank_of}
 use Rattle.telnet_wire.specs.Reading.{nothing}
@@ -19,12 +20,17 @@ use Rattle.host_core.specs.Session.{Session, agreed_lu, new_conn}
 use Rattle.host_core.specs.State.{Host, Service, no_sessions, unused}
 use Rattle.host_core.specs.Takes.{may_have_changed}
 use Rattle.host_core.specs.declared.terminals.Terminals.TheVariants.{Any}
+use Rattle.world3270.specs.declared.event.Event.TheVariants as event
 use Rattle.world3270.specs.examples.ExampleApplication.{example, example_pool, l1}
 use Rattle.world3270.specs.examples.ExampleEnds.{connected, l1_held}
+use Rattle.world3270.specs.model.ByteWorld.{ByteWorld, begun_transits, slot_at, unused_transits, with_slot}
 use Rattle.world3270.specs.model.Steps.{run}
-use Rattle.world3270.specs.model.TrackedTerminals.{TrackedTerminal}
+use Rattle.world3270.specs.model.TrackedTerminals.{TrackedTerminal, tracked_after_key}
 use Rattle.world3270.specs.model.World.{World, new_world}
-use Rattle.world3270.specs.statement.EveryTerminalBytes.{BeginsOverBytes, OverBytes}
+use Rattle.world3270.specs.refinement.Refines.{IsReached}
+use Rattle.world3270.specs.statement.EveryTerminalBytes.{BeginsOverBytes, IsHost, OverBytes}
+use Rattle.world3270.specs.statement.Instances.{IsAgreedOn}
+use Rattle.world3270.specs.statement.WorldMoves.{GoOnAt}
 
 -- ---- the host
 
@@ -103,11 +109,32 @@ agreed_seen world = record {
 abbrev pub agreed_world : World
 agreed_world = run example connected (new_world example Any example_pool (M5 ∷ []))
 
--- ---- both are there
+-- ---- a world over bytes
+
+-- that host and that terminal, on connection 0, with nothing under way
+abbrev pub agreed_byte_world : ByteWorld
+agreed_byte_world = record {
+  host = agreed_host;
+  links = begun_transits ∷ replicate 63 unused_transits;
+  slots = record { tracked = bound_terminal; at = Some 0 } ∷ [];
+}
+
+-- after Enter, which its keyboard refuses: it is locked until a panel is shown
+abbrev pub enter_refused : ByteWorld
+enter_refused =
+    let slot = slot_at 0 agreed_byte_world in
+    with_slot 0 (record slot { tracked = tracked_after_key Enter slot.tracked }) agreed_byte_world
+
+-- ---- they are there
 
 -- Holds if these bytes are a begin, of a host with sound panels, and if the host of that world has agreed: so the
--- premises of `EveryTerminalOverBytes` and of `ConnectionsAreMoved` can be met.
+-- premises of `EveryTerminalOverBytes` and of `ConnectionsAreMoved` can be met. And if that world over bytes, in which
+-- the host has just agreed, represents one over messages, and goes on: so can those of `WorldsMoveOverBytes`.
 pub record ABeginIsThere : Type 0 where
   pub panels : AreSound one_panel
   pub begins : BeginsOverBytes (application_of one_panel) 0 l1 agreed_bytes
   pub agreed : agreed_seen agreed_world ≡ record { lost = false; lu = Some l1; any = true }
+  pub reached : IsReached agreed_byte_world
+  pub is_host : IsHost agreed_host
+  pub just_agreed : IsAgreedOn 0 0 l1 agreed_byte_world
+  pub goes_on : GoOnAt 0 (event.Key 0 Enter ∷ []) agreed_byte_world enter_refused

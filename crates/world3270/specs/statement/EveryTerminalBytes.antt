@@ -64,11 +64,11 @@ display_of tracked = record {
 abbrev pub end_of : Term → TrackedTerminal → TermEnd
 end_of talk tracked = record { waits = false; talk = talk; display = display_of tracked }
 
--- the terminal with this display
-abbrev pub displaying : Display → TrackedTerminal → TrackedTerminal
-displaying display tracked = record {
+-- the terminal with this display, which gives its next record of data this SEQ-NUMBER
+abbrev pub displaying : Display → (number : ℕ) → TrackedTerminal → TrackedTerminal
+displaying display number tracked = record {
   terminal = record tracked.terminal {
-    station = record tracked.terminal.station { screen = sized display; keyboard = display.keyboard };
+    station = record tracked.terminal.station { screen = sized display; keyboard = display.keyboard; number = number };
   };
   history = record {
     last_restored = display.last_restored;
@@ -97,7 +97,7 @@ pub record Takes (old new : OverBytes) : Type 0 where
 
 -- The operator does something by the rules, on a connection that the terminal hasn't closed, and leaves characters that
 -- a terminal can store. Clear isn't pressed during the wait. The terminal may spell what it sends in any way that the
--- host reads alike.
+-- host reads alike, and number its records of data as it likes.
 pub record IsOperated (step : TermStep) (old new : OverBytes) : Type 0 where
   pub rest : Rest
   pub talk : Term
@@ -107,9 +107,10 @@ pub record IsOperated (step : TermStep) (old new : OverBytes) : Type 0 where
   pub stored : CanBeSent step.end.display.size step.end.display.screen
   pub bytes : List ℕ
   pub encoded : AreReadAs bytes step.sends
+  pub number : ℕ
   pub leaves : new ≡ record old {
     up = old.up ++ bytes;
-    tracked = displaying step.end.display old.tracked;
+    tracked = displaying step.end.display number old.tracked;
     waits = old.waits || is_queued step.sends;
   }
 

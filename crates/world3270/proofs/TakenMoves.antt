@@ -1,0 +1,145 @@
+-- Bytes that the terminal of a world takes are moves over bytes, and its keyboard stays locked while a 3278's would be.
+use Rattle.std.proofs.Common.{◌≡◌, ◌||◌, ℕ, Bool, true, false, Option, None, Some, List, [], ◌∷◌, ◌++◌, refl, ap, sym, subst, ◌∙◌, if◌then◌else◌}
+use Rattle.keyboard.specs.State.{Keyboard}
+use Rattle.keyboard.specs.declared.key.Lock.TheVariants.{Wait}
+use Rattle.telnet_wire.specs.Reading.{Rest}
+use Rattle.tn3270e_msg.specs.declared.cause.Cause.{Cause}
+use Rattle.host_core.specs.Application.{Application}
+use Rattle.host_core.specs.Messages.{ToTerminal}
+use Rattle.host_core.specs.State.{Host}
+use Rattle.world3270.specs.model.Link.{Link, term_left_if, term_stepped}
+use Rattle.world3270.specs.model.Terminal.{TermEnd, TermStep, is_bound, note_came, once_bound, paint_came, read_came, took}
+use Rattle.world3270.specs.model.TrackedTerminals.{TrackedTakes, TrackedTakesByte, TrackedTerminal}
+use Rattle.world3270.specs.refinement.Representation.{with_out}
+use Rattle.world3270.specs.refinement.Represents.{BytesDown, Holds}
+use Rattle.world3270.specs.refinement.RepresentsEnds.{is_painted}
+use Rattle.world3270.specs.refinement.RepresentsLinks.{MayComeAll, NoneCloses, any_painted, took_down}
+use Rattle.world3270.specs.refinement.Sendable.{CanBeSent}
+use Rattle.world3270.specs.statement.EveryTerminalBytes.{IsHost, LeadTo, Moves, OverBytes, Takes}
+use Rattle.world3270.specs.statement.WorldMoves.{IsLockedIf}
+use Rattle.world3270.proofs.AnyTerminal.{TakesLaws}
+use Rattle.world3270.proofs.ByteDown.{quiet_byte}
+use Rattle.world3270.proofs.Completed.{left_down}
+use Rattle.world3270.proofs.RepresentsLinks.{byte_came, stayed}
+
+-- ---- a terminal takes a byte
+
+-- the connection of this host and this terminal, with these bytes handed over; what the terminal has to send is under way
+abbrev pub joined : Host → List ℕ → TrackedTerminal → (waits : Bool) → OverBytes
+joined host down tracked waits = record { host = host; down = down; up = tracked.terminal.out; tracked = with_out [] tracked; waits = waits }
+
+-- whether a 3278 would wait behind a byte
+abbrev waits_behind : TrackedTerminal → Bool → Bool
+waits_behind tracked waits = if tracked.terminal.station.took_write then false else waits
+
+takes_one : (host : Host) (byte : ℕ) (behind : List ℕ) (old new : TrackedTerminal) (waits : Bool) → TrackedTakesByte old byte new
+    → Takes (joined host (byte ∷ behind) old waits) (joined host behind new (waits_behind new waits))
+takes_one host byte behind old new waits taken =
+    let quiet = quiet_byte old.terminal byte new.terminal taken.takes in
+    record {
+      byte = byte;
+      behind = behind;
+      next = refl;
+      ours = with_out quiet.said new;
+      takes = record { takes = quiet.takes []; history = taken.history };
+      bytes = quiet.said;
+      alike = λ messages read. read;
+      leaves = ap (λ (up : List ℕ). record (joined host behind new (waits_behind new waits)) { up = up }) quiet.out_is;
+    }
+
+-- ---- messages come down
+
+unlocks_not : (end : TermEnd) (message : ToTerminal) → is_painted end message ≡ false → (took end message).end.display.keyboard ≡ end.display.keyboard
+unlocks_not end (ToTerminal.TalksDown saying) none = refl
+unlocks_not end (ToTerminal.Paint number wanted over) none = by_bound (is_bound end) none
+  where
+    by_bound : (b : Bool) → b ≡ false → (once_bound b (paint_came number wanted end) end).end.display.keyboard ≡ end.display.keyboard
+    by_bound true bound = absurd (cc)
+    by_bound false bound = refl
+unlocks_not end (ToTerminal.ReadBuffer number) none = by_bound (is_bound end)
+  where
+    by_bound : (b : Bool) → (once_bound b (read_came end) end).end.display.keyboard ≡ end.display.keyboard
+    by_bound true = refl
+    by_bound false = refl
+unlocks_not end (ToTerminal.Note number command) none = by_bound (is_bound end)
+  where
+    by_bound : (b : Bool) → (once_bound b (note_came number command end) end).end.display.keyboard ≡ end.display.keyboard
+    by_bound true = refl
+    by_bound false = refl
+
+neither : (one other : Bool) → (one || other) ≡ false → (one ≡ false) × (other ≡ false)
+neither false other is = (refl, is)
+neither true other is = absurd (cc)
+
+left_term : (cause : Option Cause) (link : Link) → (term_left_if cause link).term ≡ link.term
+left_term None link = refl
+left_term (Some cause) link = refl
+
+-- what holds of the messages behind the first ones
+record Behind (taken others : List ToTerminal) (link : Link) : Type 0 where
+  may : MayComeAll (took_down taken others link).term others
+  none : NoneCloses (took_down taken others link).term others
+  keyboard : any_painted link.term taken ≡ false → (took_down taken others link).term.display.keyboard ≡ link.term.display.keyboard
+
+behind_them : (taken others : List ToTerminal) (link : Link) → MayComeAll link.term (taken ++ others) → NoneCloses link.term (taken ++ others) → Behind taken others link
+behind_them [] others link may none = record { may = may; none = none; keyboard = λ unpainted. refl }
+behind_them (message ∷ taken) others link may none =
+    let step : TermStep = took link.term message in
+    let next : Link = term_stepped step (taken ++ others) link in
+    let term_is : next.term ≡ step.end = left_term step.closes (stayed step (taken ++ others) link) in
+    let more = behind_them taken others next (subst (λ (e : TermEnd). MayComeAll e (taken ++ others)) (sym term_is) may.2)
+    (subst (λ (e : TermEnd). NoneCloses e (taken ++ others)) (sym term_is) none.1) in
+    record {
+      may = more.may;
+      none = more.none;
+      keyboard = λ unpainted.
+          let parts = neither (is_painted link.term message) (any_painted step.end taken) unpainted in
+          more.keyboard (ap (λ (e : TermEnd). any_painted e taken) term_is ∙ parts.1)
+          ∙ ap (λ (e : TermEnd). e.display.keyboard) term_is
+          ∙ unlocks_not link.term message parts.0;
+    }
+
+-- ---- bytes come, one after another
+
+held_behind : (waits took_write : Bool) (old new : Keyboard) → (waits ≡ true → old.lock ≡ Wait) → (took_write ≡ false → new ≡ old) → (if took_write then false else waits) ≡ true → new.lock ≡ Wait
+held_behind waits true old new held same is = absurd (cc)
+held_behind waits false old new held same is = ap (λ (k : Keyboard). k.lock) (same refl) ∙ held is
+
+-- moves that take the bytes
+pub record AreTaken (app : Application) (number : ℕ) (host : Host) (bytes : List ℕ) (old new : TrackedTerminal) (waits : Bool) : Type 0 where
+  pub later : Bool
+  pub states : List OverBytes
+  pub lead : LeadTo app number states (joined host bytes old waits) (joined host [] new later)
+  pub held : IsLockedIf later new
+
+module _ (laws : TakesLaws) (app : Application) (number : ℕ) (host : Host) (is_host : IsHost host) where
+  pub all_taken : (bytes behind : List ℕ) (old new : TrackedTerminal) (rest : Rest) (link : Link) (waits : Bool) → Holds rest old link.term → BytesDown rest (bytes ++ behind) link.down
+      → MayComeAll link.term link.down → NoneCloses link.term link.down → CanBeSent link.term.display.size link.term.display.screen → IsLockedIf waits old → TrackedTakes old bytes new
+      → AreTaken app number host bytes old new waits
+  all_taken [] behind old new rest link waits holds down may none can held same = record {
+    later = waits;
+    states = [];
+    lead = ap (λ (t : TrackedTerminal). joined host [] t waits) same;
+    held = subst (λ (t : TrackedTerminal). IsLockedIf waits t) (sym same) held;
+  }
+  all_taken (byte ∷ bytes) behind old new rest link waits holds down may none can held taken =
+      let mid : TrackedTerminal = taken.0 in
+      let one = byte_came laws.takes laws.keeps laws.nop laws.down laws.final laws.marks byte (bytes ++ behind) old mid rest link holds down may none can taken.1 in
+      let came = one.came in
+      let ran = came.ran in
+      let now : Link = took_down came.taken came.others link in
+      let after_them = behind_them came.taken came.others link (subst (λ (m : List ToTerminal). MayComeAll link.term m) came.whole may)
+      (subst (λ (m : List ToTerminal). NoneCloses link.term m) came.whole none) in
+      let others : now.down ≡ came.others = left_down came.taken came.others link came.whole in
+      let held_now : IsLockedIf (waits_behind mid waits) mid =
+      held_behind waits mid.terminal.station.took_write old.terminal.station.keyboard mid.terminal.station.keyboard held
+      (λ unwritten. ran.holds.is_end.keyboard_is ∙ after_them.keyboard (sym one.marked ∙ unwritten) ∙ sym holds.is_end.keyboard_is) in
+      let more = all_taken bytes behind mid new ran.rest now (waits_behind mid waits) ran.holds ran.down
+      (subst (λ (m : List ToTerminal). MayComeAll now.term m) (sym others) after_them.may)
+      (subst (λ (m : List ToTerminal). NoneCloses now.term m) (sym others) after_them.none) ran.can held_now taken.2 in
+      record {
+        later = more.later;
+        states = joined host bytes mid (waits_behind mid waits) ∷ more.states;
+        lead = (Moves.takes (takes_one host byte bytes old mid waits taken.1), is_host, more.lead);
+        held = more.held;
+      }
