@@ -410,15 +410,16 @@ pub fn terminals_keep_the_rules()
 /// agreement on an LU on, after deliveries, acts, answers of the application, notes, keys and a loss in any order. The
 /// rules: the terminal is bound to the LU that the host granted, and begins with a blank screen; it applies each write
 /// whole and in order, sends a positive response, and answers Read Buffer with the whole screen; its operator changes
-/// only unprotected cells, their MDT and the cursor, with MDT on after any change but Erase Input; and it sends a key's
-/// AID with exactly the modified fields. Then it is bound to that LU alone. Whenever the host decides, parts (b) to (d)
-/// of the headline hold of what it was told: the screen when the first key since the last paint was pressed, or as it
-/// was read since; and the present screen has the attributes and the protected characters that the host believes. Each
-/// open question has the key, the cursor and the fields of what the host was told, and names the panel that the screen
-/// shows as the last paint left it, on which the application decides on the key. If the host itself decides what to show, it is where the key leads on that screen.
-/// After a paint is answered, the screen that it left shows the panel, whatever was typed before. Neither
-/// end closes the connection for a cause. The terminal need not wait for the host: meanwhile its operator
-/// may type, and press any key but Clear, since the host closes the connection if Clear crosses a command.
+/// only unprotected cells, their MDT and the cursor, with MDT on after any change but Erase Input; and it sends a
+/// key's AID with exactly the modified fields. The application marks its input fields, as `Host` does for such
+/// terminals. Then it is bound to that LU alone. Whenever the host decides, parts (b) to (d) of the headline hold of
+/// what it was told: the screen when the first key since the last paint was pressed, or, if that was PA, as it was
+/// read since. So what is typed in the wait never counts. And the present screen has the attributes and the protected
+/// characters that the host believes. Each open question has the key, the cursor and the fields of what the host was
+/// told, and names the panel that the screen shows as the last paint left it, on which the application decides on the
+/// key. If the host itself decides what to show, it is where the key leads on that screen. After a paint is answered,
+/// the screen that it left shows the panel, whatever was typed before. Neither end closes the connection for a cause.
+/// The terminal need not wait for the host: meanwhile its operator may type, and press any key but Clear.
 pub fn every_terminal()
     ensures { EveryTerminal }
 {

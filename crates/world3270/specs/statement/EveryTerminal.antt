@@ -165,8 +165,7 @@ key_pressed (Operates.edits keyboard cells cursor erases held on is) = NoAid
 key_pressed (Operates.sends keyboard aid some is) = aid
 
 -- Holds if a move keeps the rules: the pool is sound, the operator does what `Operates` allows, and a note has a note's
--- text. Clear must not be pressed while the terminal waits: it nulls the screen that the host wrote by its belief, and
--- the host closes the connection if a command is on its way.
+-- text. Clear must not be pressed while the terminal waits: it nulls the screen that the host wrote by its belief.
 abbrev pub IsByTheRules : Move → LinkWithReport → Type 0
 IsByTheRules (Move.Up pool) t = IsSound pool
 IsByTheRules (Move.Operate step) t = (does : Operates t.link.term step) × (t.waits ≡ true → key_pressed does ≢ Clear)
