@@ -17,7 +17,7 @@ use Rattle.host_core.specs.Laws.{MarksInput}
 use Rattle.host_core.specs.declared.terminals.Terminals.TheVariants.{Any, Waiting}
 use Rattle.world3270.specs.statement.EveryTerminal.{AreByTheRules, FirstPaint, RightOf, LinkWithReport, after_moves, told_link}
 use Rattle.world3270.specs.examples.ExampleApplication.{example_pool, greeting, l1, l2, sign_on, tall_greeting}
-use Rattle.world3270.specs.examples.ExampleRules.{BrokenRules, KeptRules, ToldRun, WaitingRun, acts, after, agreed_with, example_for, decides_behind, does, enters, enters_twice, entered, goes_up, ignores, kept_moves, left_behind, pasted_behind, presses, relabels, renamed_seen, sends_what_was_left, shown_by, signs_on, small_greeting, told_the_newest, types_in_the_wait}
+use Rattle.world3270.specs.examples.ExampleRules.{BrokenRules, CheckingRun, KeptRules, ToldRun, WaitingRun, acts, after, agreed_with, example_for, decides_behind, does, enters, enters_twice, entered, goes_up, ignores, kept_moves, left_behind, pasted_behind, presses, relabels, renamed_seen, sends_what_was_left, shown_by, signs_on, small_greeting, told_the_newest, types_in_the_wait}
 use Rattle.keyboard.specs.declared.key.Key.TheVariants as key
 use Rattle.world3270.specs.statement.Headline.{IsHostsTurn}
 use Rattle.world3270.proofs.ExampleGiven.{is_application, is_pool}
@@ -50,6 +50,12 @@ relying_decides right =
 
 pub waiting_run : WaitingRun
 waiting_run = record { any = any_is_right; relying = relying_is_wrong; wrong = relying_decides }
+
+-- ---- the screen is read in the wait
+
+pub checking_run : CheckingRun
+unfolding onward backward
+checking_run = record { typed = refl; told = refl; asked = refl }
 
 -- ---- what was told
 

@@ -414,12 +414,13 @@ pub fn terminals_keep_the_rules()
 /// key's AID with exactly the modified fields. The application marks its input fields, as `Host` does for such
 /// terminals. Then it is bound to that LU alone. Whenever the host decides, parts (b) to (d) of the headline hold of
 /// what it was told: the screen when the first key since the last paint was pressed, or, if that was PA, as it was
-/// read since. So what is typed in the wait never counts. And the present screen has the attributes and the protected
-/// characters that the host believes. Each open question has the key, the cursor and the fields of what the host was
-/// told, and names the panel that the screen shows as the last paint left it, on which the application decides on the
-/// key. If the host itself decides what to show, it is where the key leads on that screen. After a paint is answered,
-/// the screen that it left shows the panel, whatever was typed before. Neither end closes the connection for a cause.
-/// The terminal need not wait for the host: meanwhile its operator may type, and press any key but Clear.
+/// read since. So after any other key nothing that is typed in the wait counts. And the present screen has the
+/// attributes and the protected characters that the host believes. Each open question has the key, the cursor and the
+/// fields of what the host was told, and names the panel that the screen shows as the last paint left it, on which the
+/// application decides on the key. If the host itself decides what to show, it is where the key leads on that screen.
+/// After a paint is answered, the screen that it left shows the panel, whatever was typed before. Neither end closes
+/// the connection for a cause. The terminal need not wait for the host: meanwhile its operator may type, and press any
+/// key but Clear.
 pub fn every_terminal()
     ensures { EveryTerminal }
 {

@@ -1,7 +1,7 @@
 -- Runs of one connection of the example, from agreement on: with a terminal that keeps the rules and doesn't wait, and
 -- with terminals that break one rule each. Readers and proofs need them, and nothing rests on them (our profile). The
 -- terminals are of model 2.
-use Rattle.std.specs.Prelude.{◌≡◌, ◌≢◌, ◌∷◌, ◌++◌, ℕ, true, false, List, [], replicate, slice_set, Some, None}
+use Rattle.std.specs.Prelude.{◌≡◌, ◌≢◌, ◌∷◌, ◌++◌, ℕ, true, false, List, [], replicate, slice_get, slice_set, Option, Some, None, option_and_then}
 use Rattle.codes3270.specs.declared.attention.Aid.TheVariants.{Enter, NoAid}
 use Rattle.codes3270.specs.declared.attribute.Cell.TheVariants.{Char}
 use Rattle.codes3270.specs.declared.size.Model.TheVariants.{M2}
@@ -11,18 +11,20 @@ use Rattle.datastream.specs.declared.inbound_part.Form.TheVariants.{Modified}
 use Rattle.keyboard.specs.State.{freed}
 use Rattle.keyboard.specs.declared.key.Key.{Key}
 use Rattle.keyboard.specs.declared.key.Key.TheVariants as key
+use Rattle.panels.specs.Values.{value_of}
 use Rattle.tn3270e_msg.specs.Device.{device_for}
 use Rattle.tn3270e_msg.specs.Talk.{start_at}
 use Rattle.tn3270e_msg.specs.declared.host_talk.HostState.TheVariants.{Agreed as HostAgreed}
 use Rattle.tn3270e_msg.specs.declared.term_talk.TermState.TheVariants.{Agreed}
 use Rattle.host_core.specs.Application.{Application, IsApplication}
 use Rattle.host_core.specs.Messages.{ToTerminal, ToHost, Verdict}
+use Rattle.host_core.specs.Questions.{question_in}
 use Rattle.host_core.specs.Session.{new_conn}
 use Rattle.host_core.specs.declared.question.Answer.{Answer as ApplicationAnswer}
 use Rattle.host_core.specs.declared.terminals.Terminals.{Terminals}
 use Rattle.host_core.specs.declared.terminals.Terminals.TheVariants.{Any, Verified, Waiting}
 use Rattle.world3270.specs.statement.EveryTerminal.{AreByTheRules, FirstPaint, Move, RightOf, LinkWithReport, after_moves, moved}
-use Rattle.world3270.specs.examples.ExampleApplication.{example, example_pool, example_with, l1, l2, small}
+use Rattle.world3270.specs.examples.ExampleApplication.{example, example_pool, example_with, l1, l2, name_field, small}
 use Rattle.world3270.specs.examples.ExampleQuestions.{renamed}
 use Rattle.world3270.specs.examples.ExampleScreens.{message_seen, no_message, skipped}
 use Rattle.world3270.specs.model.Link.{term_stepped}
@@ -130,6 +132,27 @@ pub record WaitingRun : Type 0 where
   pub any : shown_by (after Any types_in_the_wait) ≡ small_greeting renamed_seen
   pub relying : shown_by (after Waiting types_in_the_wait) ≡ small_greeting left_behind
   pub wrong : RightOf (example_for Waiting) l1 (after Waiting decides_behind) → ⊥
+
+-- ---- the screen is read in the wait
+
+-- `A` in the first field, and PF6; the host verifies, so it reads the screen. Before it does, Reset, and `Q` after the
+-- `A`.
+abbrev pub typed_before_read : List Deed
+typed_before_read =
+    signs_on ++ presses (key.Char 0x41) ∷ presses (key.Pf 6) ∷ goes_up ∷ acts ∷ presses key.Reset
+    ∷ presses (key.Char 0x51)
+    ∷ goes_down ∷ goes_up ∷ []
+
+-- the text of the first field in the open question
+abbrev pub name_asked : LinkWithReport → Option (List ℕ)
+name_asked t = option_and_then (λ question. value_of question.values name_field.number)
+    (question_in (example_for Verified) 0 t.link.host)
+
+-- The screen has `AQ` then, but the application is asked what PF6 sent, which is what the host was told.
+pub record CheckingRun : Type 0 where
+  pub typed : slice_get (shown_by (after Verified typed_before_read)).cells 7 ≡ Some (Char 0xD8)
+  pub told : slice_get (after Verified typed_before_read).told.screen.cells 7 ≡ Some (Char 0)
+  pub asked : name_asked (after Verified typed_before_read) ≡ Some (0xC1 ∷ [])
 
 -- ---- what was told
 
