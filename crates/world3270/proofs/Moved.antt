@@ -23,7 +23,7 @@ use Rattle.tn3270e_msg.specs.Talk.{Talk}
 use Rattle.tn3270e_msg.specs.declared.cause.Cause.{Cause}
 use Rattle.tn3270e_msg.specs.declared.host_talk.HostState.{HostState}
 use Rattle.tn3270e_msg.specs.declared.host_talk.HostState.TheVariants.{Offered, Asked, Asking, Named, Countered, Agreed, Closed}
-use Rattle.host_core.specs.Acts.{Act, Decision, Sent, acted, decided, decision_on, done as done_act, may_act, unheard_next}
+use Rattle.host_core.specs.Acts.{Act, Decision, Sent, acted, decided, decision_on, done as done_act, may_act}
 use Rattle.host_core.specs.Application.{Application, IsApplication, application_of}
 use Rattle.host_core.specs.Laws.{MarksInput, ServedIsMarked}
 use Rattle.host_core.specs.Messages.{ToHost, ToTerminal, Verdict}
@@ -31,13 +31,12 @@ use Rattle.host_core.specs.Notes.{IsNoteText, may_note, noted, noted_as}
 use Rattle.host_core.specs.Questions.{act_by, answered_on, has_its_panel, is_asking, panel_for}
 use Rattle.host_core.specs.Session.{Pending, Session, agreed_lu, is_agreed, unheard_of}
 use Rattle.host_core.specs.State.{state_at}
-use Rattle.host_core.specs.Takes.{Answers, HostStep, data_came, may_have_changed, once_agreed, response_came, took as host_took}
+use Rattle.host_core.specs.Takes.{Answers, HostStep, may_have_changed, took as host_took}
 use Rattle.host_core.specs.declared.question.Answer.{Answer as ApplicationAnswer}
 use Rattle.host_core.specs.declared.terminals.Terminals.{Terminals}
 use Rattle.host_core.specs.declared.terminals.Terminals.TheVariants as terminals
 use Rattle.host_core.specs.declared.turn.Turn.{Turn}
 use Rattle.host_core.specs.declared.turn.Turn.TheVariants as whose
-use Rattle.host_core.specs.declared.unheard.Unheard.{Unheard}
 use Rattle.host_core.specs.declared.unheard.Unheard.TheVariants as unheards
 use Rattle.world3270.specs.model.ByteWorld.{is_there}
 use Rattle.world3270.specs.model.Enabled.{is_queued}

@@ -1,12 +1,11 @@
 -- A host that relies on the terminals' wait does so on each connection, whatever happens; so where a host doesn't on some connection, its
 -- panels are marked.
-use Rattle.std.proofs.Common.{◌≡◌, ◌&&◌, ℕ, Bool, true, false, Option, None, Some, List, [], ◌∷◌, refl, ap, sym, subst, ◌∙◌, if◌then◌else◌}
-use Rattle.std.specs.Prelude.{⊤, IfSome}
+use Rattle.std.proofs.Common.{◌≡◌, ◌&&◌, ℕ, Bool, true, false, Option, None, Some, List, [], ◌∷◌, refl, ap, sym, ◌∙◌, if◌then◌else◌}
+use Rattle.std.specs.Prelude.{IfSome}
 use Rattle.std.specs.Option.{option_and_then}
 use Rattle.codes3270.specs.declared.size.Model.{Model}
 use Rattle.keyboard.specs.declared.key.Key.{Key}
 use Rattle.lu_pool.specs.Asking.{answer_to}
-use Rattle.lu_pool.specs.declared.entry.Entry.{Entry}
 use Rattle.panels.proofs.Marked.{sound_marked}
 use Rattle.panels.specs.Panel.{AreSound, Panels}
 use Rattle.tn3270e_msg.specs.declared.cause.Cause.{Cause}

@@ -34,13 +34,13 @@ use Rattle.host_core.specs.Messages.{ToHost, Verdict}
 use Rattle.host_core.specs.NoteLaws.{IsNoteOf, TakesNotes}
 use Rattle.host_core.specs.Notes.{IsNoteText, note_command, noted_as}
 use Rattle.host_core.specs.Session.{Session, Pending, is_agreed, model_in}
-use Rattle.host_core.specs.Takes.{Answers, HostStep, answered, believed, buffer_heard, hears, is_after_pa, is_read_believed, is_unread, may_have_changed, once_read, only_read, quiet, took}
+use Rattle.host_core.specs.Takes.{Answers, HostStep, answered, believed, buffer_heard, hears, is_after_pa, is_read_believed, is_unread, may_have_changed, once_read, took}
 use Rattle.host_core.specs.declared.turn.Turn.{Turn}
 use Rattle.host_core.specs.declared.turn.Turn.TheVariants as whose
 use Rattle.host_core.specs.declared.turn_reason.TurnReason.{TurnReason}
 use Rattle.host_core.specs.declared.turn_reason.TurnReason.TheVariants as turn_reasons
 use Rattle.world3270.specs.model.Link.{Link}
-use Rattle.world3270.specs.refinement.Invariant.{ConnectionInvariant, Fact, IsPressed, Sees, Sizes, WasNoted, WasShown, WillBeHeard, local_state_of, once_taken}
+use Rattle.world3270.specs.refinement.Invariant.{ConnectionInvariant, Fact, Sees, Sizes, WasNoted, WasShown, local_state_of, once_taken}
 use Rattle.world3270.specs.refinement.LowerLaws.{LowerLaws}
 use Rattle.world3270.specs.refinement.Phases.{IsAt, IsInFlight, Kind, LinkPhase, NegotiationPhase, SessionPhase, awaiting, pending_at, turn_at}
 use Rattle.world3270.specs.refinement.View.{view_of}

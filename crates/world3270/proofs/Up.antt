@@ -2,7 +2,6 @@
 use Rattle.std.proofs.Common.{◌≡◌, ◌||◌, not, ℕ, Bool, true, false, Option, None, Some, Result, Ok, Err, List, [], ◌∷◌, ◌++◌, refl, ap, sym, subst, ◌∙◌, IsOkAnd, IfOk}
 use Rattle.tn3270e_msg.specs.Device.{device_for}
 use Rattle.codes3270.specs.declared.size.Model.{Model}
-use Rattle.codes3270.specs.Aid.{is_short_aid}
 use Rattle.codes3270.specs.Size.{ScreenSize, cells_in}
 use Rattle.codes3270.specs.declared.attention.Aid.{Aid}
 use Rattle.codes3270.specs.declared.attention.Aid.TheVariants.{NoAid, Enter, Clear, Pf, Pa}
@@ -47,7 +46,6 @@ use Rattle.host_core.specs.declared.rejection.Rejection.{Rejection}
 use Rattle.shadow.specs.Exactness.{is_erase}
 use Rattle.host_core.specs.Takes.{buffer_heard, is_after_pa, is_read_believed, is_verified, may_be_read, may_have_changed, only_read, refused, rule_broken_by, unheard_next, unless_broken, HostStep, Answers, quiet, with_talk, replied, granted_by, talked_on, talked, hears, believed, once_read, key_came, key_data_came, data_came, answered, if_answers, response_came, once_agreed, took}
 use Rattle.host_core.specs.declared.unheard.Unheard.{Unheard}
-use Rattle.host_core.specs.declared.unheard.Unheard.TheVariants as unheards
 use Rattle.std.specs.Prelude.{⊤, unwrap_or, if◌then◌else◌}
 use Rattle.world3270.specs.refinement.LowerLaws.{LowerLaws}
 use Rattle.world3270.specs.model.Link.{Link, sent}
