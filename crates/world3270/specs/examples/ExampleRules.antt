@@ -99,8 +99,8 @@ signs_on = acts ∷ goes_down ∷ goes_up ∷ []
 
 -- ---- the wait is ended
 
--- `A` in the first field, and PF6: the host, which reads the screen if it relies on the wait, asks the application. Then
--- Reset, and `Q` after the `A`; and the application answers with the second panel, and `B` for the name.
+-- `A` in the first field, and PF6: the host asks the application, and if it relies on the wait reads the screen before.
+-- Then Reset, and `Q` after the `A`; and the application answers with the second panel, and `B` for the name.
 abbrev pub types_in_the_wait : List Deed
 types_in_the_wait =
     signs_on ++ presses (key.Char 0x41) ∷ presses (key.Pf 6) ∷ goes_up ∷ acts ∷ goes_down ∷ goes_up ∷ presses key.Reset
@@ -187,7 +187,8 @@ unapplied end message = record { end = end; sends = []; closes = None }
 
 abbrev pub ignored : List ToTerminal → Deed
 ignored [] app t = t
-ignored (message ∷ rest) app t = record t { link = term_stepped (unapplied t.link.term message) rest t.link; waits = false }
+ignored (message ∷ rest) app t =
+    record t { link = term_stepped (unapplied t.link.term message) rest t.link; waits = false }
 
 abbrev pub ignores : Deed
 ignores app t = ignored t.link.down app t
@@ -232,4 +233,5 @@ pub record KeptRules : Type 0 where
   pub application : IsApplication (example_for Any)
   pub begins : FirstPaint (example_for Any) l1 (agreed_with Any l1)
   pub kept : AreByTheRules (example_for Any) kept_moves (agreed_with Any l1)
-  pub changed : let now = after_moves (example_for Any) kept_moves (agreed_with Any l1) in shown_by now ≢ now.told.screen
+  pub changed : let now = after_moves (example_for Any) kept_moves (agreed_with Any l1) in
+      shown_by now ≢ now.told.screen

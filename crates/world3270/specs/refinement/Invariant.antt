@@ -195,8 +195,8 @@ pub record IsRead (s : LocalState) : Type 0 where
 abbrev pub counts : LocalState → Bool
 counts s = not (may_have_changed s.unheard) || (is_after_pa s.turn_reason || not (is_settled s.shadow))
 
--- Holds while the whole screen is under way to the host, with any AID: if it counts, the host then believes what it hears
--- of it; else the host decides by what it knows.
+-- Holds while the whole screen is under way to the host, with any AID. If it counts, the host then believes what it
+-- hears of it; else the host decides by what it knows.
 pub record IsReported (s : LocalState) (parts : InboundParts) : Type 0 where
   pub lock : s.lock ≡ Wait
   pub turn_reason : IsOccasion s.turn_reason s.screen.aid
