@@ -52,7 +52,7 @@ use Rattle.world3270.proofs.Forms.{awaited}
 use Rattle.world3270.proofs.HeardTurns.{goes_on as heard_goes_on}
 use Rattle.world3270.proofs.HostSteps.{just_talks}
 use Rattle.world3270.proofs.Known.{the_sizes}
-use Rattle.world3270.proofs.Queues.{front, nothing}
+use Rattle.world3270.proofs.Queues.{empty_queue, front, nothing}
 use Rattle.world3270.proofs.SecondKeys.{AddsSecondKeys, IsSecondKey, SaysAlike, alike_silent, alike_talk, is_dropping, pending_after, second_key_dropped, unless_read}
 use Rattle.world3270.proofs.SimulatedHost.{may_note_when, nothing_up}
 use Rattle.world3270.proofs.Simulation.{HeardAlike, Simulated, agrees_now, heard_alike}
@@ -185,10 +185,6 @@ data_only : (turn : Turn) (pending : Pending) (up : List ToHost) → AddsSecondK
 data_only turn pending [] x = tt
 data_only turn pending (message ∷ up) (inl x) = subst (λ (m : ToHost). IsDataOnly (m ∷ up)) (sym x.1.is) (data_only turn pending up x.2)
 data_only turn pending (message ∷ up) (inr x) = absurd (let some = x.1 in cc)
-
-none_queued : (queue vanished : List ToHost) → queue ++ vanished ≡ [] → queue ≡ []
-none_queued [] vanished is = refl
-none_queued (message ∷ queue) vanished is = absurd (cc)
 
 -- ---- what the terminal sends
 
@@ -329,7 +325,7 @@ module _ (given : LowerLaws) (app : Application) (is : IsApplication app) (sizes
       by_moment true differ =
           let differs = differs_at s.told.term.display.model s.kept.wanted s.kept.moment differ in
           let way = s.kept.at.goes_up in
-          let only = only_data (none_queued s.told.up way.vanished (way.whole ∙ differs.none)) in
+          let only = only_data (empty_queue s.told.lost s.told.up (subst (IsInFlight s.told.lost s.told.up) differs.none way)) in
           let paints = paints_now differs in
           subst (λ (painting : Bool). AreSized app z.model painting t.link.host.size (t.link.up ++ sends)) (sym paints)
           (more_before app z.model t.link.host.size t.link.up sends only (subst (λ (painting : Bool). AreSized app z.model painting t.link.host.size t.link.up) paints z.up) sized.before)

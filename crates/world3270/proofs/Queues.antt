@@ -32,6 +32,14 @@ nothing lost queue x rest e h =
     let whole : x ∷ (rest ++ h.vanished) ≡ [] = ap (λ q. q ++ h.vanished) (sym e) ∙ h.whole in
     absurd (cc)
 
+none_queued : {X : Type 0} (queue vanished : List X) → queue ++ vanished ≡ [] → queue ≡ []
+none_queued [] vanished is = refl
+none_queued (message ∷ queue) vanished is = absurd (cc)
+
+-- nor is anything in the queue
+pub empty_queue : {X : Type 0} (lost : Bool) (queue : List X) → IsInFlight lost queue [] → queue ≡ []
+empty_queue lost queue way = none_queued queue way.vanished way.whole
+
 pub not_empty : {X : Type 0} (some : List X) (x : X) (others : List X) → some ++ x ∷ others ≡ [] → ⊥
 not_empty [] x others e = absurd (cc)
 not_empty (first ∷ some) x others e = absurd (cc)

@@ -4,6 +4,7 @@ use Rattle.std.proofs.Common.{◌≡◌, ◌&&◌, ◌||◌, not, Option, None, 
 use Rattle.std.specs.Prelude.{⊤, length}
 use Rattle.std.specs.List.{list_any}
 use Rattle.std.proofs.lemmas.List.Elements.{All-nil}
+use Rattle.std.proofs.lemmas.Result.{IfOk-weaker}
 use Rattle.codes3270.specs.Aid.{is_short_aid}
 use Rattle.codes3270.specs.Size.{ScreenSize, cells_in}
 use Rattle.codes3270.specs.declared.attention.Aid.{Aid}
@@ -95,10 +96,6 @@ returns_answered conn Kind.ANote number command turns pends returns =
 
 -- ---- a key
 
-if_ok : (P Q : Shadow → Type 0) (r : Result Shadow HeardFault) → ((s : Shadow) → P s → Q s) → IfOk r P → IfOk r Q
-if_ok P Q (Ok s) f p = f s p
-if_ok P Q (Err fault) f p = tt
-
 ok_if : (P Q : Shadow → Type 0) (r : Result Shadow HeardFault) → ((s : Shadow) → P s → Q s) → IsOkAnd r P → IfOk r Q
 ok_if P Q (Ok s) f p = f s p
 ok_if P Q (Err fault) f p = absurd p
@@ -114,9 +111,9 @@ key_settles : LowerLaws → (size : ℕ) (shadow : Shadow) (parts : InboundParts
     → IfOk (heard size shadow parts) (λ s. IsSettledFor (turn_reasons.Key aid false) s)
 key_settles given size shadow parts NoAid is form some returns exact = absurd (some refl)
 key_settles given size shadow parts Enter is form some returns exact =
-    if_ok IsSettled (IsSettledFor (turn_reasons.Key Enter false)) (heard size shadow parts) (λ s settled unread. settled) (given.belief.returned_settles size shadow parts form (ap is_short_aid is) returns exact)
+    IfOk-weaker (heard size shadow parts) IsSettled (IsSettledFor (turn_reasons.Key Enter false)) (λ s settled unread. settled) (given.belief.returned_settles size shadow parts form (ap is_short_aid is) returns exact)
 key_settles given size shadow parts (Pf key) is form some returns exact =
-    if_ok IsSettled (IsSettledFor (turn_reasons.Key (Pf key) false)) (heard size shadow parts) (λ s settled unread. settled) (given.belief.returned_settles size shadow parts form (ap is_short_aid is) returns exact)
+    IfOk-weaker (heard size shadow parts) IsSettled (IsSettledFor (turn_reasons.Key (Pf key) false)) (λ s settled unread. settled) (given.belief.returned_settles size shadow parts form (ap is_short_aid is) returns exact)
 key_settles given size shadow parts (Pa key) is form some returns exact = if_any (IsSettledFor (turn_reasons.Key (Pa key) false)) (heard size shadow parts) (λ s unread. absurd (cc))
 key_settles given size shadow parts Clear is form some returns exact =
     ok_if (IsClearedBelief size) (IsSettledFor (turn_reasons.Key Clear false)) (heard size shadow parts) (λ s cleared unread. cleared_settled size s cleared) (given.belief.cleared size shadow parts form is)

@@ -30,17 +30,13 @@ use Rattle.world3270.proofs.Down.{bound, paints_on, read_of, reads_on, shape_of_
 use Rattle.world3270.proofs.Obeys.{obeys}
 use Rattle.world3270.proofs.Keys.{or_false}
 use Rattle.world3270.proofs.NotesHeld.{note_held}
+use Rattle.world3270.proofs.Queues.{empty_queue}
 use Rattle.world3270.proofs.ReadsInput.{reads_input}
 use Rattle.world3270.proofs.Returning.{pa_counts, read_skipped}
 use Rattle.world3270.proofs.SecondKeys.{Says, SaysAlike, alike_silent, same_last}
 use Rattle.world3270.proofs.Simulation.{Simulated, agrees_now, both_say, since_same}
 use Rattle.world3270.proofs.StillKept.{still_as_left, still_kept}
 use Rattle.world3270.proofs.Up.{skipped_when}
-
--- nothing in the queue, where nothing is under way
-no_front : (queue vanished : List ToHost) → queue ++ vanished ≡ [] → queue ≡ []
-no_front [] vanished none = refl
-no_front (message ∷ queue) vanished none = absurd (cc)
 
 module _ (given : LowerLaws) (app : Application) (is : IsApplication app) (lu : List ℕ) (t : LinkWithReport) (s : Simulated app lu t) where
   abbrev end : Link
@@ -263,7 +259,7 @@ module _ (given : LowerLaws) (app : Application) (is : IsApplication app) (lu : 
           said = s.simulates.up.said
 
           silent : end.up ≡ []
-          silent = no_front end.up comes.at.goes_up.vanished comes.at.goes_up.whole
+          silent = empty_queue end.lost end.up comes.at.goes_up
 
           skips : is_read_believed end.host ≡ false
           skips = read_skipped given end.host comes.number comes.at.turn comes.at.pending s.any (counts_by ∙ no_pa) s.returning

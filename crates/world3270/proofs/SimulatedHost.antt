@@ -1,5 +1,5 @@
 -- What the host hears, and what it sends: it can't tell the terminal from the waiting one.
-use Rattle.std.proofs.Common.{◌≡◌, inl, inr, ◌&&◌, Bool, true, false, ℕ, Option, None, Some, List, [], ◌∷◌, ◌++◌, refl, ap, sym, subst, ◌∙◌, if◌then◌else◌}
+use Rattle.std.proofs.Common.{◌≡◌, inl, inr, ◌&&◌, Bool, true, false, ℕ, Option, None, Some, List, [], ◌∷◌, refl, ap, sym, subst, ◌∙◌, if◌then◌else◌}
 use Rattle.std.specs.Option.{option_and_then}
 use Rattle.tn3270e_msg.specs.declared.cause.Cause.{Cause}
 use Rattle.lu_pool.specs.Asking.{answer_to}
@@ -25,7 +25,7 @@ use Rattle.world3270.proofs.Acting.{acts, answers_are_shown, asking_parts, loses
 use Rattle.world3270.proofs.Noting.{notes}
 use Rattle.world3270.proofs.HeardTurns.{goes_on}
 use Rattle.world3270.proofs.HostSteps.{act_changed, just_talks, still_changed}
-use Rattle.world3270.proofs.Queues.{nothing_sent}
+use Rattle.world3270.proofs.Queues.{empty_queue, nothing_sent}
 use Rattle.world3270.proofs.Returning.{HostReturns, returns_acted, returns_heard, returns_noted}
 use Rattle.world3270.proofs.SecondKeys.{AddsSecondKeys, IsSecondKey, SaysAlike, alike_silent, alike_unread, is_dropping, noted_extras, only_extras, pending_after, second_key_dropped, turn_after}
 use Rattle.world3270.proofs.Simulation.{HeardAlike, Simulated, agrees_now, heard_alike, still_simulated}
@@ -93,11 +93,7 @@ pub nothing_up : (app : Application) (link : Link) → ConnectionInvariant app (
 nothing_up app link k agrees turns pends = by_moment k.moment k.at
   where
     silent : IsInFlight link.lost link.up [] → link.up ≡ []
-    silent way = no_front link.up way.vanished way.whole
-      where
-        no_front : (queue vanished : List ToHost) → queue ++ vanished ≡ [] → queue ≡ []
-        no_front [] vanished is = refl
-        no_front (message ∷ queue) vanished is = absurd (cc)
+    silent way = empty_queue link.lost link.up way
 
     by_talk : (talking : NegotiationPhase) → IsAt (view_of link) k.wanted (LinkPhase.Negotiating talking) → (lu : List ℕ) × (talking ≡ NegotiationPhase.Agreeing lu) → link.up ≡ []
     by_talk talking at is = silent (subst (λ (t : NegotiationPhase). IsAt (view_of link) k.wanted (LinkPhase.Negotiating t)) is.1 at).goes_up
