@@ -307,7 +307,7 @@ def put(mistake: Mistake, crate: str, room: pathlib.Path) -> bool:
 
 
 def put_answers(mistake: Mistake, crate: str, function: str, room: pathlib.Path) -> None:
-    """Leaves out the answers of a function that has a mistake in a copy, or puts the refutation of a
+    """Leaves out the answers of a function with a mistake in a copy, or puts the refutation of a
     goal in their place, if the page says so."""
     answers = room / proofs_of(function) / "Answers.antt"
     if mistake.is_without_answers:
