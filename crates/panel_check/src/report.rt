@@ -2,7 +2,7 @@
 ghost use Rattle.std.specs.Prelude.{◌≡◌, ◌++◌, IfOk, OnOk, string_bytes};
 ghost use Rattle.std.specs.List.{flat_map};
 ghost use Rattle.panel_check.specs.Page.{finding_line, report_text, verdict_text, warnings_text};
-ghost use Rattle.panel_check.specs.Report.{HasFirstCause, IsFaultlessIfAccepted, ReportsFaults, fault_count, is_fault};
+ghost use Rattle.panel_check.specs.Report.{AreInOrder, HasFirstCause, IsFaultlessIfAccepted, ReportsFaults, fault_count, is_fault};
 ghost use Rattle.panels.specs.PanelText.{panel_text};
 
 use crate::telling::report_on;
@@ -103,6 +103,7 @@ pub fn check(alloc: Global, text: &str) -> Result<Report, AllocError>
     ensures faults { IfOk result (λ report. ReportsFaults (panel_text text.now) report.findings.items) }
     ensures faultless { IfOk result (λ report. IsFaultlessIfAccepted (panel_text text.now) report.findings.items) }
     ensures reason { IfOk result (λ report. HasFirstCause (panel_text text.now) report.findings.items) }
+    ensures order { IfOk result (λ report. AreInOrder report.findings.items) }
 {
     let (text, _) = split_input(text);
     report_on(alloc, text)
