@@ -158,6 +158,24 @@ def an_origin_is_served() -> None:
 
 
 @check
+def an_origin_has_its_port() -> None:
+    """The port of --origin is a part of it, but for the scheme's default one (RFC 6454, section
+    6.2)."""
+    host = ORIGIN.partition("://")[2]
+    with Web("--origin", f"{ORIGIN}:8443") as web:
+        fields = {"Host": f"{host}:8443", "Origin": f"{ORIGIN}:8443"}
+        expect("its host", requested(web.port, get(web.port, Host=fields["Host"]))[0], 200)
+        web.page(**fields).close()
+        expect("the host alone", requested(web.port, get(web.port, Host=host))[0], 403)
+        for origin in (ORIGIN, f"{ORIGIN}:443", f"{ORIGIN}:8444"):
+            other = handshake(web.port, **{**fields, "Origin": origin})
+            expect(origin, requested(web.port, other)[0], 403)
+    with Web("--origin", f"{ORIGIN}:443") as web:
+        expect("the default port", requested(web.port, get(web.port, Host=host))[0], 200)
+        web.page(Host=host, Origin=ORIGIN).close()
+
+
+@check
 def wrong_words_are_refused() -> None:
     """Words that name no host, origin or number of sessions end with status 2."""
     for words, line in {

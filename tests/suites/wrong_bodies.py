@@ -26,15 +26,25 @@ each other function of the crate is cut: it has its contract, a body that calls 
 proof. What isn't refused then is tried again in the crate as it is. The function that stays has to
 be one that calls no other of its crate.
 
+Where the clause needs answers, a page may refute a goal of the wrong body. It proves ⊥ from `c`,
+which is all that is known there, and `claim`, which is what the goal says of it; or it does so in
+some calls, in which a further fact `here` about `c` holds. A reader has to see that a call comes
+there, with that fact. The suite writes the refutation in place of the function's answers, and the
+goal as a hole; it counts if nothing else in that file is refused or has a hole.
+
 `tests/run -k "wrong_bodies CRATE WORD .."` tries those of a crate whose headings have these words.
 A page has a line `    stays: FUNCTION`, and for each mistake a heading, a line
 `    function: FUNCTION`, and pairs
 `    old: TEXT`, `    new: TEXT` behind a line `    file: src/FILE`: each TEXT is one line or a part
-                      of it, and the old one stands in that file once. FUNCTION
-is a path below the crate. A line `    beside: the others` says of a mistake in a constant that no
-                                       function reads it but its own; for `    answers: none` see
-                                       above. A line `    one of: the classic mistakes` marks those
-                                       that docs/TESTING.md lists, which the suite forms compares.
+                      of it, and the old one stands once in the function, or else in that file.
+FUNCTION is a path below the crate. A refutation is
+`    refutes: GOAL`,
+`    by: TERM`        a term of type ⊥ over `c`, `here` and `claim`, on one line or several,
+`    if: FACT`        the fact `here`, if there is one, and
+`    with: LINE`      for each line of imports and lemmas above it.
+A line `    beside: the others` says of a mistake in a constant that no function reads it but its
+own; for `    answers: none` see above. A line `    one of: the classic mistakes` marks those that
+docs/TESTING.md lists, which the suite forms compares.
 
 It checks over the libraries in crates/*/out, which `rt ci` builds. A crate's page is tried in one
 process.
@@ -67,6 +77,48 @@ FUNCTION = re.compile(
     re.MULTILINE,
 )
 
+# The refutation of a goal: `C` is what is known there, `P` what the goal says, `Q` a further fact.
+REFUTATION = """
+use Rattle.{module}.Goals as goal
+{lines}
+
+Refuted : Type 0 → Type 1
+Refuted goal =
+    (C : Type 0) × (P : C → Type 0) × (goal → (c : C) → P c) × (Q : C → Type 0)
+    × ((c : C) → Q c → P c → ⊥)
+
+refuted : Refuted goal.{goal}
+unfolding Refuted
+refuted = (_, _, (λ the_goal. the_goal), (λ c. {fact}), λ c here claim. {reason})
+
+pub {goal} : goal.{goal}
+{goal} c = ?
+"""
+
+
+@dataclass
+class Refutation:
+    """The refutation of a goal: the goal, a fact about some of the calls that come there, the lines
+    above it, and those of its term."""
+
+    goal: str
+    fact: str = "Unit {0}"
+    lines: list[str] = field(default_factory=list)
+    reason: list[str] = field(default_factory=list)
+
+    def is_of_contract(self) -> bool:
+        return Goal(self.goal, "", is_false=True).is_of_contract()
+
+    def text(self, crate: str, function: str) -> str:
+        """What is written in place of the answers of a function."""
+        return REFUTATION.format(
+            module=f"{crate}.{proofs_of(function).replace('/', '.')}",
+            lines="\n".join(self.lines),
+            goal=self.goal,
+            fact=self.fact,
+            reason="\n    ".join(self.reason),
+        )
+
 
 @dataclass
 class Mistake:
@@ -79,6 +131,7 @@ class Mistake:
     is_beside: bool = False
     is_without_answers: bool = False
     is_classic: bool = False
+    refutation: Refutation | None = None
 
     def is_apart(self, crate: str) -> bool:
         """Whether it changes nothing in its function, but what functions share."""
@@ -93,10 +146,10 @@ class Mistake:
 
 
 def stands_in(text: str, part: str, function: str) -> bool:
-    """Whether a part of a source stands in a function: whether the last one that begins in front of
-    it is that one."""
+    """Whether a part of a source stands in a function: in its text, or, if that isn't found, behind
+    its head, and no other one's."""
     heads = re.findall(r"\bfn (\w+)", text.partition(part)[0])
-    return heads[-1:] == [function.rpartition("::")[2]]
+    return part in text_of(function, text) or heads[-1:] == [function.rpartition("::")[2]]
 
 
 @dataclass
@@ -140,20 +193,28 @@ class Goal:
 
 @dataclass
 class Verdict:
-    """What a check said of a function: its last word, the goals that it left open, and the written
-    answers that didn't fit."""
+    """What a check said of a function: its last word, the goals that it left open, the written
+    answers that didn't fit, and those that have holes."""
 
     word: str
     goals: list[Goal] = field(default_factory=list)
     unfit: list[str] = field(default_factory=list)
+    holes: list[str] = field(default_factory=list)
 
-    def evidence(self, answered: list[str]) -> Goal | None:
-        """A goal that shows that the body breaks the contract."""
-        is_open = re.match(r"not proved|no proof|could not tell", self.word) is not None
-        return next((it for it in self.goals if is_open and it.is_evidence(answered)), None)
+    def is_refusal(self, mistake: Mistake, crate: str) -> bool:
+        """Whether it shows that the body breaks the contract."""
+        if not re.match(r"not proved|no proof|could not tell", self.word):
+            return False
+        if mistake.refutation:
+            return not self.unfit and self.holes == [mistake.refutation.goal]
+        return any(it.is_evidence(answered(crate, mistake.function)) for it in self.goals)
 
     def is_proved(self) -> bool:
         return self.word == "proved"
+
+    def is_settled(self) -> bool:
+        """Whether another check says no more: it is proved, or there is something that is named."""
+        return bool(self.is_proved() or self.goals or self.unfit or self.holes)
 
     def without_evidence(self) -> str:
         """What it names, where none of that is evidence."""
@@ -164,6 +225,14 @@ class Verdict:
             return self.word
         word = self.word.partition(";")[0]
         return f"{word}, but no goal of its contract shows that: {', '.join(named)}"
+
+
+def refutation_of(page: Page) -> Refutation:
+    """The refutation of a page's last mistake, to which a line belongs."""
+    refutation = page.mistakes[-1].refutation if page.mistakes else None
+    if not refutation:
+        raise BadCase("the page refutes no goal there", Place(f"crates/{page.crate}/{PAGE}", 1))
+    return refutation
 
 
 def page_of(crate: str) -> Page:
@@ -185,13 +254,26 @@ def page_of(crate: str) -> Page:
             page.mistakes[-1].is_without_answers = True
         elif key == "one of":
             page.mistakes[-1].is_classic = True
+        elif key == "refutes":
+            page.mistakes[-1].refutation = Refutation(text)
+        elif key == "if":
+            refutation_of(page).fact = text
+        elif key in ("with", "with:"):
+            refutation_of(page).lines.append(text)
+        elif key == "by":
+            refutation_of(page).reason.append(text)
         elif key == "file":
             file = text
         elif key == "old":
             old = text
         elif key in ("new", "new:"):
             page.mistakes[-1].changes.append((file, old, text))
-    lacking = [it.title for it in page.mistakes if not it.function or not it.changes]
+    lacking = [
+        it.title
+        for it in page.mistakes
+        if not (it.function and it.changes)
+        or (it.refutation and not (it.refutation.is_of_contract() and it.refutation.reason))
+    ]
     if lacking or page.stays in ["", *[it.function for it in page.mistakes]] or not page.mistakes:
         raise BadCase(
             f"{', '.join(lacking) or 'the page'} lacks a line", Place(f"crates/{crate}/{PAGE}", 1)
@@ -199,19 +281,40 @@ def page_of(crate: str) -> Page:
     return page
 
 
-def put(mistake: Mistake, room: pathlib.Path) -> bool:
+def changed(text: str, function: str, old: str, new: str) -> str | None:
+    """A source with a change in a function, or else outside of it; None if the old text isn't there
+    once."""
+    own = text_of(function, text)
+    part = own if old in own else text
+    if part.count(old) != 1 or old == new:
+        return None
+    return text.replace(part, part.replace(old, new))
+
+
+def put(mistake: Mistake, crate: str, room: pathlib.Path) -> bool:
     """Puts a mistake into a copy, if all that it changes is still there."""
     texts: dict[str, str] = {}
     for file, old, new in mistake.changes:
         text = texts.get(file) or (room / file).read_text(encoding="utf-8")
-        if text.count(old) != 1 or old == new:
+        after = changed(text, mistake.function, old, new)
+        if after is None:
             return False
-        texts[file] = text.replace(old, new)
+        texts[file] = after
     for file, text in texts.items():
         (room / file).write_text(text, encoding="utf-8")
-    if mistake.is_without_answers:
-        (room / proofs_of(mistake.function) / "Answers.antt").unlink(missing_ok=True)
+    put_answers(mistake, crate, mistake.function, room)
     return True
+
+
+def put_answers(mistake: Mistake, crate: str, function: str, room: pathlib.Path) -> None:
+    """Leaves out the answers of a function with a mistake in a copy, or puts the refutation of a
+    goal in their place, if the page says so."""
+    answers = room / proofs_of(function) / "Answers.antt"
+    if mistake.is_without_answers:
+        answers.unlink(missing_ok=True)
+    if mistake.refutation:
+        answers.parent.mkdir(parents=True, exist_ok=True)
+        answers.write_text(mistake.refutation.text(crate, function), encoding="utf-8")
 
 
 def proofs_of(function: str) -> str:
@@ -259,13 +362,13 @@ def put_beside(mistake: Mistake, crate: str, room: pathlib.Path, again: str) -> 
     first = text_of(mistake.function, text)
     (room / file).write_text(text.replace(first, f"{first}\n{second}"), encoding="utf-8")
     if (own / written).is_dir():
-        left_out = shutil.ignore_patterns("Answers.antt") if mistake.is_without_answers else None
-        shutil.copytree(own / written, room / f"{written}{again}", ignore=left_out)
+        shutil.copytree(own / written, room / f"{written}{again}")
         for it in (room / f"{written}{again}").iterdir():
             its = re.sub(
                 rf"\.{name}\.(Goals|Given)\b", rf".{name}{again}.\1", it.read_text(encoding="utf-8")
             )
             it.write_text(its, encoding="utf-8")
+    put_answers(mistake, crate, mistake.function + again, room)
     return True
 
 
@@ -360,13 +463,16 @@ def check_words(crate: str, functions: list[str]) -> list[str]:
 def verdicts(crate: str, said: str) -> dict[str, Verdict]:
     """What a check said, by function. The goals that it left open stand in front of a function's
     last word; what is wrong with answers that were written comes before all of these."""
-    found, unfit, goals = {}, defaultdict(list), []
+    found, unfit, holes, goals = {}, defaultdict(list), defaultdict(list), []
     for line in said.splitlines():
-        answer = re.match(r"\./proofs/(\S+)/\w+\.antt:\d+:\d+: error: `([^`]*)`", line)
+        answer = re.match(r"\./proofs/(\S+)/\w+\.antt:\d+:\d+: error: (?:`([^`]*)`|(.*))", line)
+        hole = re.match(r"\./proofs/(\S+)/\w+\.antt:\d+:\d+: `([^`]*)` is not admitted", line)
         note = re.match(r"note: src/\S+: it is not proved that (.*) \(`([^`]*)`\)(; .*)?$", line)
         word = re.match(rf"fn {crate}::(\S+): (.*)", line)
         if answer:
-            unfit[answer[1].replace("/", "::")].append(answer[2])
+            unfit[answer[1].replace("/", "::")].append(answer[2] or answer[3])
+        elif hole:
+            holes[hole[1].replace("/", "::")].append(hole[2])
         elif note:
             goals.append(
                 Goal(
@@ -374,7 +480,8 @@ def verdicts(crate: str, said: str) -> dict[str, Verdict]:
                 )
             )
         elif word:
-            found[word[1]], goals = Verdict(word[2], goals, unfit[word[1]]), []
+            found[word[1]] = Verdict(word[2], goals, unfit[word[1]], holes[word[1]])
+            goals = []
     return found
 
 
@@ -415,7 +522,11 @@ def tried(
         if together and any(it.is_apart(page.crate) for it in [mistake, *together.values()]):
             continue
         again = AGAIN * sum(it.function == mistake.function for it in together.values())
-        if put_beside(mistake, page.crate, room, again) if again else put(mistake, room):
+        if (
+            put_beside(mistake, page.crate, room, again)
+            if again
+            else put(mistake, page.crate, room)
+        ):
             together[mistake.function + again] = mistake
     if is_cut:
         cut_others({page.stays, *together}, room)
@@ -447,9 +558,9 @@ def faults_in(page: Page, room: pathlib.Path) -> dict[Place, str]:
         settled = []
         for function, mistake in together.items():
             verdict = said.get(function, Verdict("it wasn't checked"))
-            if verdict.evidence(answered(page.crate, mistake.function)):
+            if verdict.is_refusal(mistake, page.crate):
                 settled.append(mistake)
-            elif verdict.is_proved() or verdict.goals or verdict.unfit or at_once:
+            elif verdict.is_settled() or at_once:
                 faults[mistake.at] = f"{mistake.function}: {verdict.without_evidence()}"
                 settled.append(mistake)
         left = [it for it in left if it not in settled]

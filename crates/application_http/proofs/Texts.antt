@@ -52,10 +52,10 @@ texts_plain all [] ms p = p
 texts_plain all (field ∷ fields) ms p =
     texts_plain all fields (with_field all field ms) (named_plain all field (copy_name (string_bytes field.name)) ms p)
 
-client_plain : (client : Option (List ℕ)) (members : Members) → members_have_float members ≡ false
-    → members_have_float (with_client client members) ≡ false
-client_plain None members p = p
-client_plain (Some client) members p = put_plain (codes "client") (string client) members refl p
+client_plain : (client : Option (List ℕ)) (ms : Members) → members_have_float ms ≡ false
+    → members_have_float (with_client client ms) ≡ false
+client_plain None ms p = p
+client_plain (Some client) ms p = put_plain (codes "client") (string client) ms refl p
 
 pub question_plain : (request : Request) → has_float (question_data request) ≡ false
 question_plain request =

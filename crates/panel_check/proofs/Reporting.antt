@@ -25,7 +25,7 @@ use Rattle.panel_check.specs.declared.report.Cause.TheVariants as cause
 use Rattle.panel_check.specs.declared.report.Finding.{Finding}
 use Rattle.panel_check.specs.Causes.{IsFaultIn, IsFaultOf, IsOfText, IsStated, IsStatedFaultIn, IsStatedFaultOf, in_table}
 use Rattle.panel_check.specs.Listed.{AddsOf, AreCausesOf, AreReported, cause_of, causes_of, warnings}
-use Rattle.panel_check.specs.Report.{HasCause, IsReportOn, fault_count, is_fault}
+use Rattle.panel_check.specs.Report.{AreInOrder, HasCause, IsReportOn, fault_count, is_fault}
 use Rattle.panel_check.specs.Verdict.{IsAccepted, IsFirstCause, IsFirstIn}
 
 -- ---- finding by finding
@@ -414,11 +414,12 @@ module _ (text : List ℕ) (top : Members) (parsed : parse_document text ≡ Som
     lus_right = are_right (map lu_of (draft_of top).lus) (λ fault is. nothing_in none (cause.Lus fault) is);
   }
 
-  pub report_is : IsReportOn text all
-  report_is = record {
+  pub report_is : AreInOrder all → IsReportOn text all
+  report_is ordered = record {
     faults = record { each = reports_stated; nothing_else = backed };
     faultless = (accepts, λ accepted. none_counted all (λ k d below. is_clean (IsFaultOf text) (accepted_has_none text accepted) _ _ refl (backed k d below)));
     reason = has_first;
+    ordered = ordered;
   }
 
 -- ---- the report on a text that isn't TOML
@@ -438,6 +439,9 @@ module _ (text : List ℕ) (none : parse_document text ≡ None) (finding : Find
   only_this IsIn cause.FillNotNumeric (top, given, read, at, more) = absurd (no_tree top read)
   only_this IsIn cause.NoKeyLeads (top, given, read, at, more) = absurd (no_tree top read)
 
+  one_in_order : AreInOrder (finding ∷ [])
+  one_in_order i j d up below = let (first, same) : (i ≡ 0) × (j ≡ 0) = (omega (arith, up, below), omega (arith, below)) in rw (first, same) (omega arith)
+
   pub no_toml_is : IsReportOn text (finding ∷ [])
   no_toml_is = record {
     faults = record {
@@ -446,6 +450,7 @@ module _ (text : List ℕ) (none : parse_document text ≡ None) (finding : Find
     };
     faultless = (λ count. absurd (some_counted (finding ∷ []) cause.NotToml refl has_it count), λ accepted. absurd (no_tree accepted.top accepted.parsed));
     reason = only_this IsFirstIn;
+    ordered = one_in_order;
   }
 
 pub no_toml_pushed : (text : List ℕ) (before all : List Finding) (finding : Finding) → all ≡ before ++ finding ∷ [] → before ≡ [] → finding.cause ≡ cause.NotToml → parse_document text ≡ None → IsReportOn text all

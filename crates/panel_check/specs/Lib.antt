@@ -1,4 +1,5 @@
 pub mod Causes
 pub mod Verdict
 pub mod Report
+pub mod Page
 pub mod Listed

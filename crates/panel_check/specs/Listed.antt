@@ -10,7 +10,7 @@ use Rattle.panel_check.specs.declared.report.Cause.{Cause}
 use Rattle.panel_check.specs.declared.report.Cause.TheVariants as cause
 use Rattle.panel_check.specs.declared.report.Finding.{Finding}
 use Rattle.panel_check.specs.Causes.{IsStated, in_table}
-use Rattle.panel_check.specs.Report.{HasCause, is_fault}
+use Rattle.panel_check.specs.Report.{AreInOrder, HasCause, is_fault}
 
 -- the cause for a fault of a part of the draft
 abbrev pub cause_of : LocatedFault → Cause
@@ -44,7 +44,7 @@ pub record AreReported (n : ℕ) (draft : DraftText) (causes : List Cause) (find
   pub nothing_else : All (λ finding. (fault : Cause) × Contains causes fault × (finding.cause ≡ in_table draft fault))
       findings
 
--- the findings for all causes of the draft, in some order
+-- the findings for all causes of the draft, in the order of their lines
 abbrev pub AreFindingsOf : DraftText → List Finding → Type 0
 AreFindingsOf draft findings = (causes : List Cause) × (reported : List Finding) × AreCausesOf draft causes
-    × AreReported (length causes) draft causes reported × IsPermutation reported findings
+    × AreReported (length causes) draft causes reported × IsPermutation reported findings × AreInOrder findings

@@ -1,5 +1,6 @@
 -- The report on a panel text (our profile).
 use Rattle.std.specs.Prelude.{◌≡◌, ◌↔◌, ℕ, List, Bool, true, false, length, filter, All, Contains}
+use Rattle.std.specs.List.Sorted.{IsNonDecreasingBy}
 use Rattle.panel_check.specs.declared.report.Cause.{Cause}
 use Rattle.panel_check.specs.declared.report.Cause.TheVariants as cause
 use Rattle.panel_check.specs.declared.report.Finding.{Finding}
@@ -32,7 +33,12 @@ IsFaultlessIfAccepted text findings = (fault_count findings ≡ 0) ↔ IsAccepte
 abbrev pub HasFirstCause : List ℕ → List Finding → Type 0
 HasFirstCause text findings = (cause : Cause) → IsFirstCause text cause → HasCause cause findings
 
+-- holds if the findings are in the order of their lines
+abbrev pub AreInOrder : List Finding → Type 0
+AreInOrder findings = IsNonDecreasingBy (λ finding. finding.line) findings
+
 pub record IsReportOn (text : List ℕ) (findings : List Finding) : Type 0 where
   pub faults : ReportsFaults text findings
   pub faultless : IsFaultlessIfAccepted text findings
   pub reason : HasFirstCause text findings
+  pub ordered : AreInOrder findings

@@ -11,7 +11,8 @@
 //! ```
 //!
 //! `panels::Draft` lists the faults of a text's tables, `lu_pool::faults` those of its LUs; this crate finds words and
-//! lines. `specs/Report`: a report has each of these faults, and no other. Words, lines and warnings are only tested.
+//! lines. `specs/Report`: a report has each of these faults, and no other; `specs/Page`: how it is printed. Words, lines
+//! and warnings are only tested.
 #![tactic(auto)]
 
 mod lines;

@@ -1,6 +1,8 @@
 //! The report on a panel text, and its findings: faults and warnings.
-ghost use Rattle.std.specs.Prelude.{◌≡◌, IfOk};
-ghost use Rattle.panel_check.specs.Report.{HasFirstCause, IsFaultlessIfAccepted, ReportsFaults, fault_count, is_fault};
+ghost use Rattle.std.specs.Prelude.{◌≡◌, ◌++◌, IfOk, OnOk, string_bytes};
+ghost use Rattle.std.specs.List.{flat_map};
+ghost use Rattle.panel_check.specs.Page.{finding_line, report_text, verdict_text, warnings_text};
+ghost use Rattle.panel_check.specs.Report.{AreInOrder, HasFirstCause, IsFaultlessIfAccepted, ReportsFaults, fault_count, is_fault};
 ghost use Rattle.panels.specs.PanelText.{panel_text};
 
 use crate::telling::report_on;
@@ -50,6 +52,11 @@ pub struct Finding {
 }
 
 impl fmt::Display for Finding {
+    ghost use Rattle.std.specs.Prelude.{Some};
+    ghost use Rattle.panel_check.specs.Page.{finding_text};
+
+    ghost output = { λ finding. Some (finding_text finding) };
+
     fn fmt<W: fmt::Write>(&self, f: &mut fmt::Formatter<W>) -> fmt::Result {
         let is_fault = self.cause.is_fault();
         let kind = if is_fault { "" } else { "warning: " };
@@ -96,6 +103,7 @@ pub fn check(alloc: Global, text: &str) -> Result<Report, AllocError>
     ensures faults { IfOk result (λ report. ReportsFaults (panel_text text.now) report.findings.items) }
     ensures faultless { IfOk result (λ report. IsFaultlessIfAccepted (panel_text text.now) report.findings.items) }
     ensures reason { IfOk result (λ report. HasFirstCause (panel_text text.now) report.findings.items) }
+    ensures order { IfOk result (λ report. AreInOrder report.findings.items) }
 {
     let (text, _) = split_input(text);
     report_on(alloc, text)
@@ -106,10 +114,49 @@ pub fn check(alloc: Global, text: &str) -> Result<Report, AllocError>
 struct Count(usize, &'static str);
 
 impl fmt::Display for Count {
+    ghost use Rattle.std.specs.Prelude.{Some};
+    ghost use Rattle.panel_check.specs.Page.{counted};
+
+    ghost output = { λ count. Some (counted count.0 count.1.now) };
+
     fn fmt<W: fmt::Write>(&self, f: &mut fmt::Formatter<W>) -> fmt::Result {
         let ending = if self.0 == 1 { "" } else { "s" };
         write!(f, "{} {}{ending}", self.0, self.1)
     }
+}
+
+/// Adds a line for each of these findings, which begins with the file's `name`.
+fn put_findings(page: &mut String, name: &str, findings: &[Finding]) -> Result<(), AllocError>
+    ensures { OnOk result
+        (string_bytes page.new ≡ string_bytes page.old ++ flat_map (finding_line name.now) findings.now) }
+{
+    for finding in findings {
+        writeln!(page, "{name}:{finding}")?;
+    }
+    Ok(())
+}
+
+/// Adds the sizes of a text without a fault, or else the number of faults.
+fn put_verdict(page: &mut String, sizes: Option<Sizes>, faults: usize) -> Result<(), AllocError>
+    ensures { OnOk result (string_bytes page.new ≡ string_bytes page.old ++ verdict_text sizes faults) }
+{
+    match sizes {
+        Some(sizes) if faults == 0 => {
+            let (panels, fields) = (Count(sizes.panels, "panel"), Count(sizes.fields, "field"));
+            write!(page, "ok: {panels}, {fields}, {}", Count(sizes.lus, "LU"))
+        }
+        _ => write!(page, "{}", Count(faults, "fault")),
+    }
+}
+
+/// Adds the number of warnings, if there are any.
+fn put_warnings(page: &mut String, warnings: usize) -> Result<(), AllocError>
+    ensures { OnOk result (string_bytes page.new ≡ string_bytes page.old ++ warnings_text warnings) }
+{
+    if warnings == 0 {
+        return Ok(());
+    }
+    write!(page, ", {}", Count(warnings, "warning"))
 }
 
 impl Report {
@@ -123,23 +170,15 @@ impl Report {
 
     /// The report as text: a line for each finding, which begins with the file's `name`, and a line with the totals.
     /// Err only if memory is refused.
-    pub fn page(&self, alloc: Global, name: &str) -> Result<String, AllocError> {
+    pub fn page(&self, alloc: Global, name: &str) -> Result<String, AllocError>
+        ensures { IfOk result (λ page. string_bytes page ≡ report_text name.now self.now) }
+    {
         let mut page = String::new(alloc);
-        for finding in &self.findings {
-            writeln!(page, "{name}:{finding}")?;
-        }
+        put_findings(&mut page, name, &self.findings)?;
         let faults = self.faults();
-        match self.sizes {
-            Some(sizes) if faults == 0 => {
-                let (panels, fields) = (Count(sizes.panels, "panel"), Count(sizes.fields, "field"));
-                write!(page, "ok: {panels}, {fields}, {}", Count(sizes.lus, "LU"))?;
-            }
-            _ => write!(page, "{}", Count(faults, "fault"))?,
-        }
-        match self.findings.len().saturating_sub(faults) {
-            0 => page.push('\n')?,
-            warnings => writeln!(page, ", {}", Count(warnings, "warning"))?,
-        }
+        put_verdict(&mut page, self.sizes, faults)?;
+        put_warnings(&mut page, self.findings.len().saturating_sub(faults))?;
+        page.push('\n')?;
         Ok(page)
     }
 }

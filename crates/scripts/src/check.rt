@@ -7,7 +7,7 @@ use std::alloc::Global;
 
 /// Prints the report on the panel text of an input with this name. Answers whether the text has no fault.
 fn print_report<O: Sink>(alloc: Global, name: &str, input: &str, out: &mut O) -> Result<bool, Fault>
-    ensures { EndsReporting result input.now (O.seen out.old) (O.seen out.new) }
+    ensures { EndsReporting result name.now input.now (O.seen out.old) (O.seen out.new) }
 {
     let report = panel_check::check(alloc, input)?;
     let page = report.page(alloc, name)?;
@@ -24,8 +24,8 @@ fn read_and_report<I: Source, O: Sink>(
     input: &mut I,
     out: &mut O,
 ) -> Result<bool, Fault>
-    ensures { HasCheckCause (InPieces I.gave input.old input.new) result (I.seen input.old) (I.seen input.new)
-        (O.seen out.old) (O.seen out.new) }
+    ensures { HasCheckCause (InPieces I.gave input.old input.new) result name.now (I.seen input.old)
+        (I.seen input.new) (O.seen out.old) (O.seen out.new) }
 {
     match read_whole(alloc, input) {
         Ok(text) => print_report(alloc, name, text.as_str(), out),
@@ -47,7 +47,7 @@ pub fn run_check<I: Source, O: Sink, E: Sink>(
     out: &mut O,
     faults: &mut E,
 ) -> u8
-    ensures { IsCheckEnd (InPieces I.gave input.old input.new) (I.seen input.old) (I.seen input.new)
+    ensures { IsCheckEnd (InPieces I.gave input.old input.new) name.now (I.seen input.old) (I.seen input.new)
         (O.seen out.old) (O.seen out.new) (E.seen faults.old) (E.seen faults.new) result }
 {
     match read_and_report(alloc, name, input, out) {

@@ -1,4 +1,6 @@
-use Rattle.std.proofs.Common.{length, sym, subst, arith}
+use Rattle.std.proofs.Common.{length, sym, subst, arith, rules}
+use Rattle.std.proofs.lemmas.List.Sorted.{IsNonDecreasingBy-from_sort_by_key}
+use Rattle.panel_check.specs.declared.report.Finding.{Finding}
 use Rattle.panel_check.specs.Listed.{AreReported}
 use Rattle.panel_check.proofs.Reporting.{all_reported, none_reported, reported_next}
 use Rattle.panel_check.proofs.telling.report_in.Goals as goal
@@ -24,4 +26,5 @@ returns c =
       c.in_ok-causes.ensures,
       subst (λ causes. AreReported (length causes) c.args.draft.now causes found) c.deref-cause-items.ensures.value reported,
       c.in_ok-sort_by_key.ensures.permutation,
+      IsNonDecreasingBy-from_sort_by_key (λ (finding : Finding). finding.line) c.sort_by_key.new.self.items c.in_ok-sort_by_key.ensures.sorted (λ a r q k. search rules),
     )
