@@ -121,10 +121,9 @@ class Sight:
 
     @staticmethod
     def of(rows, cursor, looks=None):
-        """What is drawn: the last row is the status row."""
-        last = rows[ROWS].ljust(COLUMNS)
+        """What is drawn. The last row is the status row, which can be over the screen's last one."""
+        *rows, last = [it[:COLUMNS].ljust(COLUMNS) for it in rows[: ROWS + 1]]
         status = [last[:16], last[16:29], last[32], last[40:55], last[72:79]]
-        rows = [it[:COLUMNS].ljust(COLUMNS) for it in rows[:ROWS]]
         return Sight(rows, tuple(cursor), [it.strip() for it in status], looks)
 
     def differences(self, wanted):
@@ -132,12 +131,12 @@ class Sight:
         found = []
         for what in ("rows", "looks", "cursor", "status"):
             one, other = getattr(wanted, what), getattr(self, what)
-            if None in (one, other) or one == other:
+            if None in (one, other):
                 continue
+            pairs = [(what, one, other)]
             if what in ("rows", "looks"):
-                row = next(row for row in range(ROWS) if one[row] != other[row])
-                what, one, other = f"{what}: row {row + 1}", one[row], other[row]
-            found.append((f"{what}: {one}", f"{what}: {other}"))
+                pairs = [(f"{what}: row {row}", *it) for row, it in enumerate(zip(one, other), 1)]
+            found += [(f"{it}: {one}", f"{it}: {other}") for it, one, other in pairs if one != other]
         return found
 
 
@@ -145,7 +144,8 @@ class AtTty:
     """An operator at bin/operate."""
 
     name, most_sent, keeps_screens = "operate", 3, True
-    sizes = ((25, 80), (30, 100), (43, 80), (25, 132), (60, 200), (20, 80), (10, 30))
+    # With 24 rows there is none for the status row. Some are too small.
+    sizes = ((25, 80), (24, 80), (24, 132), (43, 80), (60, 200), (30, 70), (10, 30))
 
     def __init__(self, network, _):
         self.operator = Operator("--colors", "mono", network.port)
@@ -153,20 +153,28 @@ class AtTty:
     def close(self):
         self.operator.__exit__()
 
+    def typed(self, typed):
+        """Types bytes, and has the status row shown if the window has no row for it."""
+        self.operator.types(typed + SHOW_STATUS * (self.operator.screen.rows == ROWS))
+
     def types(self, keys):
-        self.operator.types(b"".join(TTY_KEYS.get(key) or key.encode() for key in keys))
+        self.typed(b"".join(TTY_KEYS.get(key) or key.encode() for key in keys))
 
     def pastes(self, text):
-        self.operator.types(text)
+        self.typed(text.encode())
         return ["tab" if it == "\t" else it for it in text]
 
     def sees(self):
         self.operator.looks(0.01)
         screen = self.operator.screen
-        if screen.rows <= ROWS:
-            return None
-        looks = [it[:COLUMNS] for it in screen.looks[:ROWS]]
-        return Sight.of(["".join(it) for it in screen.cells], (screen.row, screen.column), looks)
+        rows = ["".join(it) for it in screen.cells]
+        looks = [it[:COLUMNS] for it in screen.looks[: min(screen.rows - 1, ROWS)]]
+        return Sight.of(rows, (screen.row, screen.column), looks)
+
+    def has_taken_all(self):
+        """Waits until each key is taken, also one that changes nothing on the screen: the table of
+        keys is shown behind them."""
+        self.shows_its_keys()
 
     def is_over(self, sight):
         """Whether the operator sees that the connection is over."""
@@ -181,6 +189,7 @@ class AtTty:
             self.operator.resizes(rows, columns)
             self.operator.looks(chance.random() / 10)
         self.operator.resizes(*chance.choice(self.sizes[:5]))
+        self.typed(b"")
 
     def is_drawn_again(self, _):
         """Another program writes to the tty, and Ctrl-L draws all again."""
@@ -188,11 +197,12 @@ class AtTty:
         self.operator.screen.erase()
         self.operator.types(REDRAW)
 
-    def shows_its_keys(self, _):
+    def shows_its_keys(self, _=None):
         """The table of keys is shown, and any key shows the screen again."""
         self.operator.types(SHOW_KEYS)
-        self.operator.sees("Key of the 3278")
-        self.operator.types(b"A")
+        self.operator.sees("Ctrl-]")
+        self.typed(b"A")
+        self.operator.until("the screen", lambda it: "Ctrl-]" not in it.text())
 
     events = events_in_the_wait = [is_resized, is_drawn_again, shows_its_keys]
 
@@ -244,8 +254,13 @@ class AtPage:
             return Sight.of(self.page.rows(), self.page.cursor())
         return None
 
+    def has_taken_all(self):
+        """What `web` hasn't taken before the session ends is lost with it."""
+
     def is_over(self, sight):
-        return "The session has ended" in self.page.value("state.textContent")
+        # Enter before the socket is closed would begin two sessions.
+        is_over = "state.textContent.includes('has ended') && socket.readyState === WebSocket.CLOSED"
+        return self.page.value(is_over)
 
     # ---- what happens to a page
 
@@ -453,6 +468,7 @@ class Day:
         """While the host answers: what was typed ahead is lost with the session."""
         keys = self.types_ahead() if self.chance.random() < 0.5 else []
         self.noted("a lost network", keys)
+        self.terminal.has_taken_all()
         self.network.cuts()
         self.is_lost()
         self.connects()
@@ -460,6 +476,7 @@ class Day:
     def host_is_restarted(self):
         """The host is killed and started again, or only answers again after another key."""
         self.noted("a restarted host", [])
+        self.terminal.has_taken_all()
         self.network.goes_down()
         self.host.ends()
         self.is_lost()
@@ -483,7 +500,7 @@ class Day:
 
         def is_end():
             seen = self.terminal.sees()
-            return seen and self.terminal.is_over(seen) and seen.rows == rows
+            return seen and self.terminal.is_over(seen) and not seen.differences(Sight(rows))
 
         hosts.until("the end is seen, on the last screen", is_end)
 
