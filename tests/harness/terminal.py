@@ -15,6 +15,7 @@ NUMERIC, BRIGHT = 0x10, 0x08
 WAIT, ERROR = "wait", "error"
 # Why a key is refused, in the words of the status row.
 IS_PROTECTED, NOT_NUMERIC, NO_ROOM, NO_CODE = "PROTECTED", "NUMERIC", "NO ROOM", "NO CODE"
+PASTE_CUT = "PASTE CUT"
 # The keys that send, by their AIDs.
 AIDS = {
     "enter": ENTER,
@@ -120,8 +121,10 @@ class Keyboard:
 
     def __init__(self) -> None:
         self.screen, self.lock, self.is_inserting = Screen(), WAIT, False
-        # Why the last key was refused, as the status row shows it.
+        # Why the last key was refused, as the status row shows it; whether one ever was, or a write
+        # asked for the alarm.
         self.refusal: str | None = None
+        self.has_rung = False
 
     def press(self, key: str) -> bytes | None:
         """Presses a key, and answers what it sends. Of a locked keyboard every key but Reset is
@@ -136,8 +139,10 @@ class Keyboard:
             try:
                 self.act(key)
             except Refused as refused:
-                self.refusal = str(refused)
+                self.refusal, self.has_rung = str(refused), True
                 self.lock = None if self.refusal == NO_CODE else ERROR
+        else:
+            self.has_rung = True
         return None
 
     def send(self, aid: int) -> bytes:
@@ -299,6 +304,17 @@ class Terminal:
             elif (data := self.keyboard.press(key)) is not None:
                 self.send(data)
 
+    def paste(self, keys: Iterable[str]) -> bool:
+        """Types a pasted text, up to the key that locks the keyboard, or the one behind which the
+        cursor is back at the first field. Whether all was typed."""
+        last = 0
+        for key in keys:
+            if self.keyboard.lock or self.screen.cursor < last:
+                return False
+            last = self.screen.cursor
+            self.type([key])
+        return True
+
     def hear(self, item: Talk | Record) -> None:
         """Takes what the host sent, and then what was typed ahead."""
         if isinstance(item, Talk):
@@ -309,7 +325,8 @@ class Terminal:
         if command[0] in READS.values() or command[0] in READS:
             self.send(self.read(command[0]))
         else:
-            restores, _ = self.screen.apply(command)
+            restores, alarms = self.screen.apply(command)
+            self.keyboard.has_rung |= alarms
             if restores:
                 self.keyboard.lock = self.keyboard.refusal = None
         if header[2] == ALWAYS:

@@ -22,7 +22,7 @@ from harness.browser import get, requested
 from harness.case import Case, Difference, Place, expect, relative
 from harness.chromium import ALT, SHIFT, Chromium, installed
 from harness.network import Network
-from harness.terminal import COLUMNS, ROWS, Record, Terminal, Wire
+from harness.terminal import COLUMNS, PASTE_CUT, ROWS, Record, Terminal, Wire
 from harness.tty import BANK, Operator
 
 PARTS = 2
@@ -74,7 +74,11 @@ WORDS = [
     ["home", "eraseinput", *"4711", "tab", *"SECRET", "enter"],
     ["home", *"1000200030", *"1000200044", "eraseeof", *"1.50", "enter"],
 ]
-PASTES = ["4711\tSECRET", "1000200030\t1000200044\t99.95\tRENT", "A" * 45, "12\t\t\t7", "0001 0002"]
+PASTES = [
+    "4711\tSECRET", "4711\nSECRET\n", "1000200030\t1000200044\t99.95\tRENT", "1" * 99, "A" * 9,
+    "12\t\t\t7", "1\n2\n3\n" + "RENT FOR MAY " * 9, "1 2",
+]
+PASTED = {"\t": "tab", "\n": "newline"}
 
 
 class Typist:
@@ -148,10 +152,16 @@ class AtTty:
     sizes = ((25, 80), (24, 80), (24, 132), (43, 80), (60, 200), (30, 70), (10, 30))
 
     def __init__(self, network, _):
-        self.operator = Operator("--colors", "mono", network.port)
+        self.operator, self.bells = Operator("--colors", "mono", network.port), 0
 
     def close(self):
         self.operator.__exit__()
+
+    def keeps_keys(self):
+        return False
+
+    def marks_pastes(self):
+        return b"\x1b[?2004h" in self.operator.written
 
     def typed(self, typed):
         """Types bytes, and has the status row shown if the window has no row for it."""
@@ -160,9 +170,16 @@ class AtTty:
     def types(self, keys):
         self.typed(b"".join(TTY_KEYS.get(key) or key.encode() for key in keys))
 
-    def pastes(self, text):
-        self.typed(text.encode())
-        return ["tab" if it == "\t" else it for it in text]
+    def pastes(self, text, keys, model):
+        """A tty marks a pasted text."""
+        if not self.marks_pastes():
+            self.typed(text.encode())
+            model.type(keys)
+            return
+        self.typed(ESC + b"[200~" + text.encode() + ESC + b"[201~")
+        if not model.paste(keys):
+            model.keyboard.has_rung = True
+            model.keyboard.refusal = model.keyboard.refusal or PASTE_CUT
 
     def sees(self):
         self.operator.looks(0.01)
@@ -175,6 +192,15 @@ class AtTty:
         """Waits until each key is taken, also one that changes nothing on the screen: the table of
         keys is shown behind them."""
         self.shows_its_keys()
+
+    def rings(self, has_rung):
+        """The bell has rung since the last rest, or hasn't."""
+        screen = self.operator.screen
+        if self.marks_pastes() and has_rung is not None:
+            if has_rung:
+                self.operator.until("the bell rings", lambda it: it.bells > self.bells)
+            expect("the bell rang", screen.bells > self.bells, has_rung)
+        self.bells = screen.bells
 
     def is_over(self, sight):
         """Whether the operator sees that the connection is over."""
@@ -225,6 +251,13 @@ class AtPage:
         hosts.until("web answers", self.answers)
         self.page = Chromium(address)
 
+    def keeps_keys(self):
+        """Whether keys that it couldn't send, or that nobody heard, are sent again."""
+        return self.page.value("typeof unheard") == "object"
+
+    def rings(self, _):
+        """A page shows the bell for a moment only."""
+
     def answers(self):
         with contextlib.suppress(OSError):
             return requested(self.browsers.to, get(self.browsers.port))[0] == 200
@@ -245,9 +278,12 @@ class AtPage:
             else:
                 self.page.types(key)
 
-    def pastes(self, text):
+    def pastes(self, text, keys, model):
         self.page.pastes(text)
-        return ["tab" if it == "\t" else it for it in text]
+        if self.page.value("typeof placeFor") == "function":
+            model.paste(keys)
+        else:
+            model.type(keys)
 
     def sees(self):
         with contextlib.suppress(Difference):
@@ -279,6 +315,15 @@ class AtPage:
     def is_cut_off(self, _):
         """The connection between browser and `web` fails, and the page connects again."""
         self.resumes(self.browsers.cuts)
+
+    def is_away(self, does):
+        """The network between browser and `web` is down while this is done."""
+        def loses():
+            self.browsers.goes_down()
+            does()
+            self.browsers.comes_up()
+
+        self.resumes(loses)
 
     def resumes(self, does):
         before = self.resumed()
@@ -351,7 +396,7 @@ class Day:
         self.link, self.down, self.heard = self.network.links[-1], Wire(), 0
         self.items = []
         self.model.connect()
-        self.agrees()
+        self.agrees(is_first=True)
 
     def hears(self):
         """What the host has sent meanwhile."""
@@ -384,9 +429,9 @@ class Day:
     def fails(self, found):
         raise Difference(*map("\n".join, zip(*found)))
 
-    def agrees(self):
-        """A rest: once the host has answered, the terminal shows what the model does, and has sent
-        what that has."""
+    def agrees(self, is_first=False):
+        """A rest: once the host has answered, the terminal shows what the model does, has sent what
+        that has, and rang if that did."""
         self.follows()
         self.sees(self.wanted())
         with contextlib.suppress(Difference):
@@ -395,6 +440,8 @@ class Day:
             spelt = [[it.hex(" ") for it in one[-8:]] for one in (self.model.sent, self.sent())]
             self.fails([tuple("\n".join(records) for records in spelt)])
         expect("more of the host", self.hears(), [])
+        self.terminal.rings(None if is_first else self.model.keyboard.has_rung)
+        self.model.keyboard.has_rung = False
         self.done["rests"] += 1
 
     def sent(self):
@@ -417,15 +464,18 @@ class Day:
         self.agrees()
 
     def pastes(self):
-        self.model.keyboard.lock and self.resets()
-        keys = self.terminal.pastes(self.chance.choice(PASTES))
+        self.resets()
+        self.agrees()
+        text = self.chance.choice(PASTES)
+        keys = [PASTED.get(it, it) for it in text]
         self.noted("pastes", keys)
-        self.model.type(keys)
+        self.terminal.pastes(text, keys, self.model)
         self.agrees()
 
     def resets(self):
-        self.terminal.types(["reset"])
-        self.model.type(["reset"])
+        """The keyboard takes keys, at the first field."""
+        self.terminal.types(["reset", "home"])
+        self.model.type(["reset", "home"])
 
     # ---- what happens
 
@@ -433,6 +483,17 @@ class Day:
         """Something that changes nothing of the session."""
         self.noted(event.__name__, [])
         event(self.terminal, self.chance)
+        self.agrees()
+
+    def types_over_a_cut(self):
+        """The connection between browser and `web` fails while keys are under way: those that `web`
+        hasn't heard are sent again, and so are those that are typed before it is back."""
+        keys = self.typist.burst(self.model.keyboard.lock)
+        self.noted("types over a cut", keys)
+        place = self.chance.randrange(len(keys) + 1)
+        self.terminal.types(keys[:place])
+        self.terminal.is_away(lambda: self.terminal.types(keys[place:]))
+        self.model.type(keys)
         self.agrees()
 
     def panels_are_read(self):
@@ -443,7 +504,7 @@ class Day:
     def types_ahead(self):
         """The network is slow: what is typed behind a key that sends is kept. The model hasn't
         heard the host yet."""
-        self.model.keyboard.lock and self.resets()
+        self.resets()
         keys = [*self.typist.keys(2), *self.chance.sample(EDITS, 2), *"12"]
         keys = [it for it in keys if it not in SENDS and it != "reset"]
         place = self.chance.randrange(len(keys))
@@ -520,6 +581,7 @@ class Day:
             self.network_is_lost: 1,
             self.host_is_restarted: 1,
             **{functools.partial(self.happens, it): 1 for it in self.terminal.events},
+            **({self.types_over_a_cut: 3} if self.terminal.keeps_keys() else {}),
         }
 
     def goes_on(self, is_over):
