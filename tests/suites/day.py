@@ -44,7 +44,7 @@ FUNCTION_KEYS = [
 ]
 TTY_KEYS = {
     "enter": b"\r", "newline": b"\n", "tab": b"\t", "backtab": ESC + b"[Z", "backspace": b"\b",
-    "up": ESC + b"[A", "down": ESC + b"[B", "right": ESC + b"[C", "left": ESC + b"[D",
+    "erase": b"\x7f", "up": ESC + b"[A", "down": ESC + b"[B", "right": ESC + b"[C", "left": ESC + b"[D",
     "home": ESC + b"[H", "insert": ESC + b"[2~", "delete": ESC + b"[3~", "eraseeof": ESC + b"[F",
     "eraseinput": b"\x15", "reset": b"\x12", "clear": b"\x03",
     **{f"pa{number}": ESC + b"%d" % number for number in (1, 2, 3)},
@@ -54,7 +54,8 @@ SHOW_KEYS, SHOW_STATUS, REDRAW, QUIT = ESC + b"?", b"\x14", b"\x0c", b"\x1d"
 # Each key in a browser: the key, its code, and the modifiers.
 PAGE_KEYS = {
     "enter": ("Enter", None, 0), "newline": ("Enter", None, SHIFT), "tab": ("Tab", None, 0),
-    "backtab": ("Tab", None, SHIFT), "backspace": ("Backspace", None, 0),
+    "backtab": ("Tab", None, SHIFT), "backspace": ("Backspace", None, SHIFT),
+    "erase": ("Backspace", None, 0),
     "up": ("ArrowUp", None, 0), "down": ("ArrowDown", None, 0), "right": ("ArrowRight", None, 0),
     "left": ("ArrowLeft", None, 0), "home": ("Home", None, 0), "insert": ("Insert", None, 0),
     "delete": ("Delete", None, 0), "eraseeof": ("End", None, 0), "eraseinput": ("End", None, ALT),
@@ -81,15 +82,21 @@ PASTES = [
 PASTED = {"\t": "tab", "\n": "newline"}
 
 
+@functools.cache
+def erases():
+    """Whether Backspace erases: so it does in programs that take keymaps."""
+    return "--keymap" in hosts.run(["help", "operate"], b"")[1]
+
+
 class Typist:
     """Random keys and texts."""
 
-    def __init__(self, seed, most_sent):
+    def __init__(self, seed, most_sent, edits=EDITS):
         # How many keys that send may be typed before the host has answered the first.
-        self.chance, self.most_sent = random.Random(seed), most_sent
+        self.chance, self.most_sent, self.edits = random.Random(seed), most_sent, edits
 
     def key(self):
-        kinds = self.chance.choices((LETTERS, EDITS, SENDS, ["reset"]), (10, 8, 2, 2))
+        kinds = self.chance.choices((LETTERS, self.edits, SENDS, ["reset"]), (10, 8, 2, 2))
         return self.chance.choice(kinds[0])
 
     def keys(self, count):
@@ -159,6 +166,9 @@ class AtTty:
 
     def keeps_keys(self):
         return False
+
+    def erases(self):
+        return erases()
 
     def marks_pastes(self):
         return b"\x1b[?2004h" in self.operator.written
@@ -254,6 +264,9 @@ class AtPage:
     def keeps_keys(self):
         """Whether keys that it couldn't send, or that nobody heard, are sent again."""
         return self.page.value("typeof unheard") == "object"
+
+    def erases(self):
+        return erases() and self.keeps_keys()
 
     def rings(self, _):
         """A page shows the bell for a moment only."""
@@ -373,13 +386,14 @@ class Day:
 
     def __init__(self, kind, seed, folder):
         self.chance = random.Random(seed)
-        self.typist = Typist(seed, kind.most_sent)
         self.host = Host(folder, self.chance)
         self.network = Network(self.host.port)
         self.terminal, self.model = None, Terminal()
         self.done, self.last, self.count, self.seen = Counter(), [], 0, 0
         self.terminal = kind(self.network, self.chance)
         self.is_connected_again()
+        edits = [*EDITS, *["erase"] * 2 * self.terminal.erases()]
+        self.typist = Typist(seed, kind.most_sent, edits)
 
     def close(self):
         if self.terminal:
