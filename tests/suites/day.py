@@ -91,9 +91,9 @@ def erases():
 class Typist:
     """Random keys and texts."""
 
-    def __init__(self, seed, most_sent, edits=EDITS):
+    def __init__(self, chance, most_sent, edits):
         # How many keys that send may be typed before the host has answered the first.
-        self.chance, self.most_sent, self.edits = random.Random(seed), most_sent, edits
+        self.chance, self.most_sent, self.edits = chance, most_sent, edits
 
     def key(self):
         kinds = self.chance.choices((LETTERS, self.edits, SENDS, ["reset"]), (10, 8, 2, 2))
@@ -154,14 +154,17 @@ class Sight:
 class AtTty:
     """An operator at bin/operate."""
 
-    name, most_sent, keeps_screens = "operate", 3, True
+    name, most_sent = "operate", 3
     # With 24 rows there is none for the status row. Some are too small.
     sizes = ((25, 80), (24, 80), (24, 132), (43, 80), (60, 200), (30, 70), (10, 30))
 
-    def __init__(self, network, _):
+    def __init__(self, network):
         self.operator, self.bells = Operator("--colors", "mono", network.port), 0
 
-    def close(self):
+    def __enter__(self):
+        return self
+
+    def __exit__(self, *_):
         self.operator.__exit__()
 
     def keeps_keys(self):
@@ -216,6 +219,11 @@ class AtTty:
         """Whether the operator sees that the connection is over."""
         return sight.status[0] == "not connected"
 
+    def connects_in_vain(self):
+        """Presses Enter while no host is there."""
+        self.types(["enter"])
+        self.has_taken_all()
+
     # ---- what happens to a tty
 
     def is_resized(self, chance):
@@ -246,10 +254,9 @@ class AtTty:
 class AtPage:
     """An operator at the page of `web`."""
 
-    # A connection that fails has it show a blank screen.
-    name, most_sent, keeps_screens = "the page of web", 1, False
+    name, most_sent = "the page of web", 1
 
-    def __init__(self, network, chance):
+    def __init__(self, network):
         self.browsers, self.log = Network(None), tempfile.TemporaryFile()
         address = f"http://{hosts.LOCALHOST}:{self.browsers.port}"
         self.browsers.to = hosts.free_port()
@@ -258,8 +265,12 @@ class AtPage:
             [programs.panel3270(), *map(str, words)], stdin=subprocess.DEVNULL, stderr=self.log
         )
         self.page = None
+        self.address = address
+
+    def __enter__(self):
         hosts.until("web answers", self.answers)
-        self.page = Chromium(address)
+        self.page = Chromium(self.address)
+        return self
 
     def keeps_keys(self):
         """Whether keys that it couldn't send, or that nobody heard, are sent again."""
@@ -276,7 +287,7 @@ class AtPage:
             return requested(self.browsers.to, get(self.browsers.port))[0] == 200
         return False
 
-    def close(self):
+    def __exit__(self, *_):
         if self.page:
             self.page.__exit__()
         self.web.kill()
@@ -311,6 +322,11 @@ class AtPage:
         is_over = "state.textContent.includes('has ended') && socket.readyState === WebSocket.CLOSED"
         return self.page.value(is_over)
 
+    def connects_in_vain(self):
+        # Else a connection that fails has it show a blank screen.
+        if self.keeps_keys():
+            self.waits_for(b"reason=cannot-connect", lambda: self.types(["enter"]))
+
     # ---- what happens to a page
 
     def is_resized(self, chance):
@@ -339,14 +355,18 @@ class AtPage:
         self.resumes(loses)
 
     def resumes(self, does):
-        before = self.resumed()
-        does()
-        hosts.until("the session is resumed", lambda: self.resumed() > before)
+        self.waits_for(b"event=resumed", does)
         is_back = "document.body.className === ''"
         self.page.until("the page is back", lambda: self.page.value(is_back))
 
-    def resumed(self):
-        return os.pread(self.log.fileno(), 1 << 20, 0).count(b"event=resumed")
+    def waits_for(self, words, does):
+        """Does this, and waits until `web` has logged these words once more."""
+        def count():
+            return os.pread(self.log.fileno(), 1 << 22, 0).count(words)
+
+        before = count()
+        does()
+        hosts.until(f"web logs {words.decode()}", lambda: count() > before)
 
     # Keys that are under way when the connection fails are lost.
     events_in_the_wait = [is_resized, is_loaded_again]
@@ -364,6 +384,12 @@ class Host:
         self.chance, self.port = chance, hosts.free_port()
         pathlib.Path(self.panels).write_bytes(BANK.read_bytes())
         self.starts()
+
+    def __enter__(self):
+        return self
+
+    def __exit__(self, *_):
+        self.ends()
 
     def starts(self):
         words = ["--panels", self.panels, "--control", self.control]
@@ -384,22 +410,10 @@ class Host:
 class Day:
     """A terminal at a host behind a network, and the model."""
 
-    def __init__(self, kind, seed, folder):
-        self.chance = random.Random(seed)
-        self.host = Host(folder, self.chance)
-        self.network = Network(self.host.port)
-        self.terminal, self.model = None, Terminal()
+    def __init__(self, chance, host, network, terminal):
+        self.chance, self.host, self.network, self.terminal = chance, host, network, terminal
+        self.model, self.typist = Terminal(), None
         self.done, self.last, self.count, self.seen = Counter(), [], 0, 0
-        self.terminal = kind(self.network, self.chance)
-        self.is_connected_again()
-        edits = [*EDITS, *["erase"] * 2 * self.terminal.erases()]
-        self.typist = Typist(seed, kind.most_sent, edits)
-
-    def close(self):
-        if self.terminal:
-            self.terminal.close()
-        self.network.__exit__()
-        self.host.ends()
 
     # ---- the model follows
 
@@ -465,7 +479,7 @@ class Day:
 
     def noted(self, what, keys):
         self.done[what] += 1
-        self.count += len(keys)
+        self.count += len(keys) * (what != "pastes")
         self.last = [*self.last, *(f"{what}:" for _ in range(what != "types")), *keys][-60:]
 
     # ---- what an operator does
@@ -555,9 +569,8 @@ class Day:
         self.network.goes_down()
         self.host.ends()
         self.is_lost()
-        if self.terminal.keeps_screens and self.chance.random() < 0.5:
-            self.terminal.types(["enter"])
-            time.sleep(0.3)
+        if self.chance.random() < 0.5:
+            self.terminal.connects_in_vain()
             self.sees_the_end()
         self.host.starts()
         self.network.comes_up()
@@ -600,6 +613,9 @@ class Day:
 
     def goes_on(self, is_over):
         """Each act at least once, in a random order, with keys between; then as it comes."""
+        self.is_connected_again()
+        edits = [*EDITS, *["erase"] * 2 * self.terminal.erases()]
+        self.typist = Typist(self.chance, self.terminal.most_sent, edits)
         acts = self.acts()
         for act in self.chance.sample([*acts], len(acts)):
             self.types()
@@ -616,15 +632,19 @@ class Day:
 
 
 def day_at(kind, seed, is_over):
-    with tempfile.TemporaryDirectory() as folder:
-        day = None
+    """A day at a terminal. What was done, in words."""
+    chance = random.Random(seed)
+    with (
+        tempfile.TemporaryDirectory() as folder,
+        Host(folder, chance) as host,
+        Network(host.port) as network,
+        kind(network) as terminal,
+    ):
+        day = Day(chance, host, network, terminal)
         try:
-            day = Day(kind, seed, folder)
             day.goes_on(is_over)
         except Difference as it:
-            raise Difference(f"{it.wanted}\n{day.tells() if day else ''}", it.came) from it
-        finally:
-            day and day.close()
+            raise Difference(f"{it.wanted}\n{day.tells()}", it.came) from it
     return f"{kind.name}: {day.count} keys: {day.report()}"
 
 
