@@ -6,15 +6,15 @@ page that only echoes.
 
 Without PROGRAM it runs the one that PANEL3270 names, or else the one that bin/quick would run; the
 first line of output says which. A panel with a field of 50 cells is served on this machine. Letters
-are typed into it, one at a time, each 30 to 50 milliseconds after the last one was drawn. The tables
-have the median, the 90th and the 99th percentile of N keys (200) in milliseconds, and how many times
-theirs each is.
+are typed into it, one at a time, each 30 to 50 milliseconds after the last one was drawn. The
+tables have the median, the 90th and the 99th percentile of N keys (200) in milliseconds, and how
+many times theirs each is.
 
 - tty: each terminal runs on a pty of 25 rows of 80, at the same `serve`. The time is from the write
   of the letter to the pty to the read of the bytes by which a model of the tty has it in its cell.
 - browser: a headless Chromium shows each page. The time is from the `keydown` event, in the page,
   to the change of the document by which the cell has the letter. The echo page sends each letter as
-  a binary message over a WebSocket to a server in this file, and puts what comes back into its cell.
+  a binary message over a WebSocket to a server in this file, and puts what it gets in its cell.
 """
 import argparse
 import base64

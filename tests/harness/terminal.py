@@ -1,5 +1,5 @@
-"""A terminal of 24 by 80 over the screen of harness/lists.py, by docs/PROTOCOL.md: "Keys",
-"Inbound data", "Headers and responses". Keys and the host's records go in; what is sent comes out."""
+"""A terminal of 24 by 80 over the screen of harness/lists.py, by docs/PROTOCOL.md: "Keys", "Inbound
+data", "Headers and responses". Keys and the host's records go in; what is sent comes out."""
 import dataclasses
 import itertools
 from collections.abc import Iterable, Iterator

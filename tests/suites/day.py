@@ -44,7 +44,8 @@ FUNCTION_KEYS = [
 ]
 TTY_KEYS = {
     "enter": b"\r", "newline": b"\n", "tab": b"\t", "backtab": ESC + b"[Z", "backspace": b"\b",
-    "erase": b"\x7f", "up": ESC + b"[A", "down": ESC + b"[B", "right": ESC + b"[C", "left": ESC + b"[D",
+    "erase": b"\x7f",
+    "up": ESC + b"[A", "down": ESC + b"[B", "right": ESC + b"[C", "left": ESC + b"[D",
     "home": ESC + b"[H", "insert": ESC + b"[2~", "delete": ESC + b"[3~", "eraseeof": ESC + b"[F",
     "eraseinput": b"\x15", "reset": b"\x12", "clear": b"\x03",
     **{f"pa{number}": ESC + b"%d" % number for number in (1, 2, 3)},
@@ -132,7 +133,7 @@ class Sight:
 
     @staticmethod
     def of(rows, cursor, looks=None):
-        """What is drawn. The last row is the status row, which can be over the screen's last one."""
+        """What is drawn. The last row is the status row, which may be over the screen's last."""
         *rows, last = [it[:COLUMNS].ljust(COLUMNS) for it in rows[: ROWS + 1]]
         status = [last[:16], last[16:29], last[32], last[40:55], last[72:79]]
         return Sight(rows, tuple(cursor), [it.strip() for it in status], looks)
@@ -147,7 +148,8 @@ class Sight:
             pairs = [(what, one, other)]
             if what in ("rows", "looks"):
                 pairs = [(f"{what}: row {row}", *it) for row, it in enumerate(zip(one, other), 1)]
-            found += [(f"{it}: {one}", f"{it}: {other}") for it, one, other in pairs if one != other]
+            pairs = [it for it in pairs if it[1] != it[2]]
+            found += [(f"{it}: {one}", f"{it}: {other}") for it, one, other in pairs]
         return found
 
 
@@ -319,8 +321,8 @@ class AtPage:
 
     def is_over(self, sight):
         # Enter before the socket is closed would begin two sessions.
-        is_over = "state.textContent.includes('has ended') && socket.readyState === WebSocket.CLOSED"
-        return self.page.value(is_over)
+        is_closed = "socket.readyState === WebSocket.CLOSED"
+        return self.page.value(f"state.textContent.includes('has ended') && {is_closed}")
 
     def connects_in_vain(self):
         # Else a connection that fails has it show a blank screen.
