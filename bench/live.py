@@ -1,6 +1,6 @@
 #!/usr/bin/env python3
-"""Measures the operator's live terminal on a tty of its own: bytes written, the time from a key to
-its cell, and an idle one's processor.
+"""Measures the operator's live terminal on a tty of its own: bytes written, and an idle one's
+processor. bench/latency.py measures the time from a key to its cell.
 
     bench/live.py PROGRAM
 
@@ -13,7 +13,6 @@ import pathlib
 import pty
 import select
 import socket
-import statistics
 import struct
 import subprocess
 import sys
@@ -21,7 +20,6 @@ import termios
 import time
 
 HERE = pathlib.Path(__file__).resolve().parent
-KEYS = 200
 IDLE = 10
 
 
@@ -47,26 +45,6 @@ def typed(tty, *keys):
     return counts
 
 
-def delay(tty, key):
-    """The seconds from a key to its cell: the key's character is then written."""
-    begin = time.perf_counter()
-    os.write(tty, key)
-    came = b""
-    while b"m" + key not in came:
-        came += os.read(tty, 1 << 16)
-    end = time.perf_counter()
-    written(tty, 0.03)
-    return end - begin
-
-
-def delays(tty):
-    """The delays of digits that fill a field of ten cells again and again."""
-    for number in range(KEYS):
-        if number % 10 == 0:
-            typed(tty, b"\x1b[H", b"\x05")
-        yield delay(tty, b"%d" % (number % 10))
-
-
 def spent(process):
     """The seconds of processor that a process took."""
     fields = pathlib.Path(f"/proc/{process}/stat").read_text().rsplit(")", 1)[1].split()
@@ -83,13 +61,6 @@ def measure(tty, script):
     print(f"a digit typed: {max(typed(tty, b'4', b'7', b'1', b'1'))} bytes at most")
     typed(tty, b"\t", b"SECRET")
     print(f"Enter, and the next panel: {typed(tty, bytes([13]))[0]} bytes")
-    typed(tty, b"\x1b[H")
-    times = sorted(delays(tty))
-    least, median = times[0] * 1000, statistics.median(times) * 1000
-    print(
-        f"from a key to its cell: {least:.2f} ms at least, {median:.2f} ms in the median, "
-        f"of {len(times)} keys"
-    )
     program = child_of(script)
     before = spent(program)
     time.sleep(IDLE)

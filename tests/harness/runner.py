@@ -25,6 +25,8 @@ RUN = TOP / "tests/run"
 MOST_SECONDS = 900
 # The suite that runs only if it is named, for as long as asked.
 SOAK = "soak"
+# The suite that runs longer if asked.
+DAY = "day"
 # The processes of the parts that run now.
 RUNNING: set[subprocess.Popen[str]] = set()
 # Set in the environment of the parts if the programs that run aren't the proved ones.
@@ -394,7 +396,13 @@ def main() -> int:
         "proved ones",
     )
     parser.add_argument(
-        "--minutes", type=float, default=1, metavar="N", help=f"how long {SOAK} runs (1)"
+        "--minutes",
+        type=float,
+        metavar="N",
+        help=f"how long {SOAK} runs (1), and each terminal of {DAY} (60 keys)",
+    )
+    parser.add_argument(
+        "--seed", type=int, metavar="N", help=f"of the random keys of {DAY}"
     )
     parser.add_argument("--part", nargs=3, help=argparse.SUPPRESS)
     given = parser.parse_args()
@@ -406,7 +414,9 @@ def main() -> int:
     if given.part:
         suite, index, of = given.part
         return write_part(Part(suite, int(index), int(of)), words)
-    os.environ["TESTS_MINUTES"] = str(given.minutes)
+    for name, value in (("TESTS_MINUTES", given.minutes), ("TESTS_SEED", given.seed)):
+        if value is not None:
+            os.environ[name] = str(value)
     suites = given.suites or [it for it in suite_names() if it != SOAK]
     if given.list:
         for suite in suites:
