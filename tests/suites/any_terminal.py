@@ -3,8 +3,9 @@
 After a key that sends, a 3278 refuses all keys until the host has written. x3270 and its like have
 a Reset that ends this wait: then fields can be changed, and keys be pressed, before the host's
 write is there. The host must show its panels all the same: of an input field a paint takes nothing
-for granted, and a key that comes while the host works is dropped. The bytes are spelt by GA23-0059
-and RFC 1647."""
+for granted, what counts is what the key returned, and a key that comes while the host works is
+dropped. No key ends the session. The host marks all fields (MDT), so that Enter and each PF key
+return every one. The bytes are spelt by GA23-0059 and RFC 1647."""
 import contextlib
 import re
 
@@ -39,6 +40,8 @@ name = "HELLO"
 text = [{row = 1, col = 2, text = "HELLO"}, {row = 1, col = 9, show = "user", length = 8}]
 keys = {pf3 = "SIGNON"}
 """
+# With this a host relies on the wait.
+OWN = "--own-terminals"
 # The same, but that an application decides on Enter and PA1.
 ASKING = SIGN_ON.replace(b'keys = {enter = "HELLO"}', b'asks = ["enter", "pa1"]')
 
@@ -50,10 +53,11 @@ def spelt(text):
     )
 
 
-# SIGN ON behind an Erase/Write.
+# SIGN ON behind an Erase/Write. C1 is the attribute of an input field with MDT on; a host that relies
+# on the wait writes 40, with MDT off.
 SIGN_ON_CELLS = (
-    "11 40 40 1D F0 E2 C9 C7 D5 40 D6 D5 11 C2 60 1D F0 E4 E2 C5 D9 11 C2 E6 1D 40 11 C2 6F 1D F0"
-    " 11 C3 F0 1D F0 C4 C5 D7 E3 11 C3 F6 1D 40 11 C3 7B 1D F0 11 5C F0 1D F8 11 C2 E7 13"
+    "11 40 40 1D F0 E2 C9 C7 D5 40 D6 D5 11 C2 60 1D F0 E4 E2 C5 D9 11 C2 E6 1D C1 11 C2 6F 1D F0"
+    " 11 C3 F0 1D F0 C4 C5 D7 E3 11 C3 F6 1D C1 11 C3 7B 1D F0 11 5C F0 1D F8 11 C2 E7 13"
 )
 # HELLO written over SIGN ON after Enter with an A in `user`. From 1 on HELLO, a null and an
 # attribute, and the A; nulls where texts and their attributes were; and nulls in each cell of the
@@ -72,21 +76,29 @@ TO_ORIGIN, NO_MESSAGE = " 11 40 40 13", " 11 5C F1 00*14"
 # SIGN ON over HELLO, which has no input field: what differs.
 SIGN_ON_OVER_HELLO = (
     "F1 C3 11 40 C1 E2 C9 C7 D5 40 D6 D5 00"
-    " 11 C2 60 1D F0 E4 E2 C5 D9 11 C2 E6 1D 40 11 C2 6F 1D F0"
-    " 11 C3 F0 1D F0 C4 C5 D7 E3 11 C3 F6 1D 40 11 C3 7B 1D F0 11 C2 E7 13"
+    " 11 C2 60 1D F0 E4 E2 C5 D9 11 C2 E6 1D C1 11 C2 6F 1D F0"
+    " 11 C3 F0 1D F0 C4 C5 D7 E3 11 C3 F6 1D C1 11 C3 7B 1D F0 11 C2 E7 13"
 )
 # The messages of 14 characters, and the write that shows SIGN ON again with one: `user` and `dept` are
-# written whole, with their attributes, and the cursor is at 167. MDT is on if there is a text.
+# written whole, with their attributes, whose MDT is on, and the cursor is at 167.
 REQUIRED_USER = " 11 5C F1 D9 C5 D8 E4 C9 D9 C5 C4 7A 40 A4 A2 85 99"
 KEY_NOT_ACTIVE = " 11 5C F1 D2 C5 E8 40 D5 D6 E3 40 C1 C3 E3 C9 E5 C5"
-AGAIN = "F1 C2 11 C2 E6 1D {} 11 C3 F6 1D 40 00*4{} 11 C2 E7 13"
-NOBODY, AB = "40 00*8", "C1 C1 C2 00*6"
+AGAIN = "F1 C2 11 C2 E6 1D C1 {} 11 C3 F6 1D C1 00*4{} 11 C2 E7 13"
+NOBODY, AB = "00*8", "C1 C2 00*6"
 READ_BUFFER = "F2"
-# What keys send: the AID and, but for PA1 and Clear, the cursor, and each field with MDT on.
-ENTER, ENTER_A, PF3, PA1, CLEAR = "7D C2 E7", "7D C2 E8 11 C2 E7 C1", "F3 40 40", "6C", "6D"
+# What keys send: the AID and, but for PA1 and Clear, the cursor, and each field with MDT on. SIGN ON
+# has two, of which each is returned: its first address, 167 or 247, and the text behind it, if any.
+# HELLO has none.
+NO_DEPT = " 11 C3 F7"
+ENTER, ENTER_A = "7D C2 E7 11 C2 E7" + NO_DEPT, "7D C2 E8 11 C2 E7 C1" + NO_DEPT
+PF3, PA1, CLEAR = "F3 40 40", "6C", "6D"
 # Keys that may be pressed in the wait, when a B has been typed behind the A, by the names that the
 # log has for them.
-SECOND_KEYS = {"enter": "7D C2 E9 11 C2 E7 C1 C2", "pf3": "F3 C2 E9 11 C2 E7 C1 C2", "pa1": PA1}
+SECOND_KEYS = {
+    "enter": "7D C2 E9 11 C2 E7 C1 C2" + NO_DEPT,
+    "pf3": "F3 C2 E9 11 C2 E7 C1 C2" + NO_DEPT,
+    "pa1": PA1,
+}
 
 
 class Waitless(hosts.Client):
@@ -144,7 +156,8 @@ def at_the_sign_on(*words, text=SIGN_ON, closed=(), dropped=()):
         client.hears(hosts.device_type(4, "PNL01"))
         client.says(hosts.FUNCTIONS_REQUEST)
         client.hears(hosts.FUNCTIONS_IS)
-        client.is_shown("F5 C3 " + SIGN_ON_CELLS)
+        cells = SIGN_ON_CELLS.replace("1D C1", "1D 40") if OWN in words else SIGN_ON_CELLS
+        client.is_shown("F5 C3 " + cells)
         yield client
         events = [
             "connected",
@@ -162,19 +175,17 @@ def logged(host):
     return re.findall(r"event=(.*?)(?: duration=.*)?$", host.logged(), re.MULTILINE)
 
 
-def goes_on(client, shown=HELLO_OVER_SIGN_ON + TO_ORIGIN):
+def goes_on(client, shown=HELLO_OVER_SIGN_ON + TO_ORIGIN, back=SIGN_ON_OVER_HELLO):
     """HELLO is shown over SIGN ON, and PF3 leads back."""
     client.is_shown(shown)
     client.sends(PF3)
-    client.is_shown(SIGN_ON_OVER_HELLO)
+    client.is_shown(back)
 
 
 def screen_read(aid, user, dept="00*4", message="00*14"):
-    """What answers Read Buffer while SIGN ON is shown, with the cursor at 168: each cell, a field's
-    attribute with MDT if it has a text."""
-    user, dept = (
-        f"1D {'C1' if spelt(it).strip(bytes(1)) else '40'} {it} 1D F0" for it in (user, dept)
-    )
+    """What answers Read Buffer while SIGN ON is shown, with the cursor at 168: each cell, an input
+    field's attribute with MDT on, as it was written."""
+    user, dept = (f"1D C1 {it} 1D F0" for it in (user, dept))
     texts = (
         "1D F0 E2 C9 C7 D5 40 D6 D5 00*152 1D F0 E4 E2 C5 D9 00",
         "00*64 1D F0 C4 C5 D7 E3 00",
@@ -210,7 +221,7 @@ def what_is_typed_in_the_wait_never_counts():
     with at_the_sign_on() as client:
         client.sends(ENTER)
         client.is_shown(AGAIN.format(NOBODY, REQUIRED_USER))
-        client.sends("7D C2 EA 11 C2 E7 C1 D5 D5")
+        client.sends("7D C2 EA 11 C2 E7 C1 D5 D5" + NO_DEPT)
         hello_ann = HELLO_OVER_SIGN_ON.replace("1D F0 C1", "1D F0 C1 D5 D5")
         client.is_shown(hello_ann + NO_MESSAGE + TO_ORIGIN)
 
@@ -245,12 +256,12 @@ def a_key_while_a_read_is_pending_is_dropped():
         with at_the_sign_on(dropped=[name]) as client:
             client.sends(PA1)
             client.is_sent(READ_BUFFER, response=1)
-            client.sends(second, screen_read(second[:2], "C1 C2 00*6"))
+            client.sends(second, screen_read(second[:2], AB))
             client.is_shown(AGAIN.format(AB, KEY_NOT_ACTIVE))
             client.sends(PA1)
             client.is_sent(READ_BUFFER, response=1)
             message = KEY_NOT_ACTIVE.removeprefix(" 11 5C F1 ")
-            client.sends(screen_read("6C", "C1 C2 00*6", message=message))
+            client.sends(screen_read("6C", AB, message=message))
             # The message is there already.
             client.is_shown(AGAIN.format(AB, ""))
 
@@ -296,7 +307,7 @@ def a_question_has_the_first_key_and_what_was_read():
     with at_the_sign_on("--application", application.url, text=ASKING, dropped=["enter"]) as client:
         client.sends(PA1)
         client.is_sent(READ_BUFFER, response=1)
-        client.sends(SECOND_KEYS["enter"], screen_read("7D", "C1 C2 00*6", dept="E7 00*3"))
+        client.sends(SECOND_KEYS["enter"], screen_read("7D", AB, dept="E7 00*3"))
         exchange = application.takes()
         asked = {it: exchange.asked[it] for it in ("key", "cursor", "fields")}
         expect(
@@ -320,7 +331,7 @@ def a_field_is_written_with_its_mdt():
     with at_the_sign_on("--application", application.url, text=ASKING) as client:
         client.sends(ENTER_A)
         application.takes().sends({"fields": {"user": "BOB"}})
-        client.is_shown("F1 C2 11 C2 E6 1D C1 C2 D6 C2 00*5 11 C3 F6 1D 40 00*4 11 C2 E7 13")
+        client.is_shown(AGAIN.format("C2 D6 C2 00*5", ""))
 
 
 @check
@@ -337,26 +348,25 @@ def clear_in_the_hosts_turn_erases():
 
 @check
 def what_no_key_in_the_wait_sends_still_closes():
-    """Clear leaves no attributes, and AID 60 is no key's: with a write or a read pending the host
-    closes, by cause 7."""
-    for text in (CLEAR, "60 C2 E8 11 C2 E7 C1"):
-        for first, command, response in (
-            (ENTER_A, HELLO_OVER_SIGN_ON + TO_ORIGIN, 2), (PA1, READ_BUFFER, 1)
-        ):
-            with at_the_sign_on(closed=["BadInbound number=7"]) as client:
-                client.sends(first)
-                client.is_sent(command, response)
-                client.sends(text)
-                client.hears_the_end()
+    """AID 60 is no key's: with a write or a read pending the host closes, by cause 7."""
+    for first, command, response in (
+        (ENTER_A, HELLO_OVER_SIGN_ON + TO_ORIGIN, 2), (PA1, READ_BUFFER, 1)
+    ):
+        with at_the_sign_on(closed=["BadInbound number=7"]) as client:
+            client.sends(first)
+            client.is_sent(command, response)
+            client.sends("60 C2 E8 11 C2 E7 C1")
+            client.hears_the_end()
 
 
 @check
 def own_terminals_are_relied_on():
-    """With --own-terminals the host writes what it doesn't know alone, and a second key closes, as
-    before."""
-    with at_the_sign_on("--own-terminals") as client:
-        client.sends(ENTER_A)
-        goes_on(client, RELYING + TO_ORIGIN)
-    with at_the_sign_on("--own-terminals", closed=["BadInbound number=7"]) as client:
-        client.sends(ENTER_A, ENTER_A)
+    """With --own-terminals no field is marked, so that Enter returns `user` alone, the host writes
+    what it doesn't know alone, and a second key closes."""
+    enter = ENTER_A.removesuffix(NO_DEPT)
+    with at_the_sign_on(OWN) as client:
+        client.sends(enter)
+        goes_on(client, RELYING + TO_ORIGIN, SIGN_ON_OVER_HELLO.replace("1D C1", "1D 40"))
+    with at_the_sign_on(OWN, closed=["BadInbound number=7"]) as client:
+        client.sends(enter, enter)
         client.hears_the_end()
