@@ -55,8 +55,8 @@ def spelt(text):
     )
 
 
-# SIGN ON behind an Erase/Write. C1 is the attribute of an input field with MDT on; a host that relies
-# on the wait writes 40, with MDT off.
+# SIGN ON behind an Erase/Write. C1 is the attribute of an input field with MDT on; a host that
+# relies on the wait writes 40, with MDT off.
 SIGN_ON_CELLS = (
     "11 40 40 1D F0 E2 C9 C7 D5 40 D6 D5 11 C2 60 1D F0 E4 E2 C5 D9 11 C2 E6 1D C1 11 C2 6F 1D F0"
     " 11 C3 F0 1D F0 C4 C5 D7 E3 11 C3 F6 1D C1 11 C3 7B 1D F0 11 5C F0 1D F8 11 C2 E7 13"
@@ -88,9 +88,9 @@ KEY_NOT_ACTIVE = " 11 5C F1 D2 C5 E8 40 D5 D6 E3 40 C1 C3 E3 C9 E5 C5"
 AGAIN = "F1 C2 11 C2 E6 1D C1 {} 11 C3 F6 1D C1 00*4{} 11 C2 E7 13"
 NOBODY, AB = "00*8", "C1 C2 00*6"
 READ_BUFFER = "F2"
-# What keys send: the AID and, but for PA1 and Clear, the cursor, and each field with MDT on. SIGN ON
-# has two, of which each is returned: its first address, 167 or 247, and the text behind it, if any.
-# HELLO has none.
+# What keys send: the AID and, but for PA1 and Clear, the cursor, and each field with MDT on. SIGN
+# ON has two, of which each is returned: its first address, 167 or 247, and the text behind it, if
+# any. HELLO has none.
 NO_DEPT = " 11 C3 F7"
 ENTER, ENTER_A = "7D C2 E7 11 C2 E7" + NO_DEPT, "7D C2 E8 11 C2 E7 C1" + NO_DEPT
 PF3, PA1, CLEAR = "F3 40 40", "6C", "6D"
@@ -443,8 +443,8 @@ MODEL_2 = Screens(
     cleared="6D 40 40 00*1920",
     note="F1 40 11 5C F1 C8 C5 E8 00*76",
 )
-# 27 by 132: the attributes of `user` are at 132 and 137, its cells at 133 to 136; the last row begins
-# at 3432.
+# 27 by 132: the attributes of `user` are at 132 and 137, its cells at 133 to 136; the last row
+# begins at 3432.
 WIDE = b"""start = "WIDE"
 lus = ["PNL01"]
 [[panel]]
@@ -508,8 +508,8 @@ def is_silent(client):
 
 @check
 def clear_while_a_question_is_open_has_its_answer_erase():
-    """Whether the answer names a panel, or has the same one shown again. The application isn't asked
-    again."""
+    """Whether the answer names a panel, or has the same one shown again. The application isn't
+    asked again."""
     for screens in (MODEL_2, MODEL_5):
         for answer, shown in (
             (screens.answer, screens.following_erased), (TAKEN, screens.taken_erased)
@@ -526,8 +526,8 @@ def clear_while_a_question_is_open_has_its_answer_erase():
 
 @check
 def clear_while_an_answer_that_erases_is_under_way_changes_nothing():
-    """Clear came before, too, so that the answer is shown behind an erase. What that wrote is there,
-    whatever was cleared before it: nothing is sent again, and nothing is asked."""
+    """Clear came before, too, so that the answer is shown behind an erase. What that wrote is
+    there, whatever was cleared before it: nothing is sent again, and nothing is asked."""
     for screens in (MODEL_2, MODEL_5):
         with asking(screens, dropped=["clear", "clear"]) as (application, client):
             client.sends(screens.enter_a)
@@ -548,8 +548,8 @@ def clear_while_an_answer_that_erases_is_under_way_changes_nothing():
 
 @check
 def clear_while_an_answer_is_under_way_has_it_shown_again():
-    """The answer comes once more, behind an erase, with its panel or with its texts and its message.
-    The application isn't asked again."""
+    """The answer comes once more, behind an erase, with its panel or with its texts and its
+    message. The application isn't asked again."""
     for screens in (MODEL_2, MODEL_5):
         for answer, shown, again in (
             (screens.answer, screens.following, screens.following_erased),
@@ -581,8 +581,8 @@ def clear_while_the_screen_is_read_to_be_verified_has_the_answer_erase():
 
 @check
 def clear_while_the_screen_is_read_after_pa_counts_in_its_place():
-    """The panel that was read is gone. Clear leads nowhere: the first panel comes, fresh, and PA1 is
-    never asked. A panel that asks about Clear has that asked, once, without texts."""
+    """The panel that was read is gone. Clear leads nowhere: the first panel comes, fresh, and PA1
+    is never asked. A panel that asks about Clear has that asked, once, without texts."""
     for screens in (MODEL_2, MODEL_5):
         with asking(screens, dropped=()) as (application, client):
             client.sends(PA1)
