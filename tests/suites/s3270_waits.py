@@ -103,6 +103,12 @@ class Operator(S3270):
         for name, text in texts.items():
             self.does(at(panel, name), "EraseEOF", f'String("{text}")')
 
+    def signs_on(self, model):
+        """Signs on, and is shown TRANSFER."""
+        self.fills_in("SIGNON", TELLER)
+        self.does("Enter", "Wait(Unlock)")
+        sees("TRANSFER", self, screen(model, "TRANSFER", TELLER))
+
 
 # ---- the screens of the bank
 
@@ -215,9 +221,7 @@ def in_the_wait(model, words, key, point, what, second):
         model, Proxy(host.port)
     ) as operator:
         proxy = operator.proxy
-        operator.fills_in("SIGNON", TELLER)
-        operator.does("Enter", "Wait(Unlock)")
-        sees("TRANSFER", operator, screen(model, "TRANSFER", shown))
+        operator.signs_on(model)
         texts = {**FILLED_IN, **dict.fromkeys(empty, "")}
         operator.fills_in("TRANSFER", texts)
         operator.does(at("TRANSFER", "reference"))
@@ -229,13 +233,15 @@ def in_the_wait(model, words, key, point, what, second):
         operator.does("Reset", *actions, *second)
         proxy.opens()
         proxy.settles()
-        if key in MESSAGES:
+        if is_cleared:
+            # It leads to the first panel.
+            sees("SIGNON", operator, screen(model, "SIGNON", {}))
+            operator.signs_on(model)
+        elif key in MESSAGES:
             if key == "PA1" and point < READ:
                 texts = change(texts)
-            wanted = screen(model, "TRANSFER", shown, texts, MESSAGES[key])
-            if is_cleared:
-                wanted = screen(model, "TRANSFER", shown)
-            sees("the same panel", operator, wanted)
+            sees("the same panel", operator, screen(model, "TRANSFER", shown, texts, MESSAGES[key]))
+        if key in MESSAGES:
             operator.fills_in("TRANSFER", FILLED_IN)
             operator.does("Enter", "Wait(Unlock)")
         sees("DONE", operator, screen(model, "DONE", shown))
