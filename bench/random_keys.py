@@ -15,10 +15,11 @@ with --characters some that the code page lacks; --all is all three.
 
 A line for each example and model has the keys pressed, the turns of the host, the bytes and the
 Read Buffers a turn, the Resets in the wait, the keys that the host dropped, the rules that were
-broken, and how the connections ended: `lost`, if s3270 ended them, else the host's cause, and after
-it which key of the last records it was: a light pen's, a character that the code page lacks, Clear
-or another. A last line sums these up. Of each close but by the first two kinds it prints the rule
-or the cause, the last keys, and the last records up to what the host had received when it closed.
+broken, and how the connections ended: `lost`, if s3270 ended them, `ended-by-application`, or the
+host's cause, and after it which key of the last records it was: a light pen's, a character that
+the code page lacks, Clear or another. A last line sums these up. Of each close by another key than
+the first two kinds it prints the rule or the cause, the last keys, and the last records up to what
+the host had received when it closed.
 The seed makes the keys; what falls into a wait depends on the machine.
 """
 import argparse
@@ -208,16 +209,20 @@ class Player(Operator):
         """Whether there is a new line of a connection's end."""
         log = os.pread(self.host.log.fileno(), 1 << 24, self.play.seen)
         new = log[: log.rfind(b"\n") + 1].decode()
-        end = re.search(r"event=(closed cause=(\w+)|lost).*received=(\d+)", new)
+        end = re.search(
+            r"event=(?:closed cause=(\w+)|(lost|ended-by-application)).*received=(\d+)", new
+        )
         if end:
             self.play.seen += len(new)
             broken = re.search(r"event=rule-broken (rule=\w+ cell=\d+)", new)
-            self.ended(end[2] or "lost", broken and broken[1], self.proxy.heard(int(end[3])))
+            heard = self.proxy.heard(int(end[3]))
+            self.ended(end[1] or end[2], end[1], broken and broken[1], heard)
         return bool(end)
 
-    def ended(self, cause, broken, heard):
-        """Counts an end, and keeps what led to it unless that is Clear in the wait."""
-        if cause == "lost":
+    def ended(self, cause, is_closed, broken, heard):
+        """Counts an end, and keeps what led to it, if the host closed for another than the keys that
+        are known to have it close."""
+        if not is_closed:
             self.play.ends[cause] += 1
             return
         key = last_key(heard)

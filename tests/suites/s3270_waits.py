@@ -25,7 +25,8 @@ THREADS = 8
 
 class Proxy:
     """Hands on what each side of a connection sends, in order, but for a way that it holds back
-    until it is told to pass that."""
+    until it is told to pass that. IAC NOP, which answers nothing and isn't answered, counts for
+    nothing."""
 
     def __init__(self, port):
         self.to, self.change = port, threading.Condition()
@@ -51,6 +52,9 @@ class Proxy:
                 piece = b""
                 with contextlib.suppress(OSError):
                     piece = one.recv(1 << 16)
+                if piece == hosts.NOP:
+                    other.sendall(piece)
+                    continue
                 with self.change:
                     self.came[way] += len(piece)
                     self.change.wait_for(lambda: self.allowed[way] in (None, self.came[way]))
