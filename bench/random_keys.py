@@ -57,7 +57,7 @@ MOVES = ["Tab", "BackTab", "Home", "Up", "Down", "Left", "Right", "Newline", "Le
 EDITS = ["EraseEOF", "EraseInput", "Delete", "Insert", "BackSpace", "Erase", "Dup", "FieldMark"]
 LETTERS = [f"Key({it})" for it in "ABCXYZabcxyz0123456789"] + ["Key(period)"]
 # Characters that code page 037 lacks, of which s3270 sends some by Graphic Escape.
-LACKING = [f'String("{it}")' for it in "\u20ac\u2022\u2264\u2500"]
+LACKING = [f"Key(U+{it})" for it in ("20AC", "2022", "2264", "2500")]
 # What brings an operator to the panels behind the first.
 WORDS = {
     "bank-asks": [
@@ -255,7 +255,8 @@ class Player(Operator):
         while self.play.keys < keys and time.monotonic() < self.ends_at:
             for key in self.next_keys():
                 state = self.presses(key)
-                if key in self.sends or key == "Clear":
+                # CursorSelect sends on some fields.
+                if key in self.sends or key == "Clear" or key == "CursorSelect" and state == "L":
                     self.waits()
                 elif state == "E":
                     self.presses("Reset")
