@@ -154,13 +154,14 @@ class Recorder(Proxy):
 
 
 def last_key(heard):
-    """Which key's record a host closed at: it is among the last that it received."""
-    ups = [it[5:] for way, it in heard if way == "up" and it[:1] == bytes(1)][-3:]
+    """Which key's record a host closed at: it is among the last that it received. Any record with
+    one of the first two kinds closes."""
+    ups = [it[5:] for way, it in heard if way == "up" and it[:1] == bytes(1)]
     if any(ESCAPE in it for it in ups):
         return "beyond-the-code-page"
     if any(it[:1] == PEN for it in ups):
         return "light-pen"
-    return "Clear" if CLEAR in ups else "another"
+    return "Clear" if CLEAR in ups[-1:] else "another"
 
 
 class Player(Operator):
