@@ -56,13 +56,16 @@ def panels(*lus):
     return f"start = 'WORD'\nlus = {list(lus)}\npanel = [{panel}]\n".encode()
 
 
-# Erase/Write, number 0: attributes at 166, 175 and 1840, the cursor at 167.
+# Erase/Write, number 0: attributes at 166, 175 and 1840, the cursor at 167. C1 is that of an input
+# field with MDT on: `serve` marks all fields.
 FIRST_WRITE = bytes.fromhex(
-    "00 00 02 00 00 F5 C3 11 C2 E6 1D 40 11 C2 6F 1D F0 11 5C F0 1D F8 11 C2 E7 13 FF EF"
+    "00 00 02 00 00 F5 C3 11 C2 E6 1D C1 11 C2 6F 1D F0 11 5C F0 1D F8 11 C2 E7 13 FF EF"
 )
-# Write, behind its number: the field's eight cells, of which the returned text is known and no
-# place, become null.
-NEXT_WRITE = bytes.fromhex("F1 C3 11 C2 E7 00 00 00 00 00 00 00 00 11 C2 E7 13 FF EF")
+# The same of a host that relies on the terminal's wait, as the job `host`.
+RELYING_WRITE = FIRST_WRITE.replace(b"\x1d\xc1", b"\x1d\x40")
+# Write, behind its number, that resets MDT: the field's attribute, which turns that on again, and
+# its eight cells, of which the returned text is known and no place, become null.
+NEXT_WRITE = bytes.fromhex("F1 C3 11 C2 E6 1D C1 00 00 00 00 00 00 00 00 11 C2 E7 13 FF EF")
 # Enter, behind its number: an A in the field, the cursor behind it.
 ENTER = bytes.fromhex("7D C2 E8 11 C2 E7 C1 FF EF")
 
@@ -78,6 +81,9 @@ def until(what, holds):
 
 class Client:
     """The terminal's end of a connection. It reads over IAC NOP, as terminals do."""
+
+    # What shows the first panel.
+    first_write = FIRST_WRITE
 
     def __init__(self, port, segment=None, host=LOCALHOST):
         self.socket = socket.socket(socket.AF_INET6 if ":" in host else socket.AF_INET)
@@ -140,7 +146,7 @@ class Client:
         """Is granted an LU, and shown the panel."""
         self.hears(device_type(4, lu))
         self.says(FUNCTIONS_REQUEST)
-        self.hears(FUNCTIONS_IS, FIRST_WRITE)
+        self.hears(FUNCTIONS_IS, self.first_write)
         self.takes_write()
 
     def takes_write(self):

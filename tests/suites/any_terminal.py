@@ -3,10 +3,13 @@
 After a key that sends, a 3278 refuses all keys until the host has written. x3270 and its like have
 a Reset that ends this wait: then fields can be changed, and keys be pressed, before the host's
 write is there. The host must show its panels all the same: of an input field a paint takes nothing
-for granted, and a key that comes while the host works is dropped. The bytes are spelt by GA23-0059
-and RFC 1647."""
+for granted, what counts is what the key returned, and a key that comes while the host works is
+dropped. No key ends the session. The host marks all fields (MDT), so that Enter and each PF key
+return every one. The bytes are spelt by GA23-0059 and RFC 1647."""
 import contextlib
+import dataclasses
 import re
+import tempfile
 
 from harness import hosts, applications
 from harness.case import Checks, Difference, expect
@@ -39,6 +42,8 @@ name = "HELLO"
 text = [{row = 1, col = 2, text = "HELLO"}, {row = 1, col = 9, show = "user", length = 8}]
 keys = {pf3 = "SIGNON"}
 """
+# With this a host relies on the wait.
+OWN = "--own-terminals"
 # The same, but that an application decides on Enter and PA1.
 ASKING = SIGN_ON.replace(b'keys = {enter = "HELLO"}', b'asks = ["enter", "pa1"]')
 
@@ -50,10 +55,11 @@ def spelt(text):
     )
 
 
-# SIGN ON behind an Erase/Write.
+# SIGN ON behind an Erase/Write. C1 is the attribute of an input field with MDT on; a host that
+# relies on the wait writes 40, with MDT off.
 SIGN_ON_CELLS = (
-    "11 40 40 1D F0 E2 C9 C7 D5 40 D6 D5 11 C2 60 1D F0 E4 E2 C5 D9 11 C2 E6 1D 40 11 C2 6F 1D F0"
-    " 11 C3 F0 1D F0 C4 C5 D7 E3 11 C3 F6 1D 40 11 C3 7B 1D F0 11 5C F0 1D F8 11 C2 E7 13"
+    "11 40 40 1D F0 E2 C9 C7 D5 40 D6 D5 11 C2 60 1D F0 E4 E2 C5 D9 11 C2 E6 1D C1 11 C2 6F 1D F0"
+    " 11 C3 F0 1D F0 C4 C5 D7 E3 11 C3 F6 1D C1 11 C3 7B 1D F0 11 5C F0 1D F8 11 C2 E7 13"
 )
 # HELLO written over SIGN ON after Enter with an A in `user`. From 1 on HELLO, a null and an
 # attribute, and the A; nulls where texts and their attributes were; and nulls in each cell of the
@@ -72,21 +78,29 @@ TO_ORIGIN, NO_MESSAGE = " 11 40 40 13", " 11 5C F1 00*14"
 # SIGN ON over HELLO, which has no input field: what differs.
 SIGN_ON_OVER_HELLO = (
     "F1 C3 11 40 C1 E2 C9 C7 D5 40 D6 D5 00"
-    " 11 C2 60 1D F0 E4 E2 C5 D9 11 C2 E6 1D 40 11 C2 6F 1D F0"
-    " 11 C3 F0 1D F0 C4 C5 D7 E3 11 C3 F6 1D 40 11 C3 7B 1D F0 11 C2 E7 13"
+    " 11 C2 60 1D F0 E4 E2 C5 D9 11 C2 E6 1D C1 11 C2 6F 1D F0"
+    " 11 C3 F0 1D F0 C4 C5 D7 E3 11 C3 F6 1D C1 11 C3 7B 1D F0 11 C2 E7 13"
 )
 # The messages of 14 characters, and the write that shows SIGN ON again with one: `user` and `dept` are
-# written whole, with their attributes, and the cursor is at 167. MDT is on if there is a text.
+# written whole, with their attributes, whose MDT is on, and the cursor is at 167.
 REQUIRED_USER = " 11 5C F1 D9 C5 D8 E4 C9 D9 C5 C4 7A 40 A4 A2 85 99"
 KEY_NOT_ACTIVE = " 11 5C F1 D2 C5 E8 40 D5 D6 E3 40 C1 C3 E3 C9 E5 C5"
-AGAIN = "F1 C2 11 C2 E6 1D {} 11 C3 F6 1D 40 00*4{} 11 C2 E7 13"
-NOBODY, AB = "40 00*8", "C1 C1 C2 00*6"
+AGAIN = "F1 C2 11 C2 E6 1D C1 {} 11 C3 F6 1D C1 00*4{} 11 C2 E7 13"
+NOBODY, AB = "00*8", "C1 C2 00*6"
 READ_BUFFER = "F2"
-# What keys send: the AID and, but for PA1 and Clear, the cursor, and each field with MDT on.
-ENTER, ENTER_A, PF3, PA1, CLEAR = "7D C2 E7", "7D C2 E8 11 C2 E7 C1", "F3 40 40", "6C", "6D"
+# What keys send: the AID and, but for PA1 and Clear, the cursor, and each field with MDT on. SIGN
+# ON has two, of which each is returned: its first address, 167 or 247, and the text behind it, if
+# any. HELLO has none.
+NO_DEPT = " 11 C3 F7"
+ENTER, ENTER_A = "7D C2 E7 11 C2 E7" + NO_DEPT, "7D C2 E8 11 C2 E7 C1" + NO_DEPT
+PF3, PA1, CLEAR = "F3 40 40", "6C", "6D"
 # Keys that may be pressed in the wait, when a B has been typed behind the A, by the names that the
 # log has for them.
-SECOND_KEYS = {"enter": "7D C2 E9 11 C2 E7 C1 C2", "pf3": "F3 C2 E9 11 C2 E7 C1 C2", "pa1": PA1}
+SECOND_KEYS = {
+    "enter": "7D C2 E9 11 C2 E7 C1 C2" + NO_DEPT,
+    "pf3": "F3 C2 E9 11 C2 E7 C1 C2" + NO_DEPT,
+    "pa1": PA1,
+}
 
 
 class Waitless(hosts.Client):
@@ -134,17 +148,16 @@ class Waitless(hosts.Client):
 
 
 @contextlib.contextmanager
-def at_the_sign_on(*words, text=SIGN_ON, closed=(), dropped=()):
-    """A client that was shown SIGN ON by `serve` with these words. At the end the log has its LU,
-    this cause of a close, and these dropped keys."""
+def served(*words, text, device="IBM-3278-2", closed=(), dropped=()):
+    """A client that agreed with `serve` with these words, and was sent no panel yet. At the end the
+    log has its LU, this cause of a close, and these dropped keys."""
     with hosts.Server("serve", *words, text=text) as host:
         client = Waitless(host.port)
         client.is_asked()
-        client.asks_for(None)
-        client.hears(hosts.device_type(4, "PNL01"))
+        client.says(hosts.device_type(7, None, device))
+        client.hears(hosts.device_type(4, "PNL01", device))
         client.says(hosts.FUNCTIONS_REQUEST)
         client.hears(hosts.FUNCTIONS_IS)
-        client.is_shown("F5 C3 " + SIGN_ON_CELLS)
         yield client
         events = [
             "connected",
@@ -157,30 +170,37 @@ def at_the_sign_on(*words, text=SIGN_ON, closed=(), dropped=()):
         expect("what the host logs", logged(host), events)
 
 
+@contextlib.contextmanager
+def at_the_sign_on(*words, text=SIGN_ON, **how):
+    """The same, and the client was shown SIGN ON."""
+    cells = SIGN_ON_CELLS.replace("1D C1", "1D 40") if OWN in words else SIGN_ON_CELLS
+    with served(*words, text=text, **how) as client:
+        client.is_shown("F5 C3 " + cells)
+        yield client
+
+
 def logged(host):
-    """The events of the log, without the figures of a session."""
-    return re.findall(r"event=(.*?)(?: duration=.*)?$", host.logged(), re.MULTILINE)
+    """The events of the log but for commands, without the figures of a session."""
+    return re.findall(r"event=(?!command)(.*?)(?: duration=.*)?$", host.logged(), re.MULTILINE)
 
 
-def goes_on(client, shown=HELLO_OVER_SIGN_ON + TO_ORIGIN):
+def goes_on(client, shown=HELLO_OVER_SIGN_ON + TO_ORIGIN, back=SIGN_ON_OVER_HELLO):
     """HELLO is shown over SIGN ON, and PF3 leads back."""
     client.is_shown(shown)
     client.sends(PF3)
-    client.is_shown(SIGN_ON_OVER_HELLO)
+    client.is_shown(back)
 
 
-def screen_read(aid, user, dept="00*4", message="00*14"):
-    """What answers Read Buffer while SIGN ON is shown, with the cursor at 168: each cell, a field's
-    attribute with MDT if it has a text."""
-    user, dept = (
-        f"1D {'C1' if spelt(it).strip(bytes(1)) else '40'} {it} 1D F0" for it in (user, dept)
-    )
+def screen_read(aid, user, dept="00*4", message="00*14", cursor="C2 E8"):
+    """What answers Read Buffer while SIGN ON is shown: each cell, an input field's attribute with
+    MDT on, as it was written."""
+    user, dept = (f"1D C1 {it} 1D F0" for it in (user, dept))
     texts = (
         "1D F0 E2 C9 C7 D5 40 D6 D5 00*152 1D F0 E4 E2 C5 D9 00",
         "00*64 1D F0 C4 C5 D7 E3 00",
         f"00*1588 1D F8 {message} 00*65",
     )
-    return f"{aid} C2 E8 {texts[0]} {user} {texts[1]} {dept} {texts[2]}"
+    return f"{aid} {cursor} {texts[0]} {user} {texts[1]} {dept} {texts[2]}"
 
 
 @check
@@ -210,7 +230,24 @@ def what_is_typed_in_the_wait_never_counts():
     with at_the_sign_on() as client:
         client.sends(ENTER)
         client.is_shown(AGAIN.format(NOBODY, REQUIRED_USER))
-        client.sends("7D C2 EA 11 C2 E7 C1 D5 D5")
+        client.sends("7D C2 EA 11 C2 E7 C1 D5 D5" + NO_DEPT)
+        hello_ann = HELLO_OVER_SIGN_ON.replace("1D F0 C1", "1D F0 C1 D5 D5")
+        client.is_shown(hello_ann + NO_MESSAGE + TO_ORIGIN)
+
+
+@check
+def what_is_typed_in_the_wait_never_counts_for_who_verifies():
+    """The same with --verify: after each Enter the host reads the screen, which has BOB by then. It
+    verifies that no rule was broken, and says HELLO ANN."""
+    with at_the_sign_on("--verify") as client:
+        client.sends(ENTER)
+        client.is_sent(READ_BUFFER, response=1)
+        client.sends(screen_read("7D", "00*8", cursor="C2 E7"))
+        client.is_shown(AGAIN.format(NOBODY, REQUIRED_USER))
+        client.sends("7D C2 EA 11 C2 E7 C1 D5 D5" + NO_DEPT)
+        client.is_sent(READ_BUFFER, response=1)
+        message = REQUIRED_USER.removeprefix(" 11 5C F1 ")
+        client.sends(screen_read("7D", "C2 D6 C2 00*5", message=message, cursor="C2 EA"))
         hello_ann = HELLO_OVER_SIGN_ON.replace("1D F0 C1", "1D F0 C1 D5 D5")
         client.is_shown(hello_ann + NO_MESSAGE + TO_ORIGIN)
 
@@ -245,12 +282,12 @@ def a_key_while_a_read_is_pending_is_dropped():
         with at_the_sign_on(dropped=[name]) as client:
             client.sends(PA1)
             client.is_sent(READ_BUFFER, response=1)
-            client.sends(second, screen_read(second[:2], "C1 C2 00*6"))
+            client.sends(second, screen_read(second[:2], AB))
             client.is_shown(AGAIN.format(AB, KEY_NOT_ACTIVE))
             client.sends(PA1)
             client.is_sent(READ_BUFFER, response=1)
             message = KEY_NOT_ACTIVE.removeprefix(" 11 5C F1 ")
-            client.sends(screen_read("6C", "C1 C2 00*6", message=message))
+            client.sends(screen_read("6C", AB, message=message))
             # The message is there already.
             client.is_shown(AGAIN.format(AB, ""))
 
@@ -296,7 +333,7 @@ def a_question_has_the_first_key_and_what_was_read():
     with at_the_sign_on("--application", application.url, text=ASKING, dropped=["enter"]) as client:
         client.sends(PA1)
         client.is_sent(READ_BUFFER, response=1)
-        client.sends(SECOND_KEYS["enter"], screen_read("7D", "C1 C2 00*6", dept="E7 00*3"))
+        client.sends(SECOND_KEYS["enter"], screen_read("7D", AB, dept="E7 00*3"))
         exchange = application.takes()
         asked = {it: exchange.asked[it] for it in ("key", "cursor", "fields")}
         expect(
@@ -320,7 +357,7 @@ def a_field_is_written_with_its_mdt():
     with at_the_sign_on("--application", application.url, text=ASKING) as client:
         client.sends(ENTER_A)
         application.takes().sends({"fields": {"user": "BOB"}})
-        client.is_shown("F1 C2 11 C2 E6 1D C1 C2 D6 C2 00*5 11 C3 F6 1D 40 00*4 11 C2 E7 13")
+        client.is_shown(AGAIN.format("C2 D6 C2 00*5", ""))
 
 
 @check
@@ -337,26 +374,253 @@ def clear_in_the_hosts_turn_erases():
 
 @check
 def what_no_key_in_the_wait_sends_still_closes():
-    """Clear leaves no attributes, and AID 60 is no key's: with a write or a read pending the host
-    closes, by cause 7."""
-    for text in (CLEAR, "60 C2 E8 11 C2 E7 C1"):
-        for first, command, response in (
-            (ENTER_A, HELLO_OVER_SIGN_ON + TO_ORIGIN, 2), (PA1, READ_BUFFER, 1)
-        ):
-            with at_the_sign_on(closed=["BadInbound number=7"]) as client:
-                client.sends(first)
-                client.is_sent(command, response)
-                client.sends(text)
-                client.hears_the_end()
+    """AID 60 is no key's: with a write or a read pending the host closes, by cause 7."""
+    for first, command, response in (
+        (ENTER_A, HELLO_OVER_SIGN_ON + TO_ORIGIN, 2), (PA1, READ_BUFFER, 1)
+    ):
+        with at_the_sign_on(closed=["BadInbound number=7"]) as client:
+            client.sends(first)
+            client.is_sent(command, response)
+            client.sends("60 C2 E8 11 C2 E7 C1")
+            client.hears_the_end()
 
 
 @check
 def own_terminals_are_relied_on():
-    """With --own-terminals the host writes what it doesn't know alone, and a second key closes, as
-    before."""
-    with at_the_sign_on("--own-terminals") as client:
-        client.sends(ENTER_A)
-        goes_on(client, RELYING + TO_ORIGIN)
-    with at_the_sign_on("--own-terminals", closed=["BadInbound number=7"]) as client:
-        client.sends(ENTER_A, ENTER_A)
+    """With --own-terminals no field is marked, so that Enter returns `user` alone, the host writes
+    what it doesn't know alone, and a second key closes."""
+    enter = ENTER_A.removesuffix(NO_DEPT)
+    with at_the_sign_on(OWN) as client:
+        client.sends(enter)
+        goes_on(client, RELYING + TO_ORIGIN, SIGN_ON_OVER_HELLO.replace("1D C1", "1D 40"))
+    with at_the_sign_on(OWN, closed=["BadInbound number=7"]) as client:
+        client.sends(enter, enter)
         client.hears_the_end()
+
+
+# ---- Clear in the wait, with an application
+
+
+@dataclasses.dataclass(frozen=True)
+class Screens:
+    """A device, panels that ask about Enter and PA1, and what is sent there: the first panel; Enter
+    with an A; by the answer that names the next panel, this over the first, and behind an erase; by
+    the answer TAKEN, the first again, and that behind an erase; what Clear leaves to be read; and a
+    note."""
+
+    device: str
+    text: bytes
+    first: str
+    enter_a: str
+    fields: dict
+    answer: dict
+    following: str
+    following_erased: str
+    taken: str
+    taken_erased: str
+    cleared: str
+    note: str
+
+
+TAKEN = {"fields": {"user": "BOB"}, "message": "TAKEN"}
+MODEL_2 = Screens(
+    device="IBM-3278-2",
+    text=ASKING,
+    first="F5 C3 " + SIGN_ON_CELLS,
+    enter_a=ENTER_A,
+    fields={"user": "A", "dept": ""},
+    answer={"panel": "HELLO"},
+    # An answer's panel is written without a reset of MDT.
+    following=HELLO_OVER_SIGN_ON.replace("F1 C3", "F1 C2") + TO_ORIGIN,
+    following_erased=(
+        "F5 C2 11 40 40 1D F0 C8 C5 D3 D3 D6 11 40 C7 1D F0 C1 11 5C F0 1D F8" + TO_ORIGIN
+    ),
+    taken=AGAIN.format("C2 D6 C2 00*5", " 11 5C F1 E3 C1 D2 C5 D5"),
+    taken_erased="F5 C2 "
+    + SIGN_ON_CELLS.replace("C2 E6 1D C1", "C2 E6 1D C1 C2 D6 C2").replace(
+        "1D F8", "1D F8 E3 C1 D2 C5 D5"
+    ),
+    cleared="6D 40 40 00*1920",
+    note="F1 40 11 5C F1 C8 C5 E8 00*76",
+)
+# 27 by 132: the attributes of `user` are at 132 and 137, its cells at 133 to 136; the last row
+# begins at 3432.
+WIDE = b"""start = "WIDE"
+lus = ["PNL01"]
+[[panel]]
+name = "WIDE"
+model = 5
+otherwise = "HOME"
+text = [{row = 1, col = 2, text = "W"}]
+field = [{name = "user", row = 2, col = 2, length = 4, required = true}]
+asks = ["enter", "pa1"]
+[[panel]]
+name = "BIG"
+model = 5
+otherwise = "HOME"
+text = [{row = 1, col = 2, text = "B"}, {row = 2, col = 2, show = "user", length = 4}]
+[[panel]]
+name = "HOME"
+"""
+WIDE_CELLS = "11 40 40 1D F0 E6 11 C2 C4 1D C1{} 11 C2 C9 1D F0 11 F5 E8 1D F8{} 11 C2 C5 13"
+MODEL_5 = Screens(
+    device="IBM-3278-5",
+    text=WIDE,
+    first="7E C3 " + WIDE_CELLS.format("", ""),
+    enter_a="7D C2 C6 11 C2 C5 C1",
+    fields={"user": "A"},
+    answer={"panel": "BIG"},
+    following="F1 C2 11 40 C1 C2 11 C2 C4 1D F0 C1 00*4" + TO_ORIGIN,
+    following_erased="7E C2 11 40 40 1D F0 C2 11 C2 C4 1D F0 C1 11 F5 E8 1D F8" + TO_ORIGIN,
+    taken="F1 C2 11 C2 C4 1D C1 C2 D6 C2 00 11 F5 E9 E3 C1 D2 C5 D5 11 C2 C5 13",
+    taken_erased="7E C2 " + WIDE_CELLS.format(" C2 D6 C2", " E3 C1 D2 C5 D5"),
+    cleared="6D 40 40 00*3564",
+    note="F1 40 11 F5 E9 C8 C5 E8 00*128",
+)
+
+
+@contextlib.contextmanager
+def asking(screens, *words, dropped=("clear",), keys='"enter", "pa1"'):
+    """An application, and a client that was shown the first panel, which asks about these keys."""
+    application = an_application()
+    text = screens.text.replace(b'"enter", "pa1"', keys.encode())
+    how = {"text": text, "device": screens.device, "dropped": dropped}
+    with served("--application", application.url, *words, **how) as client:
+        client.is_shown(screens.first)
+        yield application, client
+
+
+def is_asked(application, key, fields):
+    """The application is asked about this key, with these texts; its exchange."""
+    exchange = application.takes()
+    asked = {it: exchange.asked[it] for it in ("key", "fields")}
+    expect("the question", asked, {"key": key, "fields": fields})
+    return exchange
+
+
+def is_silent(client):
+    """The host sends nothing but IAC NOP for a while."""
+    client.socket.settimeout(0.2)
+    expect("what the host sends", client.came(1), b"")
+    client.socket.settimeout(SOON)
+    client.is_silent = False
+
+
+@check
+def clear_while_a_question_is_open_has_its_answer_erase():
+    """Whether the answer names a panel, or has the same one shown again. The application isn't
+    asked again."""
+    for screens in (MODEL_2, MODEL_5):
+        for answer, shown in (
+            (screens.answer, screens.following_erased), (TAKEN, screens.taken_erased)
+        ):
+            with asking(screens) as (application, client):
+                client.sends(screens.enter_a)
+                exchange = is_asked(application, "enter", screens.fields)
+                client.sends(CLEAR)
+                exchange.sends(answer)
+                client.is_shown(shown)
+                application.has_no_other()
+                is_silent(client)
+
+
+@check
+def clear_while_an_answer_that_erases_is_under_way_changes_nothing():
+    """Clear came before, too, so that the answer is shown behind an erase. What that wrote is
+    there, whatever was cleared before it: nothing is sent again, and nothing is asked."""
+    for screens in (MODEL_2, MODEL_5):
+        with asking(screens, dropped=["clear", "clear"]) as (application, client):
+            client.sends(screens.enter_a)
+            exchange = is_asked(application, "enter", screens.fields)
+            client.sends(CLEAR)
+            exchange.sends(TAKEN)
+            client.is_sent(screens.taken_erased)
+            client.sends(CLEAR)
+            client.takes()
+            is_silent(client)
+            # The next key asks.
+            client.sends(screens.enter_a)
+            is_asked(application, "enter", screens.fields).sends(screens.answer)
+            # Over TAKEN, which becomes null.
+            row = screens.taken.partition(" E3 C1 D2 C5 D5")[0][-9:]
+            client.is_shown(screens.following.removesuffix(TO_ORIGIN) + row + " 00*5" + TO_ORIGIN)
+
+
+@check
+def clear_while_an_answer_is_under_way_has_it_shown_again():
+    """The answer comes once more, behind an erase, with its panel or with its texts and its
+    message. The application isn't asked again."""
+    for screens in (MODEL_2, MODEL_5):
+        for answer, shown, again in (
+            (screens.answer, screens.following, screens.following_erased),
+            (TAKEN, screens.taken, screens.taken_erased),
+        ):
+            with asking(screens) as (application, client):
+                client.sends(screens.enter_a)
+                is_asked(application, "enter", screens.fields).sends(answer)
+                client.is_sent(shown)
+                client.sends(CLEAR)
+                client.takes()
+                client.is_shown(again)
+                application.has_no_other()
+                is_silent(client)
+
+
+@check
+def clear_while_the_screen_is_read_to_be_verified_has_the_answer_erase():
+    """The key was Enter with an A, which is asked with the texts that it returned."""
+    for screens in (MODEL_2, MODEL_5):
+        with asking(screens, "--verify") as (application, client):
+            client.sends(screens.enter_a)
+            client.is_sent(READ_BUFFER, response=1)
+            client.sends(CLEAR, screens.cleared)
+            is_asked(application, "enter", screens.fields).sends(screens.answer)
+            client.is_shown(screens.following_erased)
+            application.has_no_other()
+
+
+@check
+def clear_while_the_screen_is_read_after_pa_counts_in_its_place():
+    """The panel that was read is gone. Clear leads nowhere: the first panel comes, fresh, and PA1
+    is never asked. A panel that asks about Clear has that asked, once, without texts."""
+    for screens in (MODEL_2, MODEL_5):
+        with asking(screens, dropped=()) as (application, client):
+            client.sends(PA1)
+            client.is_sent(READ_BUFFER, response=1)
+            client.sends(CLEAR, screens.cleared)
+            client.is_shown(screens.first)
+            application.has_no_other()
+        with asking(screens, dropped=(), keys='"clear", "pa1"') as (application, client):
+            client.sends(PA1)
+            client.is_sent(READ_BUFFER, response=1)
+            client.sends(CLEAR, screens.cleared)
+            is_asked(application, "clear", {}).sends({"message": "TAKEN"})
+            client.is_shown(screens.taken_erased.replace(" C2 D6 C2", ""))
+            application.has_no_other()
+
+
+@check
+def pa_and_clear_in_one_piece_are_clear():
+    """The host reads nothing, and asks about Clear alone."""
+    for screens in (MODEL_2, MODEL_5):
+        with asking(screens, dropped=(), keys='"clear", "pa1"') as (application, client):
+            client.sends(PA1, CLEAR)
+            is_asked(application, "clear", {}).sends({"message": "TAKEN"})
+            client.is_shown(screens.taken_erased.replace(" C2 D6 C2", ""))
+            application.has_no_other()
+
+
+@check
+def clear_while_a_note_is_under_way_has_the_answer_erase():
+    """The note was sent before Enter came, and is answered behind Clear."""
+    for screens in (MODEL_2, MODEL_5):
+        with tempfile.TemporaryDirectory() as folder, asking(
+            screens, "--control", f"{folder}/control"
+        ) as (application, client):
+            hosts.run(["tell", f"{folder}/control", "note", "PNL01", "HEY"], b"")
+            client.is_sent(screens.note)
+            client.sends(screens.enter_a, CLEAR)
+            client.takes()
+            is_asked(application, "enter", screens.fields).sends(screens.answer)
+            client.is_shown(screens.following_erased)
+            application.has_no_other()

@@ -11,6 +11,7 @@ The steps of a case, which begins with nothing known:
     fact ADDR FACT BYTES     the fact of the field whose attribute is there, and the text that it
                              speaks of, unless that isn't said; `none`: there is none
     known ADDR CELL          a cell, ? if it isn't known
+    settled BOOL             whether the text of each field is known, but for its nulls
     again                    the wanted screen: each known cell with MDT off, nulls elsewhere, and
                              the cursor in the first cell
     want, put, aim           make the wanted screen as the probe's lines do
@@ -89,6 +90,9 @@ class Belief:
 
     def do_known(self, line: Line, words: list[str]) -> None:
         same(words[1], self.place(line, words)[1].replace("none", "?"), line.at)
+
+    def do_settled(self, line: Line, words: list[str]) -> None:
+        same(line.text, f"settled {self.ask('settled', line)}", line.at)
 
     def do_again(self, line: Line, words: list[str]) -> None:
         known = cells_of(parts_of(self.probe.ask("show", line.at))["belief"])

@@ -380,20 +380,18 @@ def tell_needs_a_service():
 # As hosts.FIRST_WRITE, NEXT_WRITE and ENTER, for a field in row 5 in place of row 3: the attributes
 # at 326 and 335, the field at 327, the cursor behind an A at 328 (addresses of 12 bits, GA23-0059).
 NEW_FIRST_WRITE = bytes.fromhex(
-    "00 00 02 00 00 F5 C3 11 C5 C6 1D 40 11 C5 4F 1D F0 11 5C F0 1D F8 11 C5 C7 13 FF EF"
+    "00 00 02 00 00 F5 C3 11 C5 C6 1D C1 11 C5 4F 1D F0 11 5C F0 1D F8 11 C5 C7 13 FF EF"
 )
-NEW_NEXT_WRITE = bytes.fromhex("F1 C3 11 C5 C7 00 00 00 00 00 00 00 00 11 C5 C7 13 FF EF")
+NEW_NEXT_WRITE = bytes.fromhex(
+    "F1 C3 11 C5 C6 1D C1 00 00 00 00 00 00 00 00 11 C5 C7 13 FF EF"
+)
 NEW_ENTER = bytes.fromhex("7D C5 C8 11 C5 C7 C1 FF EF")
 
 
 class NewClient(Client):
     """A client that is shown the new panel."""
 
-    def is_bound(self, lu):
-        self.hears(device_type(4, lu))
-        self.says(FUNCTIONS_REQUEST)
-        self.hears(FUNCTIONS_IS, NEW_FIRST_WRITE)
-        self.takes_write()
+    first_write = NEW_FIRST_WRITE
 
     def enters(self):
         self.says(bytes(5), NEW_ENTER)

@@ -22,6 +22,7 @@ The steps of a case:
     fields N:ATTR+LENGTH:required ..; size ROWS COLUMNS      `free` and `value` beside `required`
     shown INDEX MODEL INDEX  in a session of this model the panel is shown as the other one
     set FIELD BYTES; value FIELD BYTES; copy; swap      values of fields, and a copy of them
+    mark                     all fields of all panels are marked
 """
 import dataclasses
 import functools
@@ -179,7 +180,7 @@ class Panels:
     def silent(self, line: Line, words: list[str]) -> None:
         same([], self.ask(line.text, line), line.at)
 
-    do_swap = silent
+    do_swap = do_mark = silent
 
 
 def said(answer: list[str]) -> list[str]:

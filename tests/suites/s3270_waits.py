@@ -2,7 +2,8 @@
 point of the wait.
 
 The expected screens are what examples/bank.toml has at its rows and columns, that is those of an
-operator who waits. Only PA1 is answered by what is on the screen when the host reads it. Nothing
+operator who waits, whether or not the host verifies the terminal. Only PA1 is answered by what is on
+the screen when the host reads it; if that was cleared before, by what Clear leads to. Nothing
 depends on time: what comes is handed on when the operator has done what is to be done."""
 import contextlib
 import functools
@@ -24,7 +25,8 @@ THREADS = 8
 
 class Proxy:
     """Hands on what each side of a connection sends, in order, but for a way that it holds back
-    until it is told to pass that."""
+    until it is told to pass that. IAC NOP, which answers nothing and isn't answered, counts for
+    nothing."""
 
     def __init__(self, port):
         self.to, self.change = port, threading.Condition()
@@ -50,6 +52,9 @@ class Proxy:
                 piece = b""
                 with contextlib.suppress(OSError):
                     piece = one.recv(1 << 16)
+                if piece == hosts.NOP:
+                    other.sendall(piece)
+                    continue
                 with self.change:
                     self.came[way] += len(piece)
                     self.change.wait_for(lambda: self.allowed[way] in (None, self.came[way]))
@@ -101,6 +106,12 @@ class Operator(S3270):
         """Types the texts into these fields of a panel; the cursor ends behind the last."""
         for name, text in texts.items():
             self.does(at(panel, name), "EraseEOF", f'String("{text}")')
+
+    def signs_on(self, model):
+        """Signs on, and is shown TRANSFER."""
+        self.fills_in("SIGNON", TELLER)
+        self.does("Enter", "Wait(Unlock)")
+        sees("TRANSFER", self, screen(model, "TRANSFER", TELLER))
 
 
 # ---- the screens of the bank
@@ -184,34 +195,37 @@ DONE_IN_THE_WAIT = {
 }
 # Behind the first of these a second key may be pressed, which is dropped.
 IN_THE_WAIT = [(it, ()) for it in DONE_IN_THE_WAIT] + [
-    ("types into an empty field", (it,)) for it in ("Enter", "PF(3)", "PA(1)")
+    ("types into an empty field", (it,)) for it in ("Enter", "PF(3)", "PA(1)", "Clear")
 ]
-# The first key, which fields are empty then, and at how many points of its wait something is done:
-# at once; when the host has its record, and what the host sends is under way; and of a key for
-# which the host reads the screen when that read is there, and when its answer is.
+# The first key, which fields are empty then, and whether a host that doesn't verify reads the screen
+# before it answers.
 KEYS = {
-    "Enter": ("Enter", (), 2),
-    "Enter, without an amount,": ("Enter", ("amount",), 2),
-    "PA1": ("PA(1)", (), 4),
+    "Enter": ("Enter", (), False),
+    "Enter, without an amount,": ("Enter", ("amount",), False),
+    "PA1": ("PA(1)", (), True),
 }
-# From this point on the screen is read.
-READ = 2
+# The points of a wait: at once; when the host has the key's record, and what the host sends is under
+# way; and of a key for which the host reads the screen when that read is there, and when its answer
+# is. From the third on the screen is read.
+POINTS, POINTS_WITH_READ, READ = 2, 4, 2
+# The models whose terminals are verified, too.
+VERIFIED = (2, 5)
 MESSAGES = {"Enter, without an amount,": "REQUIRED: amount", "PA1": "KEY NOT ACTIVE"}
 
 
-def in_the_wait(model, key, point, what, second):
+def in_the_wait(model, words, key, point, what, second):
     """An operator who presses Reset at a point of the wait, and then changes fields and presses a
     key, sees what one who waits sees."""
     action, empty, _ = KEYS[key]
     actions, change = DONE_IN_THE_WAIT[what]
     shown = {**TELLER, **FILLED_IN}
-    with hosts.Server("serve", text=bank_for(model)) as host, Operator(
+    # Clear counts in place of a PA key if the screen isn't read yet: what would be read is gone.
+    is_cleared = key == "PA1" and second == ("Clear",) and point < READ
+    with hosts.Server("serve", *words, text=bank_for(model)) as host, Operator(
         model, Proxy(host.port)
     ) as operator:
         proxy = operator.proxy
-        operator.fills_in("SIGNON", TELLER)
-        operator.does("Enter", "Wait(Unlock)")
-        sees("TRANSFER", operator, screen(model, "TRANSFER", shown))
+        operator.signs_on(model)
         texts = {**FILLED_IN, **dict.fromkeys(empty, "")}
         operator.fills_in("TRANSFER", texts)
         operator.does(at("TRANSFER", "reference"))
@@ -223,29 +237,37 @@ def in_the_wait(model, key, point, what, second):
         operator.does("Reset", *actions, *second)
         proxy.opens()
         proxy.settles()
-        if key in MESSAGES:
+        if is_cleared:
+            # It leads to the first panel.
+            sees("SIGNON", operator, screen(model, "SIGNON", {}))
+            operator.signs_on(model)
+        elif key in MESSAGES:
             if key == "PA1" and point < READ:
                 texts = change(texts)
             sees("the same panel", operator, screen(model, "TRANSFER", shown, texts, MESSAGES[key]))
+        if key in MESSAGES:
             operator.fills_in("TRANSFER", FILLED_IN)
             operator.does("Enter", "Wait(Unlock)")
         sees("DONE", operator, screen(model, "DONE", shown))
         operator.does("Enter", "Wait(Unlock)")
         sees("the next panel", operator, screen(model, "TRANSFER", shown))
         dropped = host.logged().count("event=key-dropped")
-        expect("keys that the log says were dropped", dropped, len(second))
+        expect("keys that the log says were dropped", dropped, len(second) - is_cleared)
 
 
 def cases():
     """The dialogues, if s3270 is installed."""
     is_wanted("s3270")
-    for model, (key, (_, _, points)), (what, second) in itertools.product(
-        SIZES, KEYS.items(), IN_THE_WAIT
+    for model, words, (key, (_, _, is_read)), (what, second) in itertools.product(
+        SIZES, ((), ("--verify",)), KEYS.items(), IN_THE_WAIT
     ):
-        for point in range(points):
+        if words and model not in VERIFIED:
+            continue
+        for point in range(POINTS_WITH_READ if is_read or words else POINTS):
             name = (
-                f"model {model}: {key} is pressed; at point {point} an operator {what}"
+                " ".join(("model", str(model), *words))
+                + f": {key} is pressed; at point {point} an operator {what}"
                 + "".join(f", then presses {it}" for it in second)
             )
-            run = functools.partial(in_the_wait, model, key, point, what, second)
+            run = functools.partial(in_the_wait, model, words, key, point, what, second)
             yield Case(name, Place(relative(__file__), in_the_wait.__code__.co_firstlineno), run)

@@ -11,6 +11,7 @@ from harness.hosts import (
     Client,
     DO_OTHER,
     NOP,
+    RELYING_WRITE,
     Server,
     WONT_OTHER,
     event,
@@ -75,7 +76,10 @@ def it_goes_on_at_once_where_something_was_done():
     it left."""
     for words in (["serve"], ["host", "--turns", "1000000"]):
         with Server(*words) as host:
-            client = host.client().signs_on("PNL01")
+            client = host.client()
+            if words[0] == "host":
+                client.first_write = RELYING_WRITE
+            client.signs_on("PNL01")
             # It waits on behind the answer, until this program has the processor again; so the
             # least of some counts.
             counts = (waits_until_answered(host, client) for _ in range(20))

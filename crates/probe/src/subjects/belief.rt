@@ -84,6 +84,7 @@ impl Subject for Painter {
             "paint" => self.paint(answer),
             "doubt" => self.belief.doubt(),
             "size" => answer.line(&self.belief.size()),
+            "settled" => answer.line(&self.belief.is_settled()),
             "at" => put_place(answer, &self.belief, words.number()),
             "wanted" => put_wanted(answer, &self.wanted),
             _ => change(words, &mut self.wanted, word),

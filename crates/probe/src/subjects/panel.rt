@@ -5,6 +5,7 @@
 //! wanted BOOL MESSAGE  the screen that it asks for with its fields kept or not: fresh, plain, key-not-active,
 //!                      required N; if they are kept, also what it is once their values are put
 //! next BYTE            where the key of an AID leads
+//! mark                 marks all fields of all panels
 //! copy; swap           makes a copy of the values; exchanges them and the copy
 //! ```
 ghost use Rattle.std.specs.Prelude.{◌≡◌, true};
@@ -99,6 +100,13 @@ impl Panels {
         Ok(self.copy = self.values.clone()?)
     }
 
+    fn mark(&mut self, words: &mut Words<'_>) {
+        match &mut self.set {
+            Some(set) => set.mark_fields(),
+            None => words.fail(Fault::Line),
+        }
+    }
+
     /// Executes a command on the panel of the index, if there is one.
     fn take_panel(&mut self, word: &str, words: &mut Words<'_>, answer: &mut Answer) {
         if word == "panel" {
@@ -128,6 +136,7 @@ impl Subject for Panels {
             "set" => answer.done(set_value(words, &mut self.values)),
             "copy" => answer.done(self.copy()),
             "swap" => mem::swap(&mut self.values, &mut self.copy),
+            "mark" => self.mark(words),
             "value" => answer.line(&self.values.get(words.number())),
             _ => self.take_panel(word, words, answer),
         }
