@@ -565,7 +565,7 @@ def a_tty_that_is_too_small_is_told():
 
 def rows_of(screen) -> dict[str, list[str]]:
     """The actions and their keys in the table of keys."""
-    rows, columns = {}, ((1, 26), (27, 52), (53, 80))
+    rows, columns = {}, ((1, 24), (24, 51), (51, 80))
     for number in range(2, 14):
         line = screen.line(number)
         for start, end in columns:
@@ -677,7 +677,7 @@ def backspace_erases():
         operator.has_status("connected", "X", "PROTECTED", "PNL01", "001/003")
         operator.types(RESET, TAB, "Z", BACKSPACE, BACKSPACE, ENTER)
         # Number 0: Enter, the cursor at 4, and the field from 4 on.
-        host.hears(bytes.fromhex("00 00 00 00 00 7D 40 C4 11 40 C4 C1 C3 FF EF"))
+        host.hears(bytes.fromhex("00 00 00 00 00 7D 40 C4 11 40 C4 C3 FF EF"))
 
 
 @check
@@ -755,17 +755,23 @@ def a_refused_key_rings():
         with Host() as host, Operator(*quiet, host.port, rows=rows) as operator:
             host.binds()
             operator.until("the form is shown", lambda screen: screen.line(0) == " HI")
-            operator.types(LEFT, "C")
+
+            def rings(*typed, bells, operator=operator, quiet=quiet):
+                operator.types(*typed)
+                if not quiet:
+                    operator.until(f"bell {bells}", lambda screen: screen.bells == bells)
+
+            rings(LEFT, "C", bells=1)
             operator.has_status("connected", "X", "PROTECTED", "PNL01", "001/004")
-            operator.types("D")
+            rings("D", bells=2)
             operator.has_status("connected", "X", "PROTECTED", "PNL01", "001/004")
             operator.types(RESET)
             if rows == 24:
                 operator.until("the screen alone", lambda screen: screen.text() == " HI")
             # Ctrl-A, Ctrl-Left, and é in Latin-1.
-            operator.types(TAB, b"\x01", b"\x1b[1;5D", b"\xe9")
-            if not quiet:
-                operator.until("the bell", lambda screen: screen.bells >= 5)
+            rings(TAB, b"\x01", bells=3)
+            rings(b"\x1b[1;5D", bells=4)
+            rings(b"\xe9", bells=5)
             operator.types("A")
             operator.until("a character is typed", lambda screen: screen.line(0) == " HI A")
             expect("how often the bell rang", operator.screen.bells, 0 if quiet else 5)
@@ -821,13 +827,13 @@ def a_paste_ends_at_the_last_field():
         operator.until("the text", lambda screen: screen.line(0) == " HI ABCDE  12")
         expect("how often the bell rang", operator.screen.bells, 0)
         operator.types(HOME, PASTE + b"1" * 5000 + PASTED)
-        operator.until("the text", lambda screen: screen.line(0) == " HI 11111 1111")
+        operator.until("the text", lambda screen: screen.line(0) == " HI 111111 1111")
         operator.has_status("connected", "X", "PASTE", "CUT", "PNL01", "001/005")
         expect("how often the bell rang", operator.screen.bells, 1)
         operator.types(b"A")
         operator.has_status("connected", "PNL01", "001/006")
-        operator.types(PASTE + b"\x1bOP\rB\x03\x1d" + PASTED, HOME)
-        operator.until("the text", lambda screen: screen.line(0) == " HI B1111 1111")
+        operator.types(PASTE + b"\x1bOPB\x03\x1d\r" + PASTED)
+        operator.until("the text", lambda screen: screen.line(0) == " HI AB1111 1111")
         host.hears_nothing(0.1)
         operator.types(QUIT)
         operator.ends(0)

@@ -1,16 +1,15 @@
 //! A live terminal: the bytes of an operator's tty and of a host come in, and what the tty is to be written goes out.
-ghost use Rattle.std.specs.Prelude.{◌≡◌, ◌<◌, ◌≤◌, ◌&&◌, ◌||◌, ◌+◌, not, [], None, IfOk, OnErr, OnOk, drop, length, map, min, string_bytes};
+ghost use Rattle.std.specs.Prelude.{◌≡◌, ◌<◌, ◌≤◌, [], None, IfOk, OnErr, OnOk, drop, length, map, string_bytes};
 ghost use Rattle.term_core.specs.Presses.{after_key, answer_to_key};
 ghost use Rattle.term_core.specs.Room.{out_room};
 ghost use Rattle.term_core.specs.State.{phase_of, connected, lost, model_of};
-ghost use Rattle.tty.specs.KeyReading.{after_pause, keystrokes_of, read_byte};
+ghost use Rattle.tty.specs.KeyReading.{read_byte};
 ghost use Rattle.tty.specs.Painting.{notice_of, page_of};
 ghost use Rattle.tty.specs.TtyRoom.{too_small_text};
-ghost use Rattle.operate.specs.Live.{Draws, DrawsIf, Hears, IsOutOfMemory, PausesIf, ReadsTyped, Resumes, Sounds, TakesTurn, Types, after_action, after_help, after_key_at, after_keystroke, after_keystrokes, after_maybe, after_meaning, after_other, after_pasted, after_press, after_stroke, after_time, after_typed, after_typing, all_pressed, all_typed, asks_after, connects, cursor_of, cut_off, cut_trouble, can_edit, erase_keys, first_seat, follows_attribute, has_bytes, held, is_connected, is_enter, is_idle, is_keys, is_pause, is_quit, is_refused, is_reset, is_reset_action, is_status, is_unlocked, is_wait, lack_at, lu_place, most_millis, page_at, pasted_control, pasted_key, pasting, picture_at, resized, rung, screen_at, seconds_of, status_place, told, told_if, trouble_after, waits};
+ghost use Rattle.operate.specs.Live.{Draws, DrawsIf, Hears, IsOutOfMemory, PausesIf, ReadsTyped, Resumes, Sounds, TakesTurn, Types, after_action, after_help, after_key_at, after_keystroke, after_keystrokes, after_maybe, after_meaning, after_other, after_pasted, after_press, after_stroke, after_time, after_typed, after_typing, all_pressed, all_typed, asks_after, connects, cursor_of, cut_off, cut_trouble, can_edit, erase_keys, first_seat, follows_attribute, has_bytes, held, is_connected, is_enter, is_idle, is_keys, is_pause, is_quit, is_refused, is_reset, is_reset_action, is_status, is_unlocked, is_wait, lack_at, lu_place, page_at, pasted_control, pasted_key, pasting, picture_at, resized, rung, screen_at, seconds_of, status_place, told, trouble_after, waits};
 ghost use Rattle.std.specs.Option.{option_to_list};
 ghost use Rattle.std.specs.Prelude.{Option};
 ghost use Rattle.keyboard.specs.Places.{is_free_at};
-ghost use Rattle.datastream.specs.Screen.{is_char_at, protects};
 ghost use Rattle.codes3270.specs.Size.{cells_in};
 
 use crate::typed::{MOST_AHEAD, Paste, Typeahead, Typed};

@@ -35,7 +35,7 @@ pub(crate) struct Typeahead {
 }
 
 impl marker::Model for Typeahead {
-    ghost use Rattle.std.specs.Prelude.{ℕ, List, take, ◌≤◌};
+    ghost use Rattle.std.specs.Prelude.{List, take, ◌≤◌};
     ghost use Rattle.operate.specs.declared.typed.Typed.{Typed};
 
     ghost Value = { List Typed };

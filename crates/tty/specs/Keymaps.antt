@@ -1,5 +1,5 @@
 -- Keymaps: what an operator's keys do (our profile).
-use Rattle.std.specs.Prelude.{ℕ, ◌+◌, ◌==◌, List, [], ◌∷◌, Option, Some, None, if◌then◌else◌, get_or}
+use Rattle.std.specs.Prelude.{ℕ, ◌+◌, ◌==◌, List, Option, Some, None, get_or}
 use Rattle.std.specs.List.{position}
 use Rattle.tty.specs.declared.action.Action.{Action}
 use Rattle.tty.specs.declared.action.Action.TheVariants.{Nothing}

@@ -2,7 +2,7 @@
 -- and Page Down, with which c3270 scrolls through its old screens, are PF7 and PF8, as in x3270's keymap `rlx`. End, with
 -- which c3270 moves the cursor, is Erase EOF, as in x3270's keymap `ncd`, and so are Shift-End and Ctrl-End, as in `rlx`
 -- and `ibm-xterm`. Alt and the digits' characters with Shift on a US keyboard are PF13 to PF24, as Shift-F1 to Shift-F12.
-use Rattle.std.specs.Prelude.{ℕ, ◌+◌, ◌-◌, ◌==◌, nat_lt, List, [], ◌∷◌, Option, Some, None, if◌then◌else◌, codes}
+use Rattle.std.specs.Prelude.{ℕ, ◌+◌, ◌-◌, ◌==◌, nat_lt, List, Option, Some, None, if◌then◌else◌, codes}
 use Rattle.std.specs.Int.{is_in_range}
 use Rattle.std.specs.List.{position}
 use Rattle.keyboard.specs.declared.key.Key.TheVariants.{Tab, BackTab, NewLine, Home, CursorUp, CursorDown, CursorLeft, CursorRight, Backspace, Insert, Delete, EraseEof, EraseInput, Reset, Enter, Pf, Pa, Clear}

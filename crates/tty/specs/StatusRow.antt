@@ -1,7 +1,7 @@
 -- The status row (our profile). From column 0 on it has the connection, from 16 the reason, from 29 the seconds of the
 -- wait, from 32 the signs of insert mode and of held keys, from 40 the LU, from 55 which key shows the table of keys, and
 -- from 72 to 78 row and column of the cursor, each from 1 on.
-use Rattle.std.specs.Prelude.{ℕ, ◌==◌, ◌+◌, ◌/◌, ◌%◌, ◌-◌, Bool, true, false, List, [], ◌∷◌, ◌++◌, map, Option, Some, None, if◌then◌else◌, codes, slice_index_or, nat_lt, ◌&&◌}
+use Rattle.std.specs.Prelude.{ℕ, ◌==◌, ◌+◌, ◌/◌, ◌%◌, ◌-◌, Bool, true, false, List, [], ◌∷◌, ◌++◌, map, Option, Some, if◌then◌else◌, codes, slice_index_or, nat_lt, ◌&&◌}
 use Rattle.std.specs.List.{range_with_len}
 use Rattle.keyboard.specs.declared.key.Lock.{Lock}
 use Rattle.keyboard.specs.declared.key.Lock.TheVariants.{Free, Wait, Error}

@@ -65,7 +65,7 @@ fn line_of_three(
     let first = entry(keymap, alloc, first)?;
     let second = entry(keymap, alloc, second)?;
     let third = entry(keymap, alloc, third)?;
-    format!(in alloc; " {first:<25} {second:<25} {third}")
+    format!(in alloc; " {first:<22} {second:<27}{third}")
 }
 
 /// A line of two actions and their keys.

@@ -1,7 +1,6 @@
 //! Keymaps: what an operator's keys do.
 ghost use Rattle.std.specs.Prelude.{◌≡◌, ◌<◌, ◌==◌, [], IfSome, length, position};
-ghost use Rattle.tty.specs.Keymaps.{action_of, bound_at, key_number};
-ghost use Rattle.tty.specs.StandardKeys.{standard};
+ghost use Rattle.tty.specs.Keymaps.{action_of, key_number};
 
 use crate::action::Action;
 use crate::action_names::action_named;

@@ -1,5 +1,5 @@
 //! What each key does unless a keymap says otherwise.
-ghost use Rattle.std.specs.Prelude.{◌≡◌, ◌==◌, ◌<◌, IfSome, length, position};
+ghost use Rattle.std.specs.Prelude.{◌≡◌, ◌==◌, ◌<◌, IfSome, position};
 ghost use Rattle.tty.specs.StandardKeys.{of_alt, of_control, of_named, of_shifted, pa, pf, shifted_digits, standard};
 
 use crate::action::Action;
