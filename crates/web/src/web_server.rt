@@ -219,9 +219,7 @@ impl WebServer {
 
     /// Takes a client, unless there are 16 without a session of which none makes room, or memory is refused.
     fn admit<L: EventLog>(&mut self, mut socket: TcpStream, peer: SocketAddr, log: &mut L) {
-        if self.visitors.len() >= MOST_VISITORS {
-            self.make_room(log);
-        }
+        self.make_room(log);
         if self.visitors.len() >= MOST_VISITORS {
             return log.note(&WebEvent::TurnedAway(peer));
         }
@@ -232,8 +230,11 @@ impl WebServer {
         let _ = self.visitors.push(visitor);
     }
 
-    /// Drops the client without a session that makes room for a new one, if one does.
+    /// If there are 16 clients without a session, drops the one that makes room for a new one, if one does.
     fn make_room<L: EventLog>(&mut self, log: &mut L) {
+        if self.visitors.len() < MOST_VISITORS {
+            return;
+        }
         if let Some(place) = leaving_place(self.visitors.as_slice(), self.now) {
             let visitor = self.visitors.remove(place);
             log.note(&WebEvent::TurnedAway(visitor.peer));
