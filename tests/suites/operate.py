@@ -614,7 +614,7 @@ AIDS = {"Enter": 0x7D, "Clear": 0x6D, "PA(1)": 0x6C, "PA(2)": 0x6E, "PA(3)": 0x6
     )
 }
 EDITS = {
-    "Tab": (" HI AB", "001/013"), "BackTab": (" HI AB", "001/005"),
+    "Tab": (" HI AB", "001/012"), "BackTab": (" HI AB", "001/005"),
     "Newline": (" HI AB", "001/005"), "Home": (" HI AB", "001/005"), "Up": (" HI AB", "024/006"),
     "Down": (" HI AB", "002/006"), "Left": (" HI AB", "001/005"), "Right": (" HI AB", "001/007"),
     "Erase": (" HI B", "001/005"), "BackSpace": (" HI AB", "001/005"), "Delete": (" HI A", "001/006"),

@@ -18,9 +18,9 @@ use clap::{Arg, ArgAction, ArgMatches, Command};
 use codes3270::Model;
 use host_core::Terminals;
 use jobs::{
-    ApplicationChoice, CommandWords, ControlChoice, EscapeTime, HelpTopic, HostEndpoint, Job, Operand,
-    OperateOptions, Port, ReplyTime, Seconds, Service, ServicePort, SessionCount, TimeLimits,
-    TtySize, Turns, WebOptions, address_of, model_of,
+    ApplicationChoice, CommandWords, ControlChoice, EscapeTime, HelpTopic, HostEndpoint, Job,
+    Operand, OperateOptions, Port, ReplyTime, Seconds, Service, ServicePort, SessionCount,
+    TimeLimits, TtySize, Turns, WebOptions, address_of, model_of,
 };
 use std::alloc::{AllocError, Global};
 use std::net::{IpAddr, Ipv4Addr};

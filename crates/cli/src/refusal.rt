@@ -10,8 +10,8 @@ use crate::job_table::{ValueKind, name_of, options_of};
 use clap::ArgMatches;
 use clap::error::ErrorKind;
 use jobs::{
-    EscapeTime, HelpTopic, HostEndpoint, Port, ReplyTime, Seconds, ServicePort, SessionCount, Sink, TtySize,
-    Turns, address_of, model_of,
+    EscapeTime, HelpTopic, HostEndpoint, Port, ReplyTime, Seconds, ServicePort, SessionCount, Sink,
+    TtySize, Turns, address_of, model_of,
 };
 use std::alloc::Global;
 use std::fmt;

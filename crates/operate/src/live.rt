@@ -1,5 +1,5 @@
 //! A live terminal: the bytes of an operator's tty and of a host come in, and what the tty is to be written goes out.
-ghost use Rattle.std.specs.Prelude.{◌≡◌, ◌<◌, ◌≤◌, [], None, IfOk, OnErr, OnOk, drop, length, map, string_bytes};
+ghost use Rattle.std.specs.Prelude.{◌≡◌, ◌<◌, ◌≤◌, [], None, false, IfOk, OnErr, OnOk, drop, length, map, string_bytes};
 ghost use Rattle.term_core.specs.Presses.{after_key, answer_to_key};
 ghost use Rattle.term_core.specs.Room.{out_room};
 ghost use Rattle.term_core.specs.State.{phase_of, connected, lost, model_of};
@@ -382,7 +382,13 @@ impl LiveTerminal {
         model: Model,
         size: TtySize,
         colors: Colors,
-    ) -> Result<LiveTerminal, AllocError> {
+    ) -> Result<LiveTerminal, AllocError>
+        ensures seat { IfOk result (λ live. live.seat ≡ first_seat live.seat.settings model size colors) }
+        ensures keys { IfOk result (λ live. live.seat.settings.keymap ≡ []) }
+        ensures escape { IfOk result (λ live. live.seat.settings.escape ≡ 0) }
+        ensures bell { IfOk result (λ live. live.seat.settings.quiet ≡ false) }
+        ensures kept { IfOk result (λ live. live.kept ≡ []) }
+    {
         let keymap = Keymap::standard(alloc);
         let page = keymap.page(alloc)?;
         let settings = Settings {
@@ -423,7 +429,16 @@ impl LiveTerminal {
     }
 
     /// Uses this keymap from now on. An error if memory is refused for the table of keys; then nothing changes.
-    pub fn use_keymap(&mut self, alloc: Global, keymap: Keymap) -> Result<(), AllocError> {
+    pub fn use_keymap(&mut self, alloc: Global, keymap: Keymap) -> Result<(), AllocError>
+        ensures seat { OnOk result (self.new.seat ≡ record self.old.seat {
+          settings = record self.old.seat.settings {
+            keymap = keymap;
+            page = self.new.seat.settings.page;
+          };
+        }) }
+        ensures kept { self.new.kept ≡ self.old.kept }
+        ensures unchanged { OnErr result (self.new ≡ self.old) }
+    {
         self.settings.page = keymap.page(alloc)?;
         self.settings.keymap = keymap;
         Ok(())
