@@ -1,18 +1,12 @@
 -- The panels of a host that doesn't rely on the wait have MDT on in each input field.
-use Rattle.std.proofs.Common.{◌≡◌, ℕ, Bool, true, Option, Some, None, unwrap_or, refl, ap, sym, subst, ◌∙◌}
+use Rattle.std.proofs.Common.{◌≡◌, Option, Some, None, unwrap_or, refl, ap, ◌∙◌}
 use Rattle.std.specs.Prelude.{slice_get}
 use Rattle.panels.specs.Marked.{MarkedSetsReturnInput, PanelsWithoutFieldsReturnInput, marked_set}
 use Rattle.panels.specs.Panel.{PanelParts, Panels}
 use Rattle.panels.specs.Screen.{screen_of}
-use Rattle.panels.specs.Screen.{Values}
-use Rattle.panels.specs.declared.message.Message.{Message}
 use Rattle.shadow.specs.Settled.{WantsInputReturned}
 use Rattle.host_core.specs.Application.{application_of, no_panel}
 use Rattle.host_core.specs.Laws.{MarksInput, ServedIsMarked}
-use Rattle.host_core.specs.Session.{unheard_of}
-use Rattle.host_core.specs.State.{served_by}
-use Rattle.host_core.specs.Takes.{may_have_changed}
-use Rattle.host_core.specs.declared.terminals.Terminals.{Terminals}
 use Rattle.host_core.specs.declared.terminals.Terminals.TheVariants.{Waiting, Any, Verified}
 
 marked_input : MarkedSetsReturnInput → PanelsWithoutFieldsReturnInput → (set : Panels) → marked_set set ≡ set → MarksInput (application_of set)

@@ -4,11 +4,10 @@ use Rattle.std.proofs.lemmas.List.{take_all, length-drop}
 use Rattle.codes3270.specs.Size.{ScreenSize}
 use Rattle.datastream.specs.InboundText.{InboundParts, IsInbound, IsNoInbound}
 use Rattle.datastream.specs.declared.inbound_part.Form.{Form}
-use Rattle.datastream.specs.declared.inbound_part.Form.TheVariants.{Buffer, Modified}
+use Rattle.datastream.specs.declared.inbound_part.Form.TheVariants.{Modified}
 use Rattle.datastream.specs.declared.inbound_part.InboundFault.{InboundFault}
 use Rattle.shadow.specs.Belief.{Shadow}
 use Rattle.shadow.specs.declared.fault.HeardFault.{HeardFault}
-use Rattle.shadow.specs.declared.rule_break.RuleBreak.{RuleBreak}
 use Rattle.tn3270e_msg.specs.declared.cause.Cause.TheVariants.{BadInbound, RuleBroken}
 use Rattle.tn3270e_msg.specs.declared.header.DataType.{DataType}
 use Rattle.tn3270e_msg.specs.declared.header.DataType.TheVariants.{Data3270, ScsData, Response, BindImage, Unbind, NvtData, Request, SscpLuData, Unnamed}
