@@ -37,6 +37,7 @@ ENTER, TAB, HOME, LEFT = b"\r", b"\t", b"\x1b[H", b"\x1b[D"
 RESET, ERASE_EOF, REDRAW, QUIT = b"\x12", b"\x05", b"\x0c", b"\x1d"
 STATUS, KEYS = b"\x14", b"\x1b?"
 BACK_TAB, INSERT, PF3, CLEAR = b"\x1b[Z", b"\x1b[2~", b"\x1bOR", b"\x03"
+BACKSPACE, PASTE, PASTED = b"\x7f", b"\x1b[200~", b"\x1b[201~"
 
 # ---- what a host says: RFC 1647, and GA23-0059 for the commands
 
@@ -140,7 +141,7 @@ class Screen:
         return "\n".join(self.line(row) for row in range(self.rows)).rstrip("\n")
 
 
-SIGNALS = (signal.SIGTERM, signal.SIGINT, signal.SIGHUP)
+SIGNALS = (signal.SIGTERM, signal.SIGINT, signal.SIGHUP, signal.SIGQUIT)
 
 
 class Operator:
@@ -229,10 +230,13 @@ class Operator:
         """The status row, the last one or this one, has these words alone, in this order, and which
         key shows the keys."""
         wanted = " ".join((*words[:-1], "ESC ? shows keys", words[-1]))
-        self.until(
-            f"a status row has {wanted!r}",
-            lambda screen: " ".join(screen.line(row or screen.rows - 1).split()) == wanted,
-        )
+
+        def shown(screen):
+            line = " ".join(screen.line(row or screen.rows - 1).split())
+            # How long a wait takes is up to the machine.
+            return re.sub(r"\bX SYSTEM \d+", "X SYSTEM", line)
+
+        self.until(f"a status row has {wanted!r}", lambda screen: shown(screen) == wanted)
 
     def ends(self, status, *lines):
         """The program has ended with this status, the tty is as before, and these are the lines on

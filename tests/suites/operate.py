@@ -2,6 +2,7 @@
 
 A check is the operator: it types bytes, as xterm, tmux and the Linux console send them, and looks
 at the screen. The host is `serve`, or a socket of the check itself."""
+import contextlib
 import os
 import pathlib
 import re
@@ -26,6 +27,7 @@ from harness.hosts import (
     free_port,
 )
 from harness.tty import (
+    BACKSPACE,
     BACK_TAB,
     CLEAR,
     ENTER,
@@ -35,6 +37,8 @@ from harness.tty import (
     KEYS,
     LEFT,
     Operator,
+    PASTE,
+    PASTED,
     QUIT,
     REDRAW,
     RESET,
@@ -115,7 +119,7 @@ def response(number: int) -> bytes:
 def all_is_taken(operator):
     """Waits until the program has taken what was typed: it shows the table of keys only then."""
     operator.types(KEYS)
-    operator.sees("On this keyboard")
+    operator.sees("on this keyboard")
     operator.types(KEYS)
     operator.until("the screen is shown", lambda screen: screen.line(0).startswith(" HI"))
 
@@ -135,7 +139,7 @@ def keys_may_be_typed_ahead():
         expect("a row", operator.screen.line(0), " HI A")
         host.says(restoring(1))
         host.hears(response(1), bytes.fromhex("00 00 00 00 01 7D 40 C7 11 40 C4 C1 C4 C5 FF EF"))
-        operator.has_status("connected", "X", "SYSTEM", "PNL01", "001/008")
+        operator.has_status("connected", "X", "SYSTEM", "T", "PNL01", "001/008")
         expect("a row", operator.screen.line(0), " HI ADE")
         host.says(restoring(2))
         host.hears(response(2), bytes.fromhex("00 00 00 00 02 7D 40 C8 11 40 C4 C1 C4 C5 C6 FF EF"))
@@ -339,14 +343,14 @@ TURNS = [
     # Nothing happens, and nothing is written.
     (b"", b"", ""),
     # Enter, and another key, which is kept.
-    (b"", b"\rC", WAITS + at(1, 5)),
+    (b"", b"\rC", WAITS + put(25, 35, "T") + at(1, 5)),
     # Another, in a turn of its own.
     (b"", b"D", at(1, 5)),
     # Write, number 1, which restores the keyboard.
     (
         bytes.fromhex("0000020001 F1C3 FFEF"),
         b"",
-        FREE + at(1, 5) + put(1, 5, "CD") + put(25, 79, "7") + at(1, 7),
+        FREE + at(1, 5) + put(1, 5, "CD") + put(25, 35, " ") + put(25, 79, "7") + at(1, 7),
     ),
     (b"", b"E", put(1, 7, "E") + put(25, 79, "8") + at(1, 8)),
     # The tty has 24 rows: all is drawn again, without a status row; and 25 again.
@@ -401,9 +405,10 @@ def a_lost_host_is_connected_again():
         operator.has_status("not", "connected", "X", "SYSTEM", "Enter", "connects", "005/030")
         operator.sees("FIRST NATIONAL BANK")
         operator.types("4", ENTER)
-        # The last screen stays until the host takes a new connection.
+        # The last screen stays until the host takes a new connection, with the reason.
+        operator.has_status("not", "connected", "X", "REFUSED", "Enter", "connects", "005/030")
         time.sleep(0.5)
-        operator.has_status("not", "connected", "X", "SYSTEM", "Enter", "connects", "005/030")
+        operator.has_status("not", "connected", "X", "REFUSED", "Enter", "connects", "005/030")
         operator.sees("FIRST NATIONAL BANK")
         with serve_bank(port):
             operator.types(ENTER)
@@ -520,7 +525,7 @@ def a_host_that_ends_early_is_told():
 
 @check
 def signals_restore_the_tty():
-    """After TERM, INT and HUP the tty is as before, and so it is if the program is killed."""
+    """After TERM, INT, HUP and QUIT the tty is as before, and so it is if the program is killed."""
     for number in SIGNALS:
         with bound() as (operator, _):
             os.kill(operator.process.pid, number)
@@ -555,6 +560,302 @@ def a_tty_that_is_too_small_is_told():
         operator.ends(2, "the tty has 50 rows of 131 columns, and the screen needs 27 rows of 132")
 
 
+# ---- what keys do
+
+
+def rows_of(screen) -> dict[str, list[str]]:
+    """The actions and their keys in the table of keys."""
+    rows, columns = {}, ((1, 24), (24, 51), (51, 80))
+    for number in range(2, 14):
+        line = screen.line(number)
+        for start, end in columns:
+            name, *keys = line[start:end].split()
+            rows[name] = keys
+    for number in range(15, 21):
+        line = screen.line(number)
+        for start, end in ((1, 52), (53, 80)):
+            name, *keys = line[start:end].split()
+            rows[name] = keys
+    return rows
+
+
+# The bytes of the keys with names: xterm's.
+SENT_BY = {
+    "Enter": b"\r", "Tab": b"\t", "Backspace": b"\x7f", "PageUp": b"\x1b[5~",
+    "PageDown": b"\x1b[6~", "Up": b"\x1b[A", "Down": b"\x1b[B", "Right": b"\x1b[C",
+    "Left": b"\x1b[D", "Home": b"\x1b[H", "Insert": b"\x1b[2~", "Delete": b"\x1b[3~",
+    "Shift-Tab": b"\x1b[Z", "End": b"\x1b[F", "Shift-End": b"\x1b[1;2F",
+    "Ctrl-End": b"\x1b[1;5F", "KeypadEnter": b"\x1bOM",
+}  # fmt: skip
+F_KEYS = ["OP", "OQ", "OR", "OS", "[15~", "[17~", "[18~", "[19~", "[20~", "[21~", "[23~", "[24~"]
+
+
+def sent_by(key: str) -> bytes:
+    """What xterm sends for a key of the table."""
+    if key in SENT_BY:
+        return SENT_BY[key]
+    if key.startswith("Ctrl-"):
+        return bytes([ord(key[5:]) & 0x1F])
+    if key.startswith("Alt-"):
+        return b"\x1b" + key[4:].encode()
+    shifted, number = key.startswith("Shift-F"), int(key.rpartition("F")[2])
+    plain = F_KEYS[number - 1]
+    if not shifted:
+        return b"\x1b" + plain.encode()
+    return (f"\x1b[1;2{plain[1]}" if number < 5 else f"\x1b{plain[:-1]};2~").encode()
+
+
+# The AIDs of the keys that send (GA23-0059), and what the others do to the form after `AB` is typed
+# and Cursor Left pressed: the first row, and the cursor's place.
+AIDS = {"Enter": 0x7D, "Clear": 0x6D, "PA(1)": 0x6C, "PA(2)": 0x6E, "PA(3)": 0x6B} | {
+    f"PF({number})": aid
+    for number, aid in enumerate(
+        bytes.fromhex("F1F2F3F4F5F6F7F8F97A7B7C C1C2C3C4C5C6C7C8C94A4B4C"), 1
+    )
+}
+EDITS = {
+    "Tab": (" HI AB", "001/012"), "BackTab": (" HI AB", "001/005"),
+    "Newline": (" HI AB", "001/005"), "Home": (" HI AB", "001/005"), "Up": (" HI AB", "024/006"),
+    "Down": (" HI AB", "002/006"), "Left": (" HI AB", "001/005"), "Right": (" HI AB", "001/007"),
+    "Erase": (" HI B", "001/005"), "BackSpace": (" HI AB", "001/005"), "Delete": (" HI A", "001/006"),
+    "EraseEOF": (" HI A", "001/006"), "EraseInput": (" HI", "001/005"),
+    "Reset": (" HI AB", "001/006"), "Redraw": (" HI AB", "001/006"), "Status": (" HI AB", "001/006"),
+}  # fmt: skip
+
+
+@check
+def each_row_of_the_table_is_so():
+    """Each key in the table of keys does what the table says: the keys that send send their AID, and
+    the others change the form as 3270 keys do."""
+    with bound() as (operator, _):
+        operator.types(KEYS)
+        operator.sees("on this keyboard")
+        operator.until("the whole table", lambda screen: "next key" in screen.text())
+        rows = rows_of(operator.screen)
+    expect("the actions", set(rows), set(AIDS) | set(EDITS) | {"Insert", "Help", "Quit"})
+    for action, keys in rows.items():
+        expect(f"{action} has a key", bool(keys), True)
+        for key in keys:
+            with bound() as (operator, host):
+                operator.types("AB", LEFT, sent_by(key))
+                if action in AIDS:
+                    host.hears(bytes([0, 0, 0, 0, 0, AIDS[action]]))
+                elif action in EDITS:
+                    row, place = EDITS[action]
+                    operator.has_status("connected", "PNL01", place)
+                    operator.until(f"{key} is {action}", lambda it, row=row: it.line(0) == row)
+                elif action == "Insert":
+                    operator.has_status("connected", "^", "PNL01", "001/006")
+                elif action == "Help":
+                    operator.sees("on this keyboard")
+                elif action == "Quit":
+                    operator.ends(0)
+
+
+@check
+def backspace_erases():
+    """As c3270's Erase: the character before the cursor; nothing at the first one of a field; refused
+    in a protected field, and where the cursor is on an attribute. The rest of the field follows, in
+    insert mode or not. Ctrl-H moves."""
+    with bound() as (operator, host):
+        operator.types("ABCD", BACKSPACE)
+        operator.until("one is erased", lambda screen: screen.line(0) == " HI ABC")
+        operator.has_status("connected", "PNL01", "001/008")
+        operator.types(LEFT, BACKSPACE)
+        operator.until("the rest follows", lambda screen: screen.line(0) == " HI AC")
+        operator.has_status("connected", "PNL01", "001/006")
+        operator.types(INSERT, "X", BACKSPACE, RESET)
+        operator.until("in insert mode", lambda screen: screen.line(0) == " HI AC")
+        operator.types(b"\x08")
+        operator.has_status("connected", "PNL01", "001/005")
+        operator.types(BACKSPACE)
+        operator.has_status("connected", "PNL01", "001/005")
+        expect("a row", operator.screen.line(0), " HI AC")
+        operator.types(LEFT, BACKSPACE)
+        operator.has_status("connected", "X", "PROTECTED", "PNL01", "001/004")
+        operator.types(RESET, LEFT, BACKSPACE)
+        operator.has_status("connected", "X", "PROTECTED", "PNL01", "001/003")
+        operator.types(RESET, TAB, "Z", BACKSPACE, BACKSPACE, ENTER)
+        # Number 0: Enter, the cursor at 4, and the field from 4 on.
+        host.hears(bytes.fromhex("00 00 00 00 00 7D 40 C4 11 40 C4 C3 FF EF"))
+
+
+@check
+def erase_may_be_typed_ahead():
+    """It is done once the keyboard is free, at the place where the cursor is then."""
+    with bound() as (operator, host):
+        operator.types("A", ENTER)
+        host.hears(bytes.fromhex("00 00 00 00 00 7D 40 C5 11 40 C4 C1 FF EF"))
+        operator.types("BC", BACKSPACE)
+        operator.has_status("connected", "X", "SYSTEM", "T", "PNL01", "001/006")
+        host.says(restoring(1))
+        operator.until("the keys are done", lambda screen: screen.line(0) == " HI AB")
+        operator.has_status("connected", "PNL01", "001/007")
+
+
+@contextlib.contextmanager
+def keymap(text: str):
+    """The name of a file with this keymap."""
+    with tempfile.TemporaryDirectory() as name:
+        path = pathlib.Path(name) / "keys"
+        path.write_text(text)
+        yield path
+
+
+@check
+def a_keymap_says_what_keys_do():
+    """Keys that it names do what it says, others what is usual; the table of keys has it, too."""
+    text = "# A 3278's keys.\n\nBackspace = BackSpace\nf1=Enter()\n Alt-# = pf(24)\nCtrl-a = Home\n"
+    with keymap(text + "Alt-= = EraseEOF\nHome = Ignore\n") as path:
+        with bound(options=("--keymap", path)) as (operator, host):
+            operator.types("AB", BACKSPACE)
+            operator.has_status("connected", "PNL01", "001/006")
+            expect("a row", operator.screen.line(0), " HI AB")
+            operator.types(b"\x1b=")
+            operator.until("EraseEOF", lambda screen: screen.line(0) == " HI A")
+            operator.types(HOME, b"\x01")
+            operator.has_status("connected", "PNL01", "001/005")
+            operator.types(KEYS)
+            operator.sees("BackSpace  Backspace Ctrl-H")
+            operator.sees("PF(24)     Shift-F12 Alt-# Alt-+")
+            operator.types(RESET, b"\x1bOP")
+            host.hears(bytes.fromhex("00 00 00 00 00 7D 40 C4 11 40 C4 C1 FF EF"))
+    with keymap("F1 = Enter\n") as path, bound(options=("--keymap", path)) as (operator, host):
+        operator.types(b"\x1b#")
+        host.hears(bytes.fromhex("00 00 00 00 00 C3 40 C4 FF EF"))
+
+
+@check
+def a_wrong_keymap_is_told():
+    """A line says the file, the line and what is wrong, before the session begins; status 1."""
+    port = free_port()
+    for text, fault in (
+        ("F1 = Enter\nF2\n", "2: a line KEY = ACTION is needed"),
+        ("\n# a comment\nF13 = Enter", "3: unknown key 'F13'"),
+        ("A = Enter", "1: unknown key 'A'"),
+        ("Ctrl-[ = Enter", "1: unknown key 'Ctrl-['"),
+        ("Alt-O = Enter", "1: unknown key 'Alt-O'"),
+        ("F1 = PF(25)", "1: unknown action 'PF(25)'"),
+        ("F1 = PF", "1: unknown action 'PF'"),
+        ("F1 = Attn", "1: unknown action 'Attn'"),
+        ("F1 =", "1: unknown action ''"),
+        ("F1 = Tab\nf1 = Tab", "2: the key 'f1' has an action already"),
+    ):
+        with keymap(text) as path, Operator("--keymap", path, port, columns=120) as operator:
+            operator.ends(1, f"{path}:{fault}")
+    with Operator("--keymap", "/no/keys", port) as operator:
+        operator.ends(1, "/no/keys: no such file")
+
+
+@check
+def a_refused_key_rings():
+    """Once for each refused or unknown key, on a tty with and without a status row, which is shown
+    over the last row until the next key; with --quiet-keys it doesn't ring."""
+    for rows, quiet in ((25, ()), (24, ()), (24, ("--quiet-keys",))):
+        with Host() as host, Operator(*quiet, host.port, rows=rows) as operator:
+            host.binds()
+            operator.until("the form is shown", lambda screen: screen.line(0) == " HI")
+
+            def rings(*typed, bells, operator=operator, quiet=quiet):
+                operator.types(*typed)
+                if not quiet:
+                    operator.until(f"bell {bells}", lambda screen: screen.bells == bells)
+
+            rings(LEFT, "C", bells=1)
+            operator.has_status("connected", "X", "PROTECTED", "PNL01", "001/004")
+            rings("D", bells=2)
+            operator.has_status("connected", "X", "PROTECTED", "PNL01", "001/004")
+            operator.types(RESET)
+            if rows == 24:
+                operator.until("the screen alone", lambda screen: screen.text() == " HI")
+            # Ctrl-A, Ctrl-Left, and é in Latin-1.
+            rings(TAB, b"\x01", bells=3)
+            rings(b"\x1b[1;5D", bells=4)
+            rings(b"\xe9", bells=5)
+            operator.types("A")
+            operator.until("a character is typed", lambda screen: screen.line(0) == " HI A")
+            expect("how often the bell rang", operator.screen.bells, 0 if quiet else 5)
+
+
+@check
+def sequences_may_be_cut():
+    """What comes late of a control sequence is a part of it; a lone ESC does nothing to the key after
+    it, once --escape is over."""
+    for pause in (0.3, 0.8):
+        with bound() as (operator, _):
+            for front, rest in (("\x1b", "[D"), ("\x1b[", "D"), ("\x1b[1", "~"), ("\x1bO", "C")):
+                operator.types("A", front)
+                time.sleep(pause)
+                operator.types(rest)
+            # A, left, over it A, left, over it A, home, over it A, right.
+            operator.until("the keys are done", lambda screen: screen.line(0) == " HI A")
+            operator.has_status("connected", "PNL01", "001/007")
+    with bound() as (operator, _):
+        operator.types("\xc3".encode("latin-1"))
+        time.sleep(0.3)
+        operator.types(b"\xa9")
+        operator.until("a character is typed", lambda screen: screen.line(0) == " HI é")
+    for options, pause, row in (
+        ((), 0.8, " HI 1"), (("--escape", "100"), 0.3, " HI 1"), (("--escape", "3000"), 0.8, " HI")
+    ):  # fmt: skip
+        with bound(options=options) as (operator, host):
+            operator.types(b"\x1b")
+            time.sleep(pause)
+            operator.types("1")
+            operator.until("the key is done", lambda screen, row=row: screen.line(0) == row)
+            if row == " HI":
+                host.hears(bytes.fromhex("00 00 00 00 00 6C FF EF"))
+
+
+@check
+def reports_type_nothing():
+    """Reports of the mouse (X10), and control strings as an answer to a query of colours."""
+    with bound() as (operator, _):
+        operator.types(b"\x1b[M !!", b"\x1b[M#\x7f\xe9", b"\x1b]11;rgb:0000/0000/0000\x07")
+        operator.types(b"\x1b]11;rgb:0000/0000/0000\x1b\\", b"\x1bP>|xterm(379)\x1b\\", "A")
+        operator.until("a character is typed", lambda screen: screen.line(0) == " HI A")
+        operator.has_status("connected", "PNL01", "001/006")
+
+
+@check
+def a_paste_ends_at_the_last_field():
+    """Its characters go from field to field up to the last one, as in x3270; then the rest is left
+    out, and the bell and the status row tell. No key that sends is pressed. Without marks, the tty is
+    asked for them; at the end it isn't any more."""
+    with bound() as (operator, host):
+        operator.types(PASTE + b"ABCDE\t12" + PASTED)
+        operator.until("the text", lambda screen: screen.line(0) == " HI ABCDE  12")
+        expect("how often the bell rang", operator.screen.bells, 0)
+        operator.types(HOME, PASTE + b"1" * 5000 + PASTED)
+        operator.until("the text", lambda screen: screen.line(0) == " HI 111111 1111")
+        operator.has_status("connected", "X", "PASTE", "CUT", "PNL01", "001/005")
+        expect("how often the bell rang", operator.screen.bells, 1)
+        operator.types(b"A")
+        operator.has_status("connected", "PNL01", "001/006")
+        operator.types(PASTE + b"\x1bOPB\x03\x1d\r" + PASTED)
+        operator.until("the text", lambda screen: screen.line(0) == " HI AB1111 1111")
+        host.hears_nothing(0.1)
+        operator.types(QUIT)
+        operator.ends(0)
+        asked = [it for it in (b"\x1b[?2004h", b"\x1b[?2004l") if it in operator.written]
+        expect("marks are asked for", len(asked), 2)
+
+
+@check
+def a_long_wait_is_told():
+    """From 2 seconds on the status row has the seconds of the wait."""
+    with bound() as (operator, host):
+        operator.types(ENTER)
+        operator.until("2 seconds", lambda screen: "X SYSTEM       2" in screen.line(24))
+        operator.until("3 seconds", lambda screen: "X SYSTEM       3" in screen.line(24))
+        host.hears(bytes.fromhex("00 00 00 00 00 7D 40 C4 FF EF"))
+        host.says(restoring(1))
+        operator.until(
+            "the wait is over", lambda screen: "SYSTEM" not in screen.line(24)
+        )
+        operator.has_status("connected", "PNL01", "001/005")
+
+
 @check
 def the_status_row_gives_way():
     """On a tty that has just the rows of the screen, the status row is shown over the last one
@@ -574,8 +875,8 @@ def the_table_of_keys_is_shown():
     with bound() as (operator, host):
         for key in (ENTER, "A", KEYS):
             operator.types(KEYS)
-            operator.sees("Key of the 3278              On this keyboard")
-            operator.sees("End the program              Ctrl-]")
+            operator.sees("Each action, and the keys that have it on this keyboard:")
+            operator.sees("Quit       Ctrl-]")
             operator.types(key)
             operator.until("the screen is shown", lambda screen: screen.line(0) == " HI")
             operator.has_status("connected", "PNL01", "001/005")

@@ -94,7 +94,8 @@ options_of topic.Term = needed (codes "port") kind.Port ∷ optional (codes "lu"
 options_of topic.Operate =
     needed (codes "port") kind.ServicePort ∷ optional (codes "host") kind.Address ∷ optional (codes "lu") kind.LuName
     ∷ optional (codes "model") kind.Model ∷ optional (codes "colors") kind.Colors
-    ∷ optional (codes "raw") kind.TtySize ∷ []
+    ∷ optional (codes "keymap") kind.File ∷ optional (codes "escape") kind.Millis
+    ∷ optional (codes "quiet-keys") kind.Flag ∷ optional (codes "raw") kind.TtySize ∷ []
 options_of topic.Web =
     needed (codes "port") kind.ServicePort ∷ needed (codes "connect") kind.Host
     ∷ optional (codes "listen") kind.Address ∷ optional (codes "origin") kind.Url

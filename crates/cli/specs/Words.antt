@@ -18,7 +18,7 @@ use Rattle.host_core.specs.declared.terminals.Terminals.TheVariants.{Any, Verifi
 use Rattle.tn3270e_msg.specs.Lu.{lu_of}
 use Rattle.tty.specs.Looks.{colors_named}
 use Rattle.tty.specs.declared.colors.Colors.{Colors}
-use Rattle.jobs.specs.OptionValues.{address_of, endpoint_of, is_same_port, model_of, port_of, reply_time_of, seconds_of, service_port_of, session_count_of, this_machine, tty_size_of, turns_of, usual_drain, usual_idle, usual_keep, usual_keepalive, usual_colors, usual_model, usual_negotiate, usual_reply_time, usual_sessions, usual_turns}
+use Rattle.jobs.specs.OptionValues.{address_of, endpoint_of, escape_time_of, is_same_port, model_of, port_of, reply_time_of, seconds_of, service_port_of, session_count_of, this_machine, tty_size_of, turns_of, usual_drain, usual_escape, usual_idle, usual_keep, usual_keepalive, usual_colors, usual_model, usual_negotiate, usual_reply_time, usual_sessions, usual_turns}
 use Rattle.cli.specs.Topics.{OptionRow, is_operand, jobs, name_of, options_of, takes_value, topic_named}
 use Rattle.jobs.specs.declared.job.Job.{Job}
 use Rattle.jobs.specs.declared.job.Job.TheVariants as job
@@ -77,6 +77,9 @@ given_lu options = option_map_or (λ word. option_map Some (lu_of word)) (first_
 
 abbrev pub given_model : List Row → Option Model
 given_model options = option_map_or model_of (first_of (codes "model") options) (Some usual_model)
+
+abbrev pub given_escape : List Row → Option ℕ
+given_escape options = option_map_or escape_time_of (first_of (codes "escape") options) (Some usual_escape)
 
 abbrev pub given_colors : List Row → Option Colors
 given_colors options = option_map_or colors_named (first_of (codes "colors") options) (Some usual_colors)
@@ -150,14 +153,17 @@ sound_service options = option_and_then
 abbrev pub given_live_options : List Row → Option OperateOptions
 given_live_options options =
     option_and_then (λ host. option_and_then
-    (λ port. option_and_then (λ lu. option_and_then (λ model. option_and_then (λ tty. option_map (λ colors. record {
+    (λ port. option_and_then (λ lu. option_and_then (λ model. option_and_then (λ tty. option_and_then (λ colors. option_map (λ escape. record {
       host = host;
       port = port;
       lu = lu;
       model = model;
       tty = tty;
       colors = colors;
-    }) (given_colors options)) (given_tty options)) (given_model options)) (given_lu options)) (given_service_port options))
+      keymap = first_of (codes "keymap") options;
+      escape = escape;
+      quiet_keys = is_given (codes "quiet-keys") options;
+    }) (given_escape options)) (given_colors options)) (given_tty options)) (given_model options)) (given_lu options)) (given_service_port options))
     (given_address (codes "host") options)
 
 abbrev pub given_sessions : List Row → Option ℕ

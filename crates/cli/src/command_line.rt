@@ -7,7 +7,7 @@ ghost use Rattle.clap.specs.Values.{kind_of};
 ghost use Rattle.clap.specs.Walk.{first_of, rows_of};
 ghost use Rattle.jobs.specs.OptionValues.{endpoint_of};
 ghost use Rattle.cli.specs.Topics.{row_of};
-ghost use Rattle.cli.specs.Words.{HasNoJob, IsJobOf, program, job_by, job_by_kind, job_named, job_of, given_address, given_colors, given_application, given_command, given_control, given_limits, given_live_options, given_lu, given_metrics, given_model, given_port, given_reply_time, given_script_terminals, given_seconds, given_service, given_service_port, given_sessions, given_terminals, given_topic, given_tty, given_turns, given_web, ends_by_dashes, is_given, job_shape, job_taken, option_rule, sound_service, topic_of};
+ghost use Rattle.cli.specs.Words.{HasNoJob, IsJobOf, program, job_by, job_by_kind, job_named, job_of, given_address, given_colors, given_application, given_command, given_control, given_escape, given_limits, given_live_options, given_lu, given_metrics, given_model, given_port, given_reply_time, given_script_terminals, given_seconds, given_service, given_service_port, given_sessions, given_terminals, given_topic, given_tty, given_turns, given_web, ends_by_dashes, is_given, job_shape, job_taken, option_rule, sound_service, topic_of};
 ghost use Rattle.cli.specs.ClapCommands.{AddsArguments, AddsJob, AddsJobs, IsArgument, IsCommand, IsJob, IsMatch, MayFail};
 
 use crate::help::VERSION;
@@ -18,7 +18,7 @@ use clap::{Arg, ArgAction, ArgMatches, Command};
 use codes3270::Model;
 use host_core::Terminals;
 use jobs::{
-    ApplicationChoice, CommandWords, ControlChoice, HelpTopic, HostEndpoint, Job, Operand,
+    ApplicationChoice, CommandWords, ControlChoice, EscapeTime, HelpTopic, HostEndpoint, Job, Operand,
     OperateOptions, Port, ReplyTime, Seconds, Service, ServicePort, SessionCount, TimeLimits,
     TtySize, Turns, WebOptions, address_of, model_of,
 };
@@ -166,6 +166,16 @@ fn colors_in(options: &ArgMatches<'_>) -> Option<Colors>
     }
 }
 
+/// The value of `--escape`; 500 if it isn't given.
+fn escape_in(options: &ArgMatches<'_>) -> Option<EscapeTime>
+    ensures { result ≡ given_escape (rows_of (found_of options.now)) }
+{
+    match given(options, "escape") {
+        Some(word) => EscapeTime::read(word),
+        None => Some(EscapeTime::of(500)),
+    }
+}
+
 /// The value of `--raw`, if it is given. None if it isn't a tty size.
 fn tty_in(options: &ArgMatches<'_>) -> Option<Option<TtySize>>
     ensures { result ≡ given_tty (rows_of (found_of options.now)) }
@@ -287,7 +297,7 @@ fn sound_service_in(options: &ArgMatches<'_>) -> Option<Service>
 }
 
 /// The options of `operate`.
-fn live_options_in(options: &ArgMatches<'_>) -> Option<OperateOptions>
+fn live_options_in<'a>(options: &ArgMatches<'a>) -> Option<OperateOptions<'a>>
     ensures { result ≡ given_live_options (rows_of (found_of options.now)) }
 {
     Some(OperateOptions {
@@ -297,6 +307,9 @@ fn live_options_in(options: &ArgMatches<'_>) -> Option<OperateOptions>
         model: model_in(options)?,
         tty: tty_in(options)?,
         colors: colors_in(options)?,
+        keymap: text_in(options, "keymap"),
+        escape: escape_in(options)?,
+        quiet_keys: is_given(options, "quiet-keys"),
     })
 }
 

@@ -19,6 +19,7 @@ pub(crate) enum ValueKind {
     File,
     TtySize,
     Colors,
+    Millis,
     Host,
     Sessions,
     Flag,
@@ -47,6 +48,7 @@ impl ValueKind {
             ValueKind::File => " FILE",
             ValueKind::TtySize => " ROWSxCOLUMNS",
             ValueKind::Colors => " COLORS",
+            ValueKind::Millis => " MS",
             ValueKind::Flag | ValueKind::Operand => "",
         }
     }
@@ -141,7 +143,7 @@ static HELP: [JobOption<'static>; 1] = [option!(takes "job")];
 
 static TERM: [JobOption<'static>; 3] = [PORT, LU, MODEL];
 
-static OPERATE: [JobOption<'static>; 6] = [
+static OPERATE: [JobOption<'static>; 9] = [
     option!(needs "port": ServicePort, "the port of the host, 1 to 65535"),
     option!(takes "host": Address,
         "the IPv4 or IPv6 address of the host; localhost is 127.0.0.1 [default: 127.0.0.1]"),
@@ -149,6 +151,10 @@ static OPERATE: [JobOption<'static>; 6] = [
     MODEL,
     option!(takes "colors": Colors,
         "dark, light, terminal (the tty's own), or mono (bold and underlined alone) [default: dark]"),
+    option!(takes "keymap": File, "the file with lines KEY = ACTION for keys that do something else than usual"),
+    option!(takes "escape": Millis,
+        "a sequence of a key may be cut for this time after ESC, 1 to 10000 milliseconds [default: 500]"),
+    option!(takes "quiet-keys": Flag, "don't ring the bell for a key that is refused"),
     option!(takes "raw": TtySize, "the size of the tty, which is in raw mode: bin/operate says so"),
 ];
 

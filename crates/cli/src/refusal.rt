@@ -10,7 +10,7 @@ use crate::job_table::{ValueKind, name_of, options_of};
 use clap::ArgMatches;
 use clap::error::ErrorKind;
 use jobs::{
-    HelpTopic, HostEndpoint, Port, ReplyTime, Seconds, ServicePort, SessionCount, Sink, TtySize,
+    EscapeTime, HelpTopic, HostEndpoint, Port, ReplyTime, Seconds, ServicePort, SessionCount, Sink, TtySize,
     Turns, address_of, model_of,
 };
 use std::alloc::Global;
@@ -117,6 +117,7 @@ fn is_value(kind: ValueKind, word: &str) -> bool {
         ValueKind::Model => model_of(word).is_some(),
         ValueKind::TtySize => TtySize::read(word).is_some(),
         ValueKind::Colors => Colors::named(word).is_some(),
+        ValueKind::Millis => EscapeTime::read(word).is_some(),
         ValueKind::Host => HostEndpoint::read(word).is_some(),
         ValueKind::Url | ValueKind::File | ValueKind::Flag | ValueKind::Operand => true,
     }
@@ -128,6 +129,7 @@ fn need_of(kind: ValueKind) -> &'static str {
         ValueKind::Host => ": a port is needed, or an IPv4 address, a colon and a port",
         ValueKind::Address => ": an IPv4 or IPv6 address is needed, or localhost",
         ValueKind::Colors => ": dark, light, terminal or mono is needed",
+        ValueKind::Millis => ": 1 to 10000 milliseconds are needed",
         _ => "",
     }
 }

@@ -107,6 +107,13 @@ usual_turns = 10000
 abbrev pub usual_model : Model
 usual_model = M2
 
+-- the time without a byte that ends a lone ESC, in milliseconds
+abbrev pub escape_time_of : List ℕ → Option ℕ
+escape_time_of word = number_in_word 1 10000 word
+
+abbrev pub usual_escape : ℕ
+usual_escape = 500
+
 abbrev pub usual_colors : Colors
 usual_colors = Dark
 

@@ -1,4 +1,4 @@
-//! The report that a file can't be opened.
+//! The reports that a file can't be opened, or is no keymap.
 ghost use Rattle.std.specs.Prelude.{◌≡◌};
 ghost use Rattle.std.specs.Fmt.{with_newline};
 ghost use Rattle.jobs.specs.Counting.{IsTold};
@@ -8,6 +8,7 @@ use crate::streams::Sink;
 use std::fmt::Display;
 use std::io::ErrorKind;
 use thiserror::Error;
+use tty::KeymapFault;
 
 /// The exit status if a file can't be opened.
 const FILE_REFUSED: u8 = 1;
@@ -41,4 +42,21 @@ pub fn refuse_file<'a, E: Sink>(name: &'a str, why: ErrorKind, faults: &mut E) -
 {
     let _ = faults.write_line(FileFault { name, why });
     FILE_REFUSED
+}
+
+/// Prints why the text of a file is no keymap, with the file's name and the line's number, and returns the exit status,
+/// 1. A line that can't be written is left out.
+pub fn refuse_keymap<E: Sink>(name: &str, fault: &KeymapFault, faults: &mut E) -> u8
+    ensures { result ≡ file_refused }
+{
+    let _ = faults.write_line(KeymapRefusal { name, fault });
+    FILE_REFUSED
+}
+
+/// A file that is no keymap, for this reason.
+#[derive(Clone, Copy, Debug, Error)]
+#[error("{name}:{fault}")]
+struct KeymapRefusal<'a> {
+    name: &'a str,
+    fault: &'a KeymapFault,
 }

@@ -3,7 +3,7 @@ ghost use Rattle.std.specs.Prelude.{◌≡◌};
 ghost use Rattle.jobs.specs.OptionValues.{model_of};
 
 use crate::endpoint::HostEndpoint;
-use crate::number::{Port, Seconds, ServicePort, SessionCount, Turns};
+use crate::number::{EscapeTime, Port, Seconds, ServicePort, SessionCount, Turns};
 use crate::service::{ApplicationChoice, ControlChoice, Service};
 use crate::tty_size::TtySize;
 use crate::word::number_of;
@@ -86,8 +86,8 @@ pub struct CommandWords<'a> {
 }
 
 /// The options of `operate`: the host's address and port, the terminal, and its tty.
-#[derive(Clone, Copy, Debug)]
-pub struct OperateOptions {
+#[derive(Debug, Drop)]
+pub struct OperateOptions<'a> {
     /// The address of the host.
     pub host: IpAddr,
     /// The port of the host.
@@ -100,6 +100,12 @@ pub struct OperateOptions {
     pub tty: Option<TtySize>,
     /// In which colours screens are drawn.
     pub colors: Colors,
+    /// The file that says what keys do; None if each does what is usual.
+    pub keymap: Option<Operand<'a>>,
+    /// The time without a byte that ends a lone ESC, in milliseconds.
+    pub escape: EscapeTime,
+    /// Whether refused keys are silent.
+    pub quiet_keys: bool,
 }
 
 /// The options of `web`: where it listens, the host, and the bounds of its sessions.
@@ -162,7 +168,7 @@ pub enum Job<'a> {
         model: Model,
     },
     /// Runs a terminal at a host, for an operator at a tty.
-    Operate(OperateOptions),
+    Operate(OperateOptions<'a>),
     /// Serves a page that is a terminal at a host, to browsers, without end.
     Web(WebOptions<'a>),
     /// Prints help.

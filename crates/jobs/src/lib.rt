@@ -49,13 +49,13 @@ mod word;
 pub use ending::report_and_exit_code;
 pub use endpoint::HostEndpoint;
 pub use fault::Fault;
-pub use file_fault::{FileFault, refuse_file};
+pub use file_fault::{FileFault, refuse_file, refuse_keymap};
 pub use hex_line::bytes_of_line;
 pub use input::{MOST_BYTES, MOST_READS, read_whole};
 pub use job::{CommandWords, HelpTopic, Job, Operand, OperateOptions, WebOptions, model_of};
 pub use live_fault::LiveFault;
 pub use number::{
-    BoundedU16, BoundedU32, Port, ReplyTime, Seconds, ServicePort, SessionCount, Turns,
+    BoundedU16, BoundedU32, EscapeTime, Port, ReplyTime, Seconds, ServicePort, SessionCount, Turns,
 };
 pub use raw::{RawRandom, RawRead, RawWrite};
 pub use service::{ApplicationChoice, ControlChoice, Service, TimeLimits, address_of};

@@ -118,5 +118,8 @@ pub type ReplyTime = BoundedU32<1, 3_600>;
 /// The most sessions of `web`, 1 to 64.
 pub type SessionCount = BoundedU16<1, 64>;
 
+/// The time without a byte that ends a lone ESC, in milliseconds, 1 to 10,000.
+pub type EscapeTime = BoundedU16<1, 10_000>;
+
 /// A number of turns, 1 to 1,000,000.
 pub type Turns = BoundedU32<1, 1_000_000>;

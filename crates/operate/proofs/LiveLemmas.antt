@@ -1,51 +1,30 @@
 -- Keystrokes of a live terminal, one after another.
-use Rattle.std.proofs.Common.{◌≡◌, ◌∙◌, refl, sym, ap, subst, ℕ, ◌+◌, ◌<◌, ◌≤◌, Bool, true, false, if◌then◌else◌, List, [], ◌∷◌, ◌++◌, length, drop, get_or, Option, None, Some}
+use Rattle.std.proofs.Common.{◌≡◌, ◌∙◌, refl, sym, ap, subst, ℕ, ◌+◌, ◌<◌, ◌≤◌, Bool, true, false, if◌then◌else◌, List, [], ◌∷◌, ◌++◌, length, drop, get_or, Option}
 use Rattle.std.proofs.lemmas.List.{drop_more, drop_all}
 use Rattle.std.specs.Option.{option_to_list}
-use Rattle.tty.specs.KeyReading.{after_pause, keystrokes_of, read_byte, read_bytes}
+use Rattle.tty.specs.KeyReading.{keystrokes_of, read_byte, read_bytes}
 use Rattle.tty.specs.declared.keystroke.Keystroke.{Keystroke}
 use Rattle.tty.specs.declared.keystroke.Keystroke.TheVariants.{Unknown}
 use Rattle.tty.specs.declared.keystroke.PushResult.{PushResult}
-use Rattle.keyboard.specs.declared.key.Key.{Key}
-use Rattle.operate.specs.Live.{Live, ReadsTyped, Seat, Types, after_keystroke, after_keystrokes, after_typing, all_typed, is_quit}
-
--- what means nothing changes nothing
-either_way : (seat : Seat) (quits : Bool) → (if quits then seat else seat) ≡ seat
-either_way seat true = refl
-either_way seat false = refl
-
-unknown_is_nothing : (seat : Seat) → after_keystroke Unknown seat ≡ seat
-unknown_is_nothing seat = either_way seat (is_quit seat.asks)
+use Rattle.operate.specs.declared.typed.Typed.{Typed}
+use Rattle.operate.specs.Live.{Live, ReadsTyped, Seat, Types, after_keystroke, after_keystrokes, after_typing, all_typed}
 
 -- one list of keystrokes after another
 pub in_turn : (front back : List Keystroke) (seat : Seat) → after_keystrokes (front ++ back) seat ≡ after_keystrokes back (after_keystrokes front seat)
 in_turn [] back seat = refl
 in_turn (keystroke ∷ front) back seat = in_turn front back (after_keystroke keystroke seat)
 
--- the keystroke that a byte completes, if it does
-abbrev pub after_option : Option Keystroke → Seat → Seat
-after_option None seat = seat
-after_option (Some keystroke) seat = after_keystroke keystroke seat
-
-option_taken : (keystroke : Option Keystroke) (seat : Seat) → after_keystrokes (option_to_list keystroke) seat ≡ after_option keystroke seat
-option_taken None seat = refl
-option_taken (Some keystroke) seat = refl
-
+-- what a byte breaks off is taken before the keystroke that it completes
 taken_behind : (interrupted : Bool) (keystroke : Option Keystroke) (seat : Seat)
-    → after_keystrokes ((if interrupted then Unknown ∷ [] else []) ++ option_to_list keystroke) seat ≡ after_option keystroke seat
-taken_behind false keystroke seat = option_taken keystroke seat
-taken_behind true keystroke seat = ap (λ (s : Seat). after_keystrokes (option_to_list keystroke) s) (unknown_is_nothing seat) ∙ option_taken keystroke seat
+    → after_keystrokes ((if interrupted then Unknown ∷ [] else []) ++ option_to_list keystroke) seat
+    ≡ after_keystrokes (option_to_list keystroke) (if interrupted then after_keystroke Unknown seat else seat)
+taken_behind false keystroke seat = refl
+taken_behind true keystroke seat = refl
 
--- what a byte breaks off means nothing
 pub pushed_taken : (pushed : PushResult) (strokes : List Keystroke) (seat : Seat) → keystrokes_of pushed ≡ strokes
-    → after_option pushed.keystroke seat ≡ after_keystrokes strokes seat
+    → after_keystrokes (option_to_list pushed.keystroke) (if pushed.interrupted then after_keystroke Unknown seat else seat) ≡ after_keystrokes strokes seat
 pushed_taken pushed strokes seat is =
     sym (taken_behind pushed.interrupted pushed.keystroke seat) ∙ ap (λ (all : List Keystroke). after_keystrokes all seat) is
-
--- a pause means nothing
-pub pause_taken : (kept : List ℕ) (seat : Seat) → after_keystrokes (option_to_list (after_pause kept)) seat ≡ seat
-pause_taken [] seat = refl
-pause_taken (first ∷ rest) seat = unknown_is_nothing seat
 
 -- a byte and those behind it
 pub byte_more : (byte : ℕ) (bytes : List ℕ) (old mid new : Live) → mid.seat ≡ after_keystrokes (read_byte old.kept byte).keystrokes old.seat
@@ -71,16 +50,17 @@ no_more typed place live above =
     subst (λ (bytes : List ℕ). ReadsTyped bytes live live) (sym (drop_all place typed above)) (record { seat = refl; kept = refl })
 
 -- a read that gave some bytes
-pub typed_some : (typed : List ℕ) (old new : Live) → (typed ≡ [] → ⊥) → ReadsTyped typed old new → Types typed old new
-typed_some [] old new some reads = absurd (some refl)
-typed_some (byte ∷ bytes) old new some reads = reads
+pub typed_some : (typed : List ℕ) (old begun new : Live) → (typed ≡ [] → ⊥) → begun ≡ record old { seat = record old.seat { idle = 0 } }
+    → ReadsTyped typed begun new → Types typed old new
+typed_some [] old begun new some is reads = absurd (some refl)
+typed_some (byte ∷ bytes) old begun new some is reads = subst (λ (live : Live). ReadsTyped (byte ∷ bytes) live new) is reads
 
 -- keys from a place on
-pub keys_more : (keys : List Key) (place : ℕ) (other key : Key) (old mid : Seat) → place < length keys → key ≡ get_or keys place other
+pub keys_more : (keys : List Typed) (place : ℕ) (other key : Typed) (old mid : Seat) → place < length keys → key ≡ get_or keys place other
     → mid ≡ after_typing key old → all_typed (drop (place + 1) keys) mid ≡ all_typed (drop place keys) old
 keys_more keys place other key old mid below is typed =
-    ap (λ (s : Seat). all_typed (drop (place + 1) keys) s) (typed ∙ ap (λ (it : Key). after_typing it old) is)
-    ∙ ap (λ (rest : List Key). all_typed rest old) (sym (drop_more keys place other below))
+    ap (λ (s : Seat). all_typed (drop (place + 1) keys) s) (typed ∙ ap (λ (it : Typed). after_typing it old) is)
+    ∙ ap (λ (rest : List Typed). all_typed rest old) (sym (drop_more keys place other below))
 
-pub keys_done : (keys : List Key) (place : ℕ) (seat : Seat) → length keys ≤ place → all_typed (drop place keys) seat ≡ seat
-keys_done keys place seat above = ap (λ (rest : List Key). all_typed rest seat) (drop_all place keys above)
+pub keys_done : (keys : List Typed) (place : ℕ) (seat : Seat) → length keys ≤ place → all_typed (drop place keys) seat ≡ seat
+keys_done keys place seat above = ap (λ (rest : List Typed). all_typed rest seat) (drop_all place keys above)

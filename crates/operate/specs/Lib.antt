@@ -1,3 +1,2 @@
-pub mod KeyTable
 pub mod Live
 pub mod LiveSessions

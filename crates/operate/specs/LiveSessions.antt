@@ -25,7 +25,7 @@ sent_by _ live = live
 
 -- holds if the terminal has lost its connection
 abbrev pub lost_live : Live → Live → Type 0
-lost_live old new = (new.seat ≡ record old.seat { terminal = lost old.seat.terminal; typeahead = []; refusal = None })
+lost_live old new = (new.seat ≡ record old.seat { terminal = lost old.seat.terminal; typeahead = []; trouble = None })
     × (new.kept ≡ old.kept)
 
 -- whether nothing was received or typed, and the tty shows the current screen
@@ -142,8 +142,8 @@ module _ {S K T : Type 0} where
   -- holds for the effect of the bytes received and the bytes typed, if the caller takes the drawing
   abbrev pub TakesBytes : (came typed : List ℕ) → (old new : Session S K T) → (drawn_old drawn_new : List ℕ) → Type 0
   TakesBytes came typed old new drawn_old drawn_new =
-      ((is_quiet came typed old.stale ≡ true) × Rests typed old new × (drawn_new ≡ drawn_old))
-      ⊎ ((is_quiet came typed old.stale ≡ false) × Draws came typed old new drawn_old drawn_new)
+      ((is_quiet came typed (old.stale || old.live.seat.rings) ≡ true) × Rests typed old new × (drawn_new ≡ drawn_old))
+      ⊎ ((is_quiet came typed (old.stale || old.live.seat.rings) ≡ false) × Draws came typed old new drawn_old drawn_new)
 
   -- Holds for a turn in which these bytes were typed: the connection is read once, the bytes are taken, the drawing is
   -- appended to other bytes, and the output is written to the connection once.
@@ -192,8 +192,8 @@ module _ {S K T : Type 0} where
     -- holds for the effect of the bytes received and the bytes typed
     abbrev pub TakesInput : (came typed : List ℕ) → (old new : Session S K T) → Type 0
     TakesInput came typed old new =
-        ((is_quiet came typed old.stale ≡ true) × Rests typed old new)
-        ⊎ ((is_quiet came typed old.stale ≡ false) × Works came typed old new)
+        ((is_quiet came typed (old.stale || old.live.seat.rings) ≡ true) × Rests typed old new)
+        ⊎ ((is_quiet came typed (old.stale || old.live.seat.rings) ≡ false) × Works came typed old new)
 
   -- Holds for a turn: the connection and the keys are read once, the bytes are taken, the tty is written, and the
   -- output is written to the connection once.

@@ -6,9 +6,10 @@
 //! (`term_core`). `specs/Live` and `LiveSessions` define a turn.
 #![tactic(auto)]
 
-mod key_table;
 mod live;
 mod live_session;
+mod typed;
 
 pub use live::{LiveTerminal, OperatorRequest, Overlay};
 pub use live_session::{OperatorSession, run_operate};
+pub use typed::{Paste, Typed};

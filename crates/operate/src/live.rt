@@ -1,16 +1,19 @@
 //! A live terminal: the bytes of an operator's tty and of a host come in, and what the tty is to be written goes out.
-ghost use Rattle.std.specs.Prelude.{◌≡◌, ◌<◌, ◌≤◌, [], None, IfOk, OnErr, OnOk, drop, length};
+ghost use Rattle.std.specs.Prelude.{◌≡◌, ◌<◌, ◌≤◌, [], None, IfOk, OnErr, OnOk, drop, length, map, string_bytes};
 ghost use Rattle.term_core.specs.Presses.{after_key, answer_to_key};
 ghost use Rattle.term_core.specs.Room.{out_room};
 ghost use Rattle.term_core.specs.State.{phase_of, connected, lost, model_of};
 ghost use Rattle.tty.specs.KeyReading.{read_byte};
 ghost use Rattle.tty.specs.Painting.{notice_of, page_of};
 ghost use Rattle.tty.specs.TtyRoom.{too_small_text};
-ghost use Rattle.operate.specs.KeyTable.{key_table};
-ghost use Rattle.operate.specs.Live.{Draws, DrawsIf, Hears, IsOutOfMemory, ReadsTyped, Resumes, Sounds, TakesTurn, Types, after_help, after_key_at, after_keystroke, after_keystrokes, after_meaning, after_press, after_typing, all_typed, asks_after, first_seat, has_bytes, is_connected, is_enter, is_idle, is_keys, is_quit, is_reset, is_status, is_wait, lack_at, lu_place, page_at, picture_at, refusal_after, resized, screen_at, status_place, waits, with_key};
+ghost use Rattle.operate.specs.Live.{Draws, DrawsIf, Hears, IsOutOfMemory, PausesIf, ReadsTyped, Resumes, Sounds, TakesTurn, Types, after_action, after_help, after_key_at, after_keystroke, after_keystrokes, after_maybe, after_meaning, after_other, after_pasted, after_press, after_stroke, after_time, after_typed, after_typing, all_pressed, all_typed, asks_after, connects, cursor_of, cut_off, cut_trouble, can_edit, erase_keys, first_seat, follows_attribute, has_bytes, held, is_connected, is_enter, is_idle, is_keys, is_pause, is_quit, is_refused, is_reset, is_reset_action, is_status, is_unlocked, is_wait, lack_at, lu_place, page_at, pasted_control, pasted_key, pasting, picture_at, resized, rung, screen_at, seconds_of, status_place, told, trouble_after, waits};
+ghost use Rattle.std.specs.Option.{option_to_list};
+ghost use Rattle.std.specs.Prelude.{Option};
+ghost use Rattle.keyboard.specs.Places.{is_free_at};
+ghost use Rattle.codes3270.specs.Size.{cells_in};
 
-use crate::key_table::KEY_TABLE;
-use codes3270::Model;
+use crate::typed::{MOST_AHEAD, Paste, Typeahead, Typed};
+use codes3270::{Addr, Model};
 use jobs::TtySize;
 use keyboard::{Key, Lock, Pressed, Refusal};
 use presentation::Screen;
@@ -19,8 +22,8 @@ use std::marker;
 use term_core::{TermPhase, Terminal};
 use tn3270e_msg::{Lu, Stop};
 use tty::{
-    Colors, Drawing, KeyReader, Keystroke, Picture, Status, StatusPlace, TooSmall, check_room,
-    put_bell,
+    Action, Colors, Drawing, KeyReader, Keymap, Keystroke, Picture, Status, StatusPlace, TooSmall,
+    Trouble, check_room, put_bell,
 };
 
 /// What an operator asks of the program.
@@ -45,25 +48,66 @@ pub enum Overlay {
     Keys,
 }
 
-/// The most keys that are kept while the keyboard waits for the host.
-const MOST_AHEAD: usize = 256;
+/// How an operator has the terminal.
+#[derive(Drop)]
+struct Settings {
+    /// What the keys do.
+    keymap: Keymap,
+    /// The lines of the table of keys.
+    page: Vec<String>,
+    /// For how many milliseconds without a byte an incomplete keystroke is waited for.
+    escape: u32,
+    /// Whether the bell doesn't ring for keys.
+    quiet: bool,
+}
+
+impl marker::Model for Settings {
+    ghost use Rattle.std.specs.Prelude.{map, string_bytes};
+    ghost use Rattle.operate.specs.Live.{Settings as SettingsValue};
+
+    ghost Value = { SettingsValue };
+
+    ghost view = { λ settings. record {
+      keymap = settings.keymap;
+      page = map (λ line. string_bytes line) settings.page.items;
+      escape = settings.escape;
+      quiet = settings.quiet;
+    } };
+}
+
+impl Settings {
+    /// The lines of the table of keys.
+    fn lines(&self) -> &[String]
+        ensures { map (λ line. string_bytes line) result.now ≡ self.now.page }
+    {
+        self.page.as_slice()
+    }
+}
 
 /// A terminal that an operator uses at a tty. It owns neither the tty nor the connection: its caller hands it the bytes
 /// of both, and sends and writes what it returns.
 ///
-/// Contracts see its seat (the terminal, the keys that were typed ahead, the refusal that the status row shows, what is
-/// shown over the screen, the operator's request, the size of the tty, and the picture that it shows), the bytes of an
-/// incomplete keystroke, and the capacity of the terminal's output buffer in bytes.
+/// Contracts see its seat (the terminal, the keys that were typed ahead, what the status row says of the last key, what is
+/// shown over the screen, the operator's request and settings, the size of the tty, and the picture that it shows), the
+/// bytes of an incomplete keystroke, and the capacity of the terminal's output buffer in bytes.
 #[derive(Drop)]
 pub struct LiveTerminal {
     terminal: Terminal,
     /// The keys that were typed while the keyboard waits for the host.
-    typeahead: Vec<Key>,
+    typeahead: Typeahead,
     reader: KeyReader,
     drawing: Drawing,
-    refusal: Option<Refusal>,
+    trouble: Option<Trouble>,
     overlay: Overlay,
     asked: OperatorRequest,
+    /// Whether the bell must ring.
+    rings: bool,
+    paste: Paste,
+    /// For how many milliseconds no byte was typed.
+    idle: u32,
+    /// For how many milliseconds the keyboard has waited.
+    waited: u32,
+    settings: Settings,
     size: TtySize,
 }
 
@@ -75,10 +119,15 @@ impl marker::Model for LiveTerminal {
     ghost view = { λ live. record {
       seat = record {
         terminal = live.terminal.terminal;
-        typeahead = live.typeahead.items;
-        refusal = live.refusal;
+        typeahead = live.typeahead;
+        trouble = live.trouble;
         overlay = live.overlay;
         asks = live.asked;
+        rings = live.rings;
+        paste = live.paste;
+        idle = live.idle;
+        waited = live.waited;
+        settings = live.settings;
         size = live.size;
         colors = live.drawing.colors;
         shown = live.drawing.shown;
@@ -112,10 +161,17 @@ fn is_enter(key: &Key) -> bool
 }
 
 /// Whether a key is Reset.
-fn is_reset(key: &Key) -> bool
-    ensures { result ≡ is_reset key.now }
+fn is_reset(typed: &Typed) -> bool
+    ensures { result ≡ is_reset typed.now }
 {
-    matches!(key, Key::Reset)
+    matches!(typed, Typed::Key(Key::Reset))
+}
+
+/// Whether a keyboard with this lock is free.
+fn is_unlocked(lock: Lock) -> bool
+    ensures { result ≡ is_unlocked lock }
+{
+    matches!(lock, Lock::Free)
 }
 
 /// Whether a keyboard with this lock waits for the host.
@@ -170,30 +226,120 @@ fn status_place(overlay: Overlay, tty_rows: u16, screen: &Screen) -> StatusPlace
     }
 }
 
-/// The refusal that the status row shows after a key; None if it shows none.
-fn refusal_after(pressed: &Pressed, shown: Option<Refusal>) -> Option<Refusal>
-    ensures { result ≡ refusal_after pressed.now shown }
+/// What the status row says after a key; None if nothing.
+fn trouble_after(pressed: &Pressed, shown: Option<Trouble>) -> Option<Trouble>
+    ensures { result ≡ trouble_after pressed.now shown }
 {
     match pressed {
         Pressed::Refused(Refusal::Locked) => shown,
-        Pressed::Refused(why) => Some(*why),
+        Pressed::Refused(why) => Some(Trouble::Refused(*why)),
         Pressed::Done | Pressed::Send(_) => None,
     }
 }
 
-/// Presses a key, and returns the refusal that the status row shows after it.
+/// Whether a key was refused.
+fn is_refused(pressed: &Pressed) -> bool
+    ensures { result ≡ is_refused pressed.now }
+{
+    matches!(pressed, Pressed::Refused(_))
+}
+
+/// Presses a key. Answers whether it was refused.
 fn press(
     terminal: &mut Terminal,
     key: Key,
-    shown: Option<Refusal>,
-) -> Result<Option<Refusal>, AllocError>
+    trouble: &mut Option<Trouble>,
+) -> Result<bool, AllocError>
     ensures pressed { OnOk result (terminal.new.terminal ≡ after_key key terminal.old.terminal) }
-    ensures refusal { IfOk result (λ refusal. refusal ≡ refusal_after (answer_to_key key terminal.old.terminal) shown) }
+    ensures refused { IfOk result (λ refused. refused ≡ is_refused (answer_to_key key terminal.old.terminal)) }
+    ensures trouble { OnOk result (trouble.new ≡ trouble_after (answer_to_key key terminal.old.terminal) trouble.old) }
 {
     match terminal.press(key) {
-        Ok(pressed) => Ok(refusal_after(&pressed, shown)),
+        Ok(pressed) => {
+            *trouble = trouble_after(&pressed, *trouble);
+            Ok(is_refused(&pressed))
+        }
         Err(error) => Err(error),
     }
+}
+
+/// Whether a key asks for a connection: Enter without one.
+fn connects(key: &Key, terminal: &Terminal) -> bool
+    ensures { result ≡ connects key.now terminal.now.terminal }
+{
+    is_idle(&terminal.phase()) && is_enter(key)
+}
+
+/// Whether a cell can be typed into.
+fn is_free_at(screen: &Screen, at: Addr) -> bool
+    requires { at < cells_in screen.now.size }
+    ensures { result ≡ is_free_at screen.now.screen.cells at }
+{
+    let is_protected = screen.attribute_over(at).is_some_and(|attr| attr.protected);
+    screen.cell(at).is_character() && !is_protected
+}
+
+/// Whether the cursor is at a character that the keyboard lets an operator change.
+fn can_edit(terminal: &Terminal) -> bool
+    ensures { result ≡ can_edit terminal.now.terminal }
+{
+    let screen = terminal.screen();
+    is_unlocked(terminal.lock()) && is_free_at(screen, screen.cursor())
+}
+
+/// Whether the cell before the cursor has an attribute.
+fn follows_attribute(terminal: &Terminal) -> bool
+    ensures { result ≡ follows_attribute terminal.now.terminal }
+{
+    let screen = terminal.screen();
+    let before = screen.cursor().backward(1, screen.size());
+    !screen.cell(before).is_character()
+}
+
+/// What the status row says of a text that was cut, given the keyboard's lock and what it said before.
+fn cut_trouble(lock: Lock, shown: Option<Trouble>) -> Option<Trouble>
+    ensures { result ≡ cut_trouble lock shown }
+{
+    match lock {
+        Lock::Free => Some(Trouble::PasteCut),
+        Lock::Wait | Lock::Error => shown,
+    }
+}
+
+/// The key that a control character is in a pasted text.
+fn pasted_control(byte: u8) -> Option<Key>
+    ensures { result ≡ pasted_control byte }
+{
+    match byte {
+        0x09 => Some(Key::Tab),
+        0x0A | 0x0D => Some(Key::NewLine),
+        _ => None,
+    }
+}
+
+/// The key that a keystroke is in a pasted text.
+fn pasted_key(keystroke: Keystroke) -> Option<Key>
+    ensures { result ≡ pasted_key keystroke }
+{
+    match keystroke {
+        Keystroke::Char(letter) => Some(Key::Char(letter)),
+        Keystroke::Control(byte) => pasted_control(byte),
+        _ => None,
+    }
+}
+
+/// Whether an action is the key Reset.
+fn is_reset_action(action: Action) -> bool
+    ensures { result ≡ is_reset_action action }
+{
+    matches!(action, Action::Key(Key::Reset))
+}
+
+/// The whole seconds in a number of milliseconds, below 60,000.
+fn seconds_of(millis: u32) -> u16
+    ensures { result ≡ seconds_of millis }
+{
+    (millis / 1000 % 60_000) as u16
 }
 
 /// What the operator asks for after a key, given the terminal's phase before it.
@@ -229,26 +375,112 @@ fn lu_place(phase: &TermPhase) -> &[u8]
 
 impl LiveTerminal {
     /// A terminal of a model without a connection, at a tty of this size, of which it isn't known what it shows, and
-    /// which is drawn in these colours. An error if memory is refused.
+    /// which is drawn in these colours. Its keys do what is usual, with a bell, and a read without a byte ends an
+    /// incomplete keystroke. An error if memory is refused.
     pub fn new(
         alloc: Global,
         model: Model,
         size: TtySize,
         colors: Colors,
+    ) -> Result<LiveTerminal, AllocError> {
+        let keymap = Keymap::standard(alloc);
+        let page = keymap.page(alloc)?;
+        let settings = Settings {
+            keymap,
+            page,
+            escape: 0,
+            quiet: false,
+        };
+        LiveTerminal::with_settings(alloc, model, size, colors, settings)
+    }
+
+    /// A terminal with these settings.
+    fn with_settings(
+        alloc: Global,
+        model: Model,
+        size: TtySize,
+        colors: Colors,
+        settings: Settings,
     ) -> Result<LiveTerminal, AllocError>
-        ensures seat { IfOk result (λ live. live.seat ≡ first_seat model size colors) }
+        ensures seat { IfOk result (λ live. live.seat ≡ first_seat settings model size colors) }
         ensures kept { IfOk result (λ live. live.kept ≡ []) }
     {
         Ok(LiveTerminal {
             terminal: Terminal::new(alloc, model)?,
-            typeahead: Vec::new(alloc),
+            typeahead: Typeahead::new(),
             reader: KeyReader::new(),
             drawing: Drawing::new(colors),
-            refusal: None,
+            trouble: None,
             overlay: Overlay::Nothing,
             asked: OperatorRequest::Nothing,
+            rings: false,
+            paste: Paste::Off,
+            idle: 0,
+            waited: 0,
+            settings,
             size,
         })
+    }
+
+    /// Uses this keymap from now on. An error if memory is refused for the table of keys; then nothing changes.
+    pub fn use_keymap(&mut self, alloc: Global, keymap: Keymap) -> Result<(), AllocError> {
+        self.settings.page = keymap.page(alloc)?;
+        self.settings.keymap = keymap;
+        Ok(())
+    }
+
+    /// Waits for the rest of a keystroke for this many milliseconds without a byte.
+    pub fn wait_for_escape(&mut self, millis: u32)
+        ensures seat { self.new.seat
+            ≡ record self.old.seat { settings = record self.old.seat.settings { escape = millis } } }
+        ensures kept { self.new.kept ≡ self.old.kept }
+    {
+        self.settings.escape = millis;
+    }
+
+    /// Says whether the bell doesn't ring for keys.
+    pub fn be_quiet(&mut self, quiet: bool)
+        ensures seat { self.new.seat
+            ≡ record self.old.seat { settings = record self.old.seat.settings { quiet = quiet } } }
+        ensures kept { self.new.kept ≡ self.old.kept }
+    {
+        self.settings.quiet = quiet;
+    }
+
+    /// Takes the time that passed since the last call, in milliseconds.
+    pub fn pass(&mut self, millis: u32)
+        ensures seat { self.new.seat ≡ after_time millis self.old.seat }
+        ensures kept { self.new.kept ≡ self.old.kept }
+    {
+        self.idle = self.idle.saturating_add(millis);
+        self.waited = if waits(&self.terminal) {
+            self.waited.saturating_add(millis)
+        } else {
+            0
+        };
+    }
+
+    /// The seconds that the keyboard has waited, below 60,000.
+    pub fn seconds(&self) -> u16
+        ensures { result ≡ seconds_of self.now.seat.waited }
+    {
+        seconds_of(self.waited)
+    }
+
+    /// Whether the bell must ring for what was typed.
+    pub fn rings(&self) -> bool
+        ensures { result ≡ self.now.seat.rings }
+    {
+        self.rings
+    }
+
+    /// Tells the operator why there is no connection to the host.
+    pub fn fail_to_connect(&mut self, why: Trouble)
+        ensures seat { self.new.seat ≡ told (record self.old.seat { trouble = Option.Some why }) }
+        ensures kept { self.new.kept ≡ self.old.kept }
+    {
+        self.trouble = Some(why);
+        self.tell();
     }
 
     /// The phase of the terminal's connection.
@@ -263,7 +495,7 @@ impl LiveTerminal {
     pub fn connect(&mut self, wanted: Option<Lu>) -> Result<(), AllocError>
         requires { phase_of self.old.seat.terminal.link ≡ TermPhase.Idle }
         ensures seat { OnOk result (self.new.seat
-            ≡ record self.old.seat { terminal = connected (model_of self.old.seat.terminal) wanted; refusal = None }) }
+            ≡ record self.old.seat { terminal = connected (model_of self.old.seat.terminal) wanted; trouble = None }) }
         ensures kept { OnOk result (self.new.kept ≡ self.old.kept) }
         ensures room { OnOk result (out_room ≤ self.new.room) }
         ensures full { OnErr result (self.old.room < out_room) }
@@ -271,7 +503,7 @@ impl LiveTerminal {
     {
         self.terminal.make_room()?;
         self.terminal.connected(wanted);
-        self.refusal = None;
+        self.trouble = None;
         Ok(())
     }
 
@@ -279,12 +511,12 @@ impl LiveTerminal {
     /// stays.
     pub fn lose(&mut self)
         ensures seat { self.new.seat
-            ≡ record self.old.seat { terminal = lost self.old.seat.terminal; typeahead = []; refusal = None } }
+            ≡ record self.old.seat { terminal = lost self.old.seat.terminal; typeahead = []; trouble = None } }
         ensures kept { self.new.kept ≡ self.old.kept }
     {
         self.terminal.lost();
         self.typeahead.clear();
-        self.refusal = None;
+        self.trouble = None;
     }
 
     /// The bytes that the terminal has to send.
@@ -314,75 +546,125 @@ impl LiveTerminal {
         std::mem::replace(&mut self.asked, OperatorRequest::Nothing)
     }
 
+    /// Has the bell ring, unless keys are quiet.
+    fn ring(&mut self)
+        ensures seat { self.new.seat ≡ rung self.old.seat }
+        ensures kept { self.new.kept ≡ self.old.kept }
+    {
+        self.rings |= !self.settings.quiet;
+    }
+
+    /// Tells the operator that a key was refused.
+    fn tell(&mut self)
+        ensures seat { self.new.seat ≡ told self.old.seat }
+        ensures kept { self.new.kept ≡ self.old.kept }
+    {
+        self.overlay = Overlay::Status;
+        self.ring();
+    }
+
     /// Presses a key.
     fn press(&mut self, key: Key) -> Result<(), AllocError>
         ensures seat { OnOk result (self.new.seat ≡ after_press key self.old.seat) }
         ensures kept { self.new.kept ≡ self.old.kept }
     {
+        let connects = connects(&key, &self.terminal);
         let asked = asks_after(&key, &self.terminal.phase(), self.asked);
-        self.refusal = press(&mut self.terminal, key, self.refusal)?;
+        let refused = press(&mut self.terminal, key, &mut self.trouble)?;
         self.asked = asked;
-        Ok(())
-    }
-
-    /// Keeps a key that is typed ahead, if there are fewer than 256.
-    fn keep(&mut self, key: Key) -> Result<(), AllocError>
-        ensures seat { OnOk result (self.new.seat
-            ≡ record self.old.seat { typeahead = with_key key self.old.seat.typeahead }) }
-        ensures kept { self.new.kept ≡ self.old.kept }
-    {
-        if self.typeahead.len() < MOST_AHEAD {
-            self.typeahead.push(key)?;
+        if connects {
+            self.trouble = None;
+        } else if refused {
+            self.tell();
         }
         Ok(())
     }
 
-    /// Takes a key: keeps it if the keyboard waits for the host, else presses it. Reset drops the keys that were kept.
-    fn type_key(&mut self, key: Key) -> Result<(), AllocError>
-        ensures seat { OnOk result (self.new.seat ≡ after_typing key self.old.seat) }
+    /// Erases the character before the cursor: presses Cursor Left and Delete. At the first character of a field it does
+    /// nothing, and where nothing can be edited Delete is refused.
+    fn erase(&mut self) -> Result<(), AllocError>
+        ensures seat { OnOk result (self.new.seat ≡ all_pressed (erase_keys self.old.seat.terminal) self.old.seat) }
+        ensures kept { OnOk result (self.new.kept ≡ self.old.kept) }
+    {
+        if !can_edit(&self.terminal) {
+            return self.press(Key::Delete);
+        }
+        if follows_attribute(&self.terminal) {
+            return Ok(());
+        }
+        self.press(Key::CursorLeft)?;
+        self.press(Key::Delete)
+    }
+
+    /// Presses a key, or the keys of Erase.
+    fn press_typed(&mut self, typed: Typed) -> Result<(), AllocError>
+        ensures seat { OnOk result (self.new.seat ≡ after_typed typed self.old.seat) }
+        ensures kept { OnOk result (self.new.kept ≡ self.old.kept) }
+    {
+        match typed {
+            Typed::Key(key) => self.press(key),
+            Typed::Erase => self.erase(),
+        }
+    }
+
+    /// Keeps a key that is typed ahead, if there are fewer than 256; if not, the bell rings. It needs no memory.
+    fn keep(&mut self, typed: Typed)
+        ensures seat { self.new.seat ≡ held typed self.old.seat }
         ensures kept { self.new.kept ≡ self.old.kept }
     {
-        if is_reset(&key) {
-            self.typeahead.clear();
-            self.press(key)
-        } else if waits(&self.terminal) {
-            self.keep(key)
+        if self.typeahead.len() < MOST_AHEAD {
+            self.typeahead.push(typed);
         } else {
-            self.press(key)
+            self.ring();
+        }
+    }
+
+    /// Takes a key: keeps it if the keyboard waits for the host, else presses it. Reset drops the keys that were kept.
+    fn type_key(&mut self, typed: Typed) -> Result<(), AllocError>
+        ensures seat { OnOk result (self.new.seat ≡ after_typing typed self.old.seat) }
+        ensures kept { OnOk result (self.new.kept ≡ self.old.kept) }
+    {
+        if is_reset(&typed) {
+            self.typeahead.clear();
+            self.press(Key::Reset)
+        } else if waits(&self.terminal) {
+            self.keep(typed);
+            Ok(())
+        } else {
+            self.press_typed(typed)
         }
     }
 
     /// Takes keys in order.
-    fn type_keys(&mut self, keys: &[Key]) -> Result<(), AllocError>
+    fn type_keys(&mut self, keys: &[Typed]) -> Result<(), AllocError>
         ensures seat { OnOk result (self.new.seat ≡ all_typed keys.now self.old.seat) }
         ensures kept { OnOk result (self.new.kept ≡ self.old.kept) }
     {
-        for key in keys {
-            self.type_key(*key)?;
+        for typed in keys {
+            self.type_key(*typed)?;
         }
         Ok(())
     }
 
     /// Takes the keys that were typed ahead: presses them in order until the keyboard waits, and keeps the rest.
-    fn resume(&mut self, alloc: Global) -> Result<(), AllocError>
+    fn resume(&mut self) -> Result<(), AllocError>
         ensures { OnOk result (Resumes self.old self.new) }
     {
-        let keys = std::mem::replace(&mut self.typeahead, Vec::new(alloc));
-        self.type_keys(keys.as_slice())?;
-        Ok(())
+        let keys = std::mem::replace(&mut self.typeahead, Typeahead::new());
+        self.type_keys(keys.as_slice())
     }
 
     /// Takes a key, and shows the screen again. At the table of keys it does nothing else.
-    fn take_key(&mut self, key: Key) -> Result<(), AllocError>
-        ensures seat { OnOk result (self.new.seat ≡ after_key_at key self.old.seat) }
-        ensures kept { self.new.kept ≡ self.old.kept }
+    fn take_key(&mut self, typed: Typed) -> Result<(), AllocError>
+        ensures seat { OnOk result (self.new.seat ≡ after_key_at typed self.old.seat) }
+        ensures kept { OnOk result (self.new.kept ≡ self.old.kept) }
     {
         let at_keys = is_keys(self.overlay);
         self.overlay = Overlay::Nothing;
         if at_keys {
             return Ok(());
         }
-        self.type_key(key)
+        self.type_key(typed)
     }
 
     /// Takes the new size of the tty, of which it isn't known any more what it shows.
@@ -394,32 +676,146 @@ impl LiveTerminal {
         self.drawing.forget();
     }
 
-    /// Performs the action of a keystroke.
-    fn act_on(&mut self, keystroke: Keystroke) -> Result<(), AllocError>
-        ensures seat { OnOk result (self.new.seat ≡ after_meaning keystroke self.old.seat) }
-        ensures kept { self.new.kept ≡ self.old.kept }
+    /// Performs an action. The bell rings for a key that does nothing.
+    fn perform(&mut self, action: Action) -> Result<(), AllocError>
+        ensures seat { OnOk result (self.new.seat ≡ after_action action self.old.seat) }
+        ensures kept { OnOk result (self.new.kept ≡ self.old.kept) }
     {
-        match keystroke {
-            Keystroke::Key(key) => return self.take_key(key),
-            Keystroke::Status => self.overlay = Overlay::Status,
-            Keystroke::Help => self.overlay = after_help(self.overlay),
-            Keystroke::Redraw => self.drawing.forget(),
-            Keystroke::Size { rows, columns } => self.resize(rows, columns),
-            Keystroke::Quit => self.asked = OperatorRequest::Quit,
-            Keystroke::Unknown => {}
+        match action {
+            Action::Key(key) => return self.take_key(Typed::Key(key)),
+            Action::Erase => return self.take_key(Typed::Erase),
+            Action::Redraw => self.drawing.forget(),
+            Action::Status => self.overlay = Overlay::Status,
+            Action::Help => self.overlay = after_help(self.overlay),
+            Action::Quit => self.asked = OperatorRequest::Quit,
+            Action::Nothing => self.ring(),
         }
         Ok(())
+    }
+
+    /// The address of the cursor.
+    fn cursor(&self) -> u16
+        ensures { result ≡ cursor_of self.now.seat }
+    {
+        self.terminal.screen().cursor().get()
+    }
+
+    /// Begins to take a pasted text.
+    fn begin_paste(&mut self)
+        ensures seat { self.new.seat ≡ pasting self.old.seat }
+        ensures kept { self.new.kept ≡ self.old.kept }
+    {
+        self.paste = Paste::From(self.cursor());
+        self.overlay = Overlay::Nothing;
+    }
+
+    /// Leaves out the rest of a pasted text, and tells the operator.
+    fn cut_paste(&mut self)
+        ensures seat { self.new.seat ≡ cut_off self.old.seat }
+        ensures kept { self.new.kept ≡ self.old.kept }
+    {
+        self.paste = Paste::Cut;
+        self.trouble = cut_trouble(self.terminal.lock(), self.trouble);
+        self.tell();
+    }
+
+    /// Takes a key of a pasted text, of which the key before was pressed with the cursor at `from`.
+    fn take_pasted(&mut self, from: u16, key: Key) -> Result<(), AllocError>
+        ensures seat { OnOk result (self.new.seat ≡ after_pasted from key self.old.seat) }
+        ensures kept { OnOk result (self.new.kept ≡ self.old.kept) }
+    {
+        let cursor = self.cursor();
+        if is_unlocked(self.terminal.lock()) && from <= cursor {
+            self.paste = Paste::From(cursor);
+            self.press(key)
+        } else {
+            self.cut_paste();
+            Ok(())
+        }
+    }
+
+    /// Takes a keystroke in a pasted text that is no key of it.
+    fn take_other(&mut self, keystroke: Keystroke) -> Result<(), AllocError>
+        ensures seat { OnOk result (self.new.seat ≡ after_other keystroke self.old.seat) }
+        ensures kept { OnOk result (self.new.kept ≡ self.old.kept) }
+    {
+        match keystroke {
+            Keystroke::PasteEnds => self.paste = Paste::Off,
+            Keystroke::Size { rows, columns } => self.resize(rows, columns),
+            _ => {
+                if is_reset_action(self.settings.keymap.action_of(keystroke)) {
+                    self.paste = Paste::Off;
+                    return self.take_key(Typed::Key(Key::Reset));
+                }
+            }
+        }
+        Ok(())
+    }
+
+    /// Takes a keystroke in a pasted text of which the rest isn't left out.
+    fn take_in_paste(&mut self, from: u16, keystroke: Keystroke) -> Result<(), AllocError>
+        ensures seat { OnOk result
+            (self.new.seat ≡ after_maybe (pasted_key keystroke) from keystroke self.old.seat) }
+        ensures kept { OnOk result (self.new.kept ≡ self.old.kept) }
+    {
+        match pasted_key(keystroke) {
+            Some(key) => self.take_pasted(from, key),
+            None => self.take_other(keystroke),
+        }
+    }
+
+    /// Takes a keystroke that isn't in a pasted text.
+    fn act_on(&mut self, keystroke: Keystroke) -> Result<(), AllocError>
+        ensures seat { OnOk result (self.new.seat ≡ after_meaning keystroke self.old.seat) }
+        ensures kept { OnOk result (self.new.kept ≡ self.old.kept) }
+    {
+        match keystroke {
+            Keystroke::Char(letter) => return self.take_key(Typed::Key(Key::Char(letter))),
+            Keystroke::Size { rows, columns } => self.resize(rows, columns),
+            Keystroke::PasteBegins => self.begin_paste(),
+            Keystroke::PasteEnds => {}
+            Keystroke::Unknown => self.ring(),
+            Keystroke::Control(_) | Keystroke::Alt(_) | Keystroke::Named(_) => {
+                let action = self.settings.keymap.action_of(keystroke);
+                return self.perform(action);
+            }
+        }
+        Ok(())
+    }
+
+    /// Takes a keystroke, by how far a pasted text is.
+    fn take_stroke(&mut self, keystroke: Keystroke) -> Result<(), AllocError>
+        ensures seat { OnOk result (self.new.seat ≡ after_stroke self.old.seat.paste keystroke self.old.seat) }
+        ensures kept { OnOk result (self.new.kept ≡ self.old.kept) }
+    {
+        match self.paste {
+            Paste::Off => self.act_on(keystroke),
+            Paste::Cut => self.take_other(keystroke),
+            Paste::From(from) => self.take_in_paste(from, keystroke),
+        }
     }
 
     /// Takes a keystroke. It is ignored once the operator has asked to end the program.
     fn take(&mut self, keystroke: Keystroke) -> Result<(), AllocError>
         ensures seat { OnOk result (self.new.seat ≡ after_keystroke keystroke self.old.seat) }
-        ensures kept { self.new.kept ≡ self.old.kept }
+        ensures kept { OnOk result (self.new.kept ≡ self.old.kept) }
     {
         if is_quit(self.asked) {
             Ok(())
         } else {
-            self.act_on(keystroke)
+            self.take_stroke(keystroke)
+        }
+    }
+
+    /// Takes the keystroke that a byte completes or a pause ends, if there is one.
+    fn take_some(&mut self, keystroke: Option<Keystroke>) -> Result<(), AllocError>
+        ensures seat { OnOk result
+            (self.new.seat ≡ after_keystrokes (option_to_list keystroke) self.old.seat) }
+        ensures kept { OnOk result (self.new.kept ≡ self.old.kept) }
+    {
+        match keystroke {
+            Some(keystroke) => self.take(keystroke),
+            None => Ok(()),
         }
     }
 
@@ -430,10 +826,10 @@ impl LiveTerminal {
         ensures kept { OnOk result (self.new.kept ≡ (read_byte self.old.kept byte).kept) }
     {
         let pushed = self.reader.push(byte);
-        match pushed.keystroke {
-            Some(keystroke) => self.take(keystroke),
-            None => Ok(()),
+        if pushed.interrupted {
+            self.take(Keystroke::Unknown)?;
         }
+        self.take_some(pushed.keystroke)
     }
 
     /// Takes bytes that were typed at the tty.
@@ -446,15 +842,33 @@ impl LiveTerminal {
         Ok(())
     }
 
+    /// Whether no byte was typed for so long that an incomplete keystroke isn't waited for any more.
+    fn is_pause(&self) -> bool
+        ensures { result ≡ is_pause self.now.seat }
+    {
+        self.settings.escape <= self.idle
+    }
+
+    /// Ends an incomplete keystroke, if no byte was typed for long.
+    fn pause(&mut self) -> Result<(), AllocError>
+        ensures { OnOk result (PausesIf (is_pause self.old.seat) self.old self.new) }
+    {
+        if !self.is_pause() {
+            return Ok(());
+        }
+        let keystroke = self.reader.pause();
+        self.take_some(keystroke)
+    }
+
     /// Takes the bytes of a read of the tty: presses their keys in order. A read without a byte ends an incomplete
-    /// keystroke.
+    /// keystroke, if no byte was typed for long.
     pub fn take_typed(&mut self, typed: &[u8]) -> Result<(), AllocError>
         ensures { OnOk result (Types typed.now self.old self.new) }
     {
         if typed.is_empty() {
-            let _ = self.reader.pause();
-            return Ok(());
+            return self.pause();
         }
+        self.idle = 0;
         self.take_bytes(typed)
     }
 
@@ -512,9 +926,9 @@ impl LiveTerminal {
 
     /// The picture of the table of keys.
     fn keys_picture(&self, alloc: Global) -> Result<Picture, AllocError>
-        ensures { IfOk result (λ picture. picture ≡ page_of self.now.seat.terminal.station.screen key_table) }
+        ensures { IfOk result (λ picture. picture ≡ page_of self.now.seat.terminal.station.screen self.now.seat.settings.page) }
     {
-        Picture::page(alloc, self.terminal.screen(), &KEY_TABLE)
+        Picture::page(alloc, self.terminal.screen(), self.settings.lines())
     }
 
     /// The picture of the screen.
@@ -526,8 +940,10 @@ impl LiveTerminal {
         let status = Status {
             place: status_place(self.overlay, self.size.rows, screen),
             connected: is_connected(&phase),
-            refusal: self.refusal,
+            trouble: self.trouble,
             lu: lu_place(&phase),
+            held: self.typeahead.len() > 0,
+            seconds: seconds_of(self.waited),
         };
         Picture::new(alloc, screen, self.terminal.keyboard(), &status)
     }
@@ -555,18 +971,20 @@ impl LiveTerminal {
         self.draw(alloc, drawn)
     }
 
-    /// Appends BEL, if a write of the host asked for the alarm.
+    /// Appends BEL, if a write of the host asked for the alarm, or what was typed has the bell ring.
     fn sound(&mut self, drawn: &mut Vec<u8>) -> Result<(), AllocError>
         ensures { OnOk result (Sounds self.old self.new drawn.old.items drawn.new.items) }
     {
-        if self.terminal.take_alarm() {
+        let alarm = self.terminal.take_alarm();
+        let rings = std::mem::replace(&mut self.rings, false);
+        if alarm || rings {
             put_bell(drawn)?;
         }
         Ok(())
     }
 
     /// One turn: takes the bytes received from the host, then the keys that were typed ahead, then the bytes typed at
-    /// the tty, and appends to `drawn` the bytes to be written to the tty, with BEL if a write asked for the alarm. What
+    /// the tty, and appends to `drawn` the bytes to be written to the tty, with BEL if a write asked for the alarm, or if what was typed has the bell ring. What
     /// the host's bytes show is drawn before a key is pressed on it. The bytes to be sent are then in `out`.
     pub fn turn(
         &mut self,
@@ -579,7 +997,7 @@ impl LiveTerminal {
     {
         self.hear(came)?;
         self.show_heard(alloc, came, drawn)?;
-        self.resume(alloc)?;
+        self.resume()?;
         self.take_typed(typed)?;
         self.draw(alloc, drawn)?;
         self.sound(drawn)

@@ -19,9 +19,10 @@ use std::alloc::Global;
 use std::io::ErrorKind;
 use std::marker;
 use std::net::{Net, SocketAddr};
+use std::time::{Clock, Instant};
 use term_core::TermPhase;
 use tn3270e_msg::Lu;
-use tty::{Colors, check_room};
+use tty::{Colors, Keymap, Trouble, check_room};
 
 /// The most events of one poll. A socket without an event is also read.
 const MOST_EVENTS: usize = 8;
@@ -106,6 +107,36 @@ impl<S: RawRead + RawWrite + Drop, K: Drop, T: Drop> OperatorSession<S, K, T> {
             stale: true,
             was_bound: false,
         })
+    }
+
+    /// Uses this keymap from now on, waits for the rest of a keystroke for `escape` milliseconds without a byte, and says
+    /// whether the bell doesn't ring for keys. NoMemory if memory is refused for the table of keys.
+    pub fn set_up(
+        &mut self,
+        alloc: Global,
+        keymap: Keymap,
+        escape: u16,
+        quiet: bool,
+    ) -> Result<(), Fault> {
+        self.live.use_keymap(alloc, keymap)?;
+        self.live.wait_for_escape(u32::from(escape));
+        self.live.be_quiet(quiet);
+        Ok(())
+    }
+
+    /// Takes the time that passed since the last call, in milliseconds. If that changes the seconds of the wait, the
+    /// next turn draws the screen.
+    pub fn pass(&mut self, millis: u32) {
+        let before = self.live.seconds();
+        self.live.pass(millis);
+        let after = self.live.seconds();
+        self.stale |= after != before && (after > 1 || before > 1);
+    }
+
+    /// Tells the operator why there is no connection to the host.
+    pub fn fail_to_connect(&mut self, why: Trouble) {
+        self.live.fail_to_connect(why);
+        self.stale = true;
     }
 
     /// Begins a connection, if there is none. The terminal requests this LU, if one is given. NoMemory if memory is
@@ -206,7 +237,7 @@ impl<S: RawRead + RawWrite + Drop, K: Drop, T: Drop> OperatorSession<S, K, T> {
             (TakesBytes came.now typed.now self.old self.new drawn.old.items drawn.new.items) }
         ensures memory { IfErr result (λ fault. fault ≡ Fault.NoMemory) }
     {
-        if is_quiet(came, typed, self.stale) {
+        if is_quiet(came, typed, self.stale || self.live.rings()) {
             return self.rest(typed);
         }
         self.live.turn(alloc, came, typed, drawn)?;
@@ -284,7 +315,7 @@ impl<S: RawRead + RawWrite + Drop, K: Source + Drop, T: Sink + Drop> OperatorSes
         ensures takes { OnOk result (TakesInput T.seen came.now typed.now self.old self.new) }
         ensures fails { IfErr result (λ fault. FailsToTake T.seen fault self.old self.new) }
     {
-        if is_quiet(came, typed, self.stale) {
+        if is_quiet(came, typed, self.stale || self.live.rings()) {
             self.rest(typed)
         } else {
             self.work(alloc, came, typed)
@@ -333,6 +364,25 @@ fn failure_of(socket: &TcpStream) -> Option<ErrorKind> {
     }
 }
 
+/// What the operator is told of a connection that can't be established.
+fn trouble_of(kind: ErrorKind) -> Trouble {
+    match kind {
+        ErrorKind::ConnectionRefused => Trouble::HostRefuses,
+        ErrorKind::TimedOut => Trouble::NoAnswer,
+        _ => Trouble::Unreachable,
+    }
+}
+
+/// The whole milliseconds between two readings of the clock; 0 if the clock failed.
+fn millis_between(start: Option<Instant>, now: Option<Instant>) -> u64 {
+    match (start, now) {
+        (Some(start), Some(now)) => {
+            u64::try_from(now.duration_since(start).as_millis()).unwrap_or(u64::MAX)
+        }
+        _ => 0,
+    }
+}
+
 /// A host's address, the poll that waits for connections to it, and the connection that is being established, if any.
 /// Until it is established, the session has no connection, and the operator sees the last screen.
 #[derive(Drop)]
@@ -347,7 +397,7 @@ struct Dialer {
 }
 
 impl Dialer {
-    fn new(net: &impl Net, alloc: Global, options: &OperateOptions) -> Result<Dialer, Fault> {
+    fn new(net: &impl Net, alloc: Global, options: &OperateOptions<'_>) -> Result<Dialer, Fault> {
         let events = Events::with_capacity(alloc, MOST_EVENTS)?;
         let Ok(poll) = Poll::new(net) else {
             return Err(Fault::SocketFailed);
@@ -363,13 +413,17 @@ impl Dialer {
     }
 
     /// Begins to connect, unless that is under way. CannotConnect if it fails at once and no connection ever was made.
-    fn redial(&mut self, net: &impl Net) -> Result<(), Fault> {
+    fn redial<K: Drop, T: Drop>(
+        &mut self,
+        net: &impl Net,
+        session: &mut OperatorSession<TcpStream, K, T>,
+    ) -> Result<(), Fault> {
         if self.dialed.is_some() {
             return Ok(());
         }
         let mut socket = match TcpStream::connect(net, self.address) {
             Ok(socket) => socket,
-            Err(error) => return self.give_up(error.kind()),
+            Err(error) => return self.give_up(session, error.kind()),
         };
         // As in the server: if one of these calls fails, the socket is used anyway.
         let _ = socket.set_nodelay(true);
@@ -382,9 +436,14 @@ impl Dialer {
         Ok(())
     }
 
-    /// Continues without a connection if one was established before; otherwise CannotConnect.
-    fn give_up(&self, kind: ErrorKind) -> Result<(), Fault> {
+    /// Tells the operator why there is no connection, if one was established before; otherwise CannotConnect.
+    fn give_up<K: Drop, T: Drop>(
+        &self,
+        session: &mut OperatorSession<TcpStream, K, T>,
+        kind: ErrorKind,
+    ) -> Result<(), Fault> {
         if self.was_taken {
+            session.fail_to_connect(trouble_of(kind));
             Ok(())
         } else {
             Err(Fault::Live(LiveFault::CannotConnect(self.address, kind)))
@@ -404,7 +463,7 @@ impl Dialer {
             return session.connect(socket, self.wanted);
         }
         match failure_of(&socket) {
-            Some(kind) => self.give_up(kind),
+            Some(kind) => self.give_up(session, kind),
             None => {
                 self.dialed = Some(socket);
                 Ok(())
@@ -423,22 +482,27 @@ impl Dialer {
 }
 
 /// Connects a session, and takes turns until the operator ends the program.
-fn take_turns<N: Net, K: Source + Drop, T: Sink + Drop>(
+fn take_turns<N: Net + Clock, K: Source + Drop, T: Sink + Drop>(
     net: &N,
     alloc: Global,
     dialer: &mut Dialer,
     session: &mut OperatorSession<TcpStream, K, T>,
 ) -> Result<(), Fault> {
-    dialer.redial(net)?;
+    dialer.redial(net, session)?;
     let mut moved = true;
+    let start = Instant::now(net).ok();
+    let mut passed = 0;
     for _ in 0..u64::MAX {
+        let millis = millis_between(start, Instant::now(net).ok()).max(passed);
+        session.pass((millis - passed).min(3_600_000) as u32);
+        passed = millis;
         dialer.hand_over(session)?;
         dialer.wait(moved)?;
         moved = session.turn(alloc)?;
         match session.take_asked() {
             OperatorRequest::Nothing => {}
             OperatorRequest::Quit => return Ok(()),
-            OperatorRequest::Connect => dialer.redial(net)?,
+            OperatorRequest::Connect => dialer.redial(net, session)?,
         }
     }
     Ok(())
@@ -456,21 +520,23 @@ fn tty_size(model: Model, tty: Option<TtySize>) -> Result<TtySize, Fault> {
 }
 
 /// Runs a live terminal.
-fn operate<N: Net, K: Source + Drop, T: Sink + Drop>(
+fn operate<N: Net + Clock, K: Source + Drop, T: Sink + Drop>(
     net: &N,
     alloc: Global,
-    options: &OperateOptions,
+    options: &OperateOptions<'_>,
+    keymap: Keymap,
     keys: K,
     tty: T,
 ) -> Result<(), Fault> {
     let size = tty_size(options.model, options.tty)?;
     let mut dialer = Dialer::new(net, alloc, options)?;
     let mut session = OperatorSession::new(alloc, options.model, size, options.colors, keys, tty)?;
+    session.set_up(alloc, keymap, options.escape.get(), options.quiet_keys)?;
     take_turns(net, alloc, &mut dialer, &mut session)
 }
 
-/// Runs a terminal at the host of the options, until the operator presses Ctrl-]. The operator's keys are read
-/// from a tty in raw mode, and the screen is written there. A read of the keys must return at once, as with `stty min 0
+/// Runs a terminal at the host of the options, until the operator ends it. The operator's keys, which do what the keymap
+/// says, are read from a tty in raw mode, and the screen is written there. A read of the keys must return at once, as with `stty min 0
 /// time 0`. Without a connection, Enter connects again. A turn with nothing to do takes at most 10 milliseconds. A
 /// fault that ends the run is written to `faults` as one line.
 ///
@@ -478,15 +544,16 @@ fn operate<N: Net, K: Source + Drop, T: Sink + Drop>(
 /// mode, or if it is too small; 3 if memory is refused; 4 if connecting fails, if the host rejects the request for an
 /// LU or ends the connection before the terminal was bound to one, or if the terminal closes the connection because the
 /// host breaks the protocol; 6 if the output fails.
-pub fn run_operate<N: Net, K: Source + Drop, T: Sink + Drop, E: Sink>(
+pub fn run_operate<N: Net + Clock, K: Source + Drop, T: Sink + Drop, E: Sink>(
     net: &N,
     alloc: Global,
-    options: &OperateOptions,
+    options: &OperateOptions<'_>,
+    keymap: Keymap,
     keys: K,
     tty: T,
     faults: &mut E,
 ) -> u8 {
-    match operate(net, alloc, options, keys, tty) {
+    match operate(net, alloc, options, keymap, keys, tty) {
         Ok(()) => 0,
         Err(fault) => report_and_exit_code(fault, faults),
     }

@@ -10,7 +10,7 @@ use crate::selfrun::run_selfrun;
 use cli::{Refusal, VERSION, WordFault, refuse_words, run_help, run_version, words};
 use jobs::{
     CountedReader, CountedWriter, Fault, Job, Operand, OperateOptions, Sink, UntilClosed,
-    refuse_file, report_and_exit_code,
+    read_whole, refuse_file, refuse_keymap, report_and_exit_code,
 };
 use operate::run_operate;
 use scripts::{run_check, run_script_with, run_show, run_term};
@@ -18,6 +18,7 @@ use service::{ServeOptions, open_panels, run_host, run_serve, run_tell};
 use std::env;
 use std::io::{self, ErrorKind, IsTerminal, Stdout};
 use std::process::ExitCode;
+use tty::{Keymap, KeymapFault};
 use web::run_web;
 
 /// The name of the standard input in reports.
@@ -84,12 +85,42 @@ fn check(rt: &HostRuntime, file: &Option<Operand<'_>>) -> u8 {
     }
 }
 
+/// The keymap of a file; each key does what is usual if none is given. Else the exit status: why it is no keymap is
+/// printed.
+fn keymap_of<E: Sink>(
+    rt: &HostRuntime,
+    file: &Option<Operand<'_>>,
+    faults: &mut E,
+) -> Result<Keymap, u8> {
+    let alloc = rt.alloc();
+    let Some(file) = file else {
+        return Ok(Keymap::standard(alloc));
+    };
+    let name = file.as_str();
+    let opened = match open_panels(rt, name) {
+        Ok(opened) => opened,
+        Err(error) => return Err(end_without(name, error.kind(), faults)),
+    };
+    let text = match read_whole(alloc, &mut CountedReader::new(opened)) {
+        Ok(text) => text,
+        Err(fault) => return Err(report_and_exit_code(fault, faults)),
+    };
+    match Keymap::read(alloc, &text) {
+        Ok(keymap) => Ok(keymap),
+        Err(KeymapFault::Memory) => Err(report_and_exit_code(Fault::NoMemory, faults)),
+        Err(fault) => Err(refuse_keymap(name, &fault, faults)),
+    }
+}
+
 /// Runs a terminal for the operator at this tty, and returns the exit status.
-fn operate(rt: &HostRuntime, options: &OperateOptions) -> u8 {
+fn operate(rt: &HostRuntime, options: &OperateOptions<'_>) -> u8 {
     let input = CountedReader::new(rt.stdin());
     let out = CountedWriter::new(rt.stdout());
     let mut faults = CountedWriter::new(rt.stderr());
-    run_operate(rt, rt.alloc(), options, input, out, &mut faults)
+    match keymap_of(rt, &options.keymap, &mut faults) {
+        Ok(keymap) => run_operate(rt, rt.alloc(), options, keymap, input, out, &mut faults),
+        Err(status) => status,
+    }
 }
 
 /// Runs a job, and returns the exit status.

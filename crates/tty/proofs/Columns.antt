@@ -5,13 +5,13 @@ use Rattle.std.proofs.lemmas.List.{length-take-le}
 use Rattle.std.proofs.lemmas.List.FromFn.{map-range_with_len_more, length-map-range_with_len}
 use Rattle.codes3270.specs.declared.attribute.Cell.{Cell}
 use Rattle.keyboard.specs.State.{Keyboard}
-use Rattle.keyboard.specs.declared.key.Refusal.{Refusal}
+use Rattle.tty.specs.declared.status.Trouble.{Trouble}
 use Rattle.tty.specs.declared.place.Place.{Place}
 use Rattle.presentation.specs.Sizes.{SizedScreen}
 use Rattle.tty.specs.declared.picture.PictureCell.{PictureCell}
 use Rattle.tty.specs.Pictures.{PictureParts, origin, plain}
 use Rattle.tty.specs.Painting.{notice_of, notice_side, page_cells, page_of, painted_at, place_of, picture_of, screen_cells, status_rows, with_status}
-use Rattle.tty.specs.StatusRow.{connection_word, reason, insert_word, in_columns, keys_hint, letter_at, position_text, status_cells}
+use Rattle.tty.specs.StatusRow.{connection_word, reason, seconds_text, signs, in_columns, keys_hint, letter_at, position_text, status_cells}
 use Rattle.tty.specs.declared.status.StatusPlace.{StatusPlace}
 use Rattle.tty.specs.declared.status.StatusPlace.TheVariants as status
 
@@ -38,6 +38,11 @@ pub six_added : {A : Type 0} (before a b c d e f : List A) → (((((before ++ a)
 six_added {A = A} before a b c d e f =
     ap (λ (items : List A). items ++ f) (five_added before a b c d e) ∙ append_assoc before ((((a ++ b) ++ c) ++ d) ++ e) f
 
+pub seven_added : {A : Type 0} (before a b c d e f g : List A)
+    → ((((((before ++ a) ++ b) ++ c) ++ d) ++ e) ++ f) ++ g ≡ before ++ ((((((a ++ b) ++ c) ++ d) ++ e) ++ f) ++ g)
+seven_added {A = A} before a b c d e f g =
+    ap (λ (items : List A). items ++ g) (six_added before a b c d e f) ∙ append_assoc before (((((a ++ b) ++ c) ++ d) ++ e) ++ f) g
+
 pub ok_then : {T E P Q : Type 0} (result : Result T E) → (P → Q) → OnOk result P → OnOk result Q
 ok_then (Ok done) f h = f h
 ok_then (Err fault) f h = tt
@@ -45,27 +50,30 @@ ok_then (Err fault) f h = tt
 pub columns_counted : (count : ℕ) (text : List ℕ) → length (in_columns count text) ≡ count
 columns_counted count text = length-map-range_with_len (λ (column : ℕ). plain (letter_at text column)) 0 count
 
-status_counted : (columns : ℕ) (keyboard : Keyboard) (connected : Bool) (refusal : Option Refusal) (lu : List ℕ) (cursor : Place)
-    → 72 ≤ columns → length (status_cells columns keyboard connected refusal lu cursor) ≡ columns
-status_counted columns keyboard connected refusal lu cursor wide =
+status_counted : (columns : ℕ) (keyboard : Keyboard) (connected : Bool) (trouble : Option Trouble) (lu : List ℕ) (held : Bool) (seconds : ℕ) (cursor : Place)
+    → 72 ≤ columns → length (status_cells columns keyboard connected trouble lu held seconds cursor) ≡ columns
+status_counted columns keyboard connected trouble lu held seconds cursor wide =
     let a = in_columns 16 (connection_word connected) in
-    let b = in_columns 16 (reason keyboard.lock refusal) in
-    let c = in_columns 8 (insert_word keyboard.inserting) in
+    let b = in_columns 13 (reason keyboard.lock trouble) in
+    let c = in_columns 8 (signs keyboard.inserting held) in
     let d = in_columns 15 lu in
     let e = in_columns 17 keys_hint in
     let f = in_columns (columns - 72) (position_text cursor) in
-    let five = length-append ((((a ++ b) ++ c) ++ d) ++ e) f in
-    let four = length-append (((a ++ b) ++ c) ++ d) e in
-    let three = length-append ((a ++ b) ++ c) d in
-    let two = length-append (a ++ b) c in
+    let t = in_columns 3 (seconds_text seconds) in
+    let six = length-append (((((a ++ b) ++ t) ++ c) ++ d) ++ e) f in
+    let five = length-append ((((a ++ b) ++ t) ++ c) ++ d) e in
+    let four = length-append (((a ++ b) ++ t) ++ c) d in
+    let three = length-append ((a ++ b) ++ t) c in
+    let two = length-append (a ++ b) t in
     let one = length-append a b in
+    let timed = columns_counted 3 (seconds_text seconds) in
     let first = columns_counted 16 (connection_word connected) in
-    let second = columns_counted 16 (reason keyboard.lock refusal) in
-    let third = columns_counted 8 (insert_word keyboard.inserting) in
+    let second = columns_counted 13 (reason keyboard.lock trouble) in
+    let third = columns_counted 8 (signs keyboard.inserting held) in
     let fourth = columns_counted 15 lu in
     let fifth = columns_counted 17 keys_hint in
     let sixth = columns_counted (columns - 72) (position_text cursor) in
-    omega (arith, wide, five, four, three, two, one, first, second, third, fourth, fifth, sixth)
+    omega (arith, wide, six, five, four, three, two, one, timed, first, second, third, fourth, fifth, sixth)
 
 -- the rows of a screen, and a row at a place
 placed_counted : (place : StatusPlace) (rows columns : ℕ) (screen row : List PictureCell) → 0 < rows → length screen ≡ rows * columns
@@ -80,13 +88,13 @@ placed_counted status.Over (suc rows) columns screen row some many one =
     omega (arith, whole, less, many, one)
 placed_counted status.Nowhere rows columns screen row some many one = omega (arith, many)
 
-pub picture_counted : (place : StatusPlace) (rows columns : ℕ) (cells : List Cell) (keyboard : Keyboard) (connected : Bool) (refusal : Option Refusal) (lu : List ℕ) (cursor : Place)
+pub picture_counted : (place : StatusPlace) (rows columns : ℕ) (cells : List Cell) (keyboard : Keyboard) (connected : Bool) (trouble : Option Trouble) (lu : List ℕ) (held : Bool) (seconds : ℕ) (cursor : Place)
     → 72 ≤ columns → 0 < rows → length cells ≡ rows * columns
-    → length (with_status place columns (screen_cells cells) (status_cells columns keyboard connected refusal lu cursor)) ≡ (rows + status_rows place) * columns
-picture_counted place rows columns cells keyboard connected refusal lu cursor wide some many =
-    placed_counted place rows columns (screen_cells cells) (status_cells columns keyboard connected refusal lu cursor) some
+    → length (with_status place columns (screen_cells cells) (status_cells columns keyboard connected trouble lu held seconds cursor)) ≡ (rows + status_rows place) * columns
+picture_counted place rows columns cells keyboard connected trouble lu held seconds cursor wide some many =
+    placed_counted place rows columns (screen_cells cells) (status_cells columns keyboard connected trouble lu held seconds cursor) some
     (length-map-range_with_len (painted_at cells) 0 (length cells) ∙ many)
-    (status_counted columns keyboard connected refusal lu cursor wide)
+    (status_counted columns keyboard connected trouble lu held seconds cursor wide)
 
 -- ---- pages
 
@@ -135,15 +143,15 @@ parts : ℕ → ℕ → List PictureCell → Place → PictureParts
 parts rows columns cells cursor = record { rows = rows; columns = columns; cells = cells; cursor = cursor }
 
 -- a picture, by its parts
-pub picture_made : (place : StatusPlace) (sized : SizedScreen) (keyboard : Keyboard) (connected : Bool) (refusal : Option Refusal) (lu : List ℕ)
+pub picture_made : (place : StatusPlace) (sized : SizedScreen) (keyboard : Keyboard) (connected : Bool) (trouble : Option Trouble) (lu : List ℕ) (held : Bool) (seconds : ℕ)
     (rows columns : ℕ) (cells : List PictureCell) (cursor : Place)
     → rows ≡ sized.size.rows + status_rows place → columns ≡ sized.size.columns → cursor ≡ place_of sized.size.columns sized.screen.cursor
-    → cells ≡ with_status place columns (screen_cells sized.screen.cells) (status_cells columns keyboard connected refusal lu cursor)
-    → record { rows = rows; columns = columns; cells = cells; cursor = cursor } ≡ picture_of place sized keyboard connected refusal lu
+    → cells ≡ with_status place columns (screen_cells sized.screen.cells) (status_cells columns keyboard connected trouble lu held seconds cursor)
+    → record { rows = rows; columns = columns; cells = cells; cursor = cursor } ≡ picture_of place sized keyboard connected trouble lu held seconds
 unfolding parts
-picture_made place sized keyboard connected refusal lu rows columns cells cursor high wide there all =
+picture_made place sized keyboard connected trouble lu held seconds rows columns cells cursor high wide there all =
     let shown : ℕ → Place → List PictureCell =
-    λ width at. with_status place width (screen_cells sized.screen.cells) (status_cells width keyboard connected refusal lu at) in
+    λ width at. with_status place width (screen_cells sized.screen.cells) (status_cells width keyboard connected trouble lu held seconds at) in
     ap (λ (items : List PictureCell). parts rows columns items cursor) all
     ∙ ap (λ (count : ℕ). parts count columns (shown columns cursor) cursor) high
     ∙ ap (λ (width : ℕ). parts (sized.size.rows + status_rows place) width (shown width cursor) cursor) wide

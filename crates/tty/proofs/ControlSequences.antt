@@ -1,5 +1,5 @@
 -- A control sequence is one keystroke.
-use Rattle.std.proofs.Common.{◌≡◌, ◌≢◌, ℕ, Bool, true, false, not, List, [], ◌∷◌, ◌++◌, take, refl, arith}
+use Rattle.std.proofs.Common.{◌≡◌, ◌≢◌, ℕ, Bool, ◌||◌, true, false, not, List, [], ◌∷◌, ◌++◌, take, refl, arith}
 use Rattle.std.specs.Prelude.{◌==◌}
 use Rattle.std.specs.Int.{IsInRange}
 use Rattle.std.specs.List.{AllByRecursion}
@@ -9,10 +9,10 @@ use Rattle.tty.specs.KeyForms.{completes, may_continue}
 use Rattle.tty.specs.KeyReading.{grown}
 use Rattle.tty.proofs.Single.{is_single}
 
--- the bytes kept of a control sequence: its first byte after CSI is no `[`
+-- the bytes kept of a control sequence: its first byte after CSI is no `[` and no `M`
 abbrev begins_plain : List ℕ → Bool
 begins_plain [] = false
-begins_plain (first ∷ rest) = not (first == 0x5B)
+begins_plain (first ∷ rest) = not (first == 0x5B || first == 0x4D)
 
 single_more : (kept : List ℕ) (byte : ℕ) (bytes : List ℕ) → may_continue kept byte ≡ true → completes kept byte ≡ false
     → is_single (grown kept byte) bytes ≡ true → is_single kept (byte ∷ bytes) ≡ true
@@ -35,9 +35,11 @@ single_after (first ∷ rest) (byte ∷ parameters) last plain all range =
     (single_after (first ∷ take 9 (rest ++ byte ∷ [])) parameters last plain all.1 range)
 
 pub single_csi : (parameters : List ℕ) (last : ℕ) → AllByRecursion (IsInRange 0x20 0x3F) parameters → IsInRange 0x40 0x7E last
-    → (parameters ≡ [] → last ≢ 0x5B) → is_single [] (0x1B ∷ 0x5B ∷ (parameters ++ last ∷ [])) ≡ true
+    → (parameters ≡ [] → (last ≢ 0x5B) × (last ≢ 0x4D)) → is_single [] (0x1B ∷ 0x5B ∷ (parameters ++ last ∷ [])) ≡ true
 single_csi [] last all range other =
-    let plain : last ≢ 0x5B = other refl in
+    let plain = other refl in
+    let first : last ≢ 0x5B = plain.0 in
+    let second : last ≢ 0x4D = plain.1 in
     grind (arith, nat_tests)
 single_csi (byte ∷ parameters) last all range other =
     let byte_range : IsInRange 0x20 0x3F byte = all.0 in

@@ -11,13 +11,13 @@ use Rattle.codes3270.specs.declared.attribute.Cell.{Cell}
 use Rattle.codes3270.specs.declared.attribute.Cell.TheVariants.{Char, Attr}
 use Rattle.datastream.specs.Screen.{attribute_over}
 use Rattle.presentation.specs.Glyph.{blank, glyph_of, is_hidden}
-use Rattle.keyboard.specs.declared.key.Refusal.{Refusal}
+use Rattle.tty.specs.declared.status.Trouble.{Trouble}
 use Rattle.keyboard.specs.State.{Keyboard}
 use Rattle.tty.specs.declared.place.Place.{Place}
 use Rattle.tty.specs.declared.picture.PictureCell.{PictureCell}
 use Rattle.tty.specs.Pictures.{plain, is_graphic, has_graphic}
 use Rattle.tty.specs.Painting.{page_cells, painted_at, screen_cells, with_status}
-use Rattle.tty.specs.StatusRow.{connection_word, reason, insert_word, keys_hint, letter_at, position_text, in_columns, status_cells}
+use Rattle.tty.specs.StatusRow.{connection_word, reason, seconds_text, signs, keys_hint, letter_at, position_text, in_columns, status_cells}
 use Rattle.tty.specs.declared.status.StatusPlace.{StatusPlace}
 use Rattle.tty.specs.declared.status.StatusPlace.TheVariants as status
 
@@ -75,20 +75,22 @@ text_graphic count text =
     all_mapped (λ (column : ℕ). plain (letter_at text column)) 0 count
     (λ column. letter_by (nat_lt 0x20 (get_or text column 0x20)) (nat_lt (get_or text column 0x20) 0x7F) (get_or text column 0x20) refl refl)
 
-status_graphic : (columns : ℕ) (keyboard : Keyboard) (connected : Bool) (refusal : Option Refusal) (lu : List ℕ) (cursor : Place)
-    → list_all has_graphic (status_cells columns keyboard connected refusal lu cursor) ≡ true
-status_graphic columns keyboard connected refusal lu cursor =
+status_graphic : (columns : ℕ) (keyboard : Keyboard) (connected : Bool) (trouble : Option Trouble) (lu : List ℕ) (held : Bool) (seconds : ℕ) (cursor : Place)
+    → list_all has_graphic (status_cells columns keyboard connected trouble lu held seconds cursor) ≡ true
+status_graphic columns keyboard connected trouble lu held seconds cursor =
     let a = in_columns 16 (connection_word connected) in
-    let b = in_columns 16 (reason keyboard.lock refusal) in
-    let c = in_columns 8 (insert_word keyboard.inserting) in
+    let b = in_columns 13 (reason keyboard.lock trouble) in
+    let c = in_columns 8 (signs keyboard.inserting held) in
     let d = in_columns 15 lu in
     let e = in_columns 17 keys_hint in
     let f = in_columns (columns - 72) (position_text cursor) in
-    let one = all_joined a b (text_graphic 16 (connection_word connected)) (text_graphic 16 (reason keyboard.lock refusal)) in
-    let two = all_joined (a ++ b) c one (text_graphic 8 (insert_word keyboard.inserting)) in
-    let three = all_joined ((a ++ b) ++ c) d two (text_graphic 15 lu) in
-    let four = all_joined (((a ++ b) ++ c) ++ d) e three (text_graphic 17 keys_hint) in
-    all_joined ((((a ++ b) ++ c) ++ d) ++ e) f four (text_graphic (columns - 72) (position_text cursor))
+    let one = all_joined a b (text_graphic 16 (connection_word connected)) (text_graphic 13 (reason keyboard.lock trouble)) in
+    let t = in_columns 3 (seconds_text seconds) in
+    let timed = all_joined (a ++ b) t one (text_graphic 3 (seconds_text seconds)) in
+    let two = all_joined ((a ++ b) ++ t) c timed (text_graphic 8 (signs keyboard.inserting held)) in
+    let three = all_joined (((a ++ b) ++ t) ++ c) d two (text_graphic 15 lu) in
+    let four = all_joined ((((a ++ b) ++ t) ++ c) ++ d) e three (text_graphic 17 keys_hint) in
+    all_joined (((((a ++ b) ++ t) ++ c) ++ d) ++ e) f four (text_graphic (columns - 72) (position_text cursor))
 
 -- the first cells of a screen
 all_first : (count : ℕ) (cells : List PictureCell) → list_all has_graphic cells ≡ true → list_all has_graphic (take count cells) ≡ true
@@ -106,11 +108,11 @@ placed_graphic status.Over columns screen row first second =
     all_joined (take (length screen - columns) screen) row (all_first (length screen - columns) screen first) second
 placed_graphic status.Nowhere columns screen row first second = first
 
-pub picture_graphic : (place : StatusPlace) (columns : ℕ) (cells : List Cell) (keyboard : Keyboard) (connected : Bool) (refusal : Option Refusal) (lu : List ℕ) (cursor : Place)
-    → list_all has_graphic (with_status place columns (screen_cells cells) (status_cells columns keyboard connected refusal lu cursor)) ≡ true
-picture_graphic place columns cells keyboard connected refusal lu cursor =
-    placed_graphic place columns (screen_cells cells) (status_cells columns keyboard connected refusal lu cursor) (screen_graphic cells)
-    (status_graphic columns keyboard connected refusal lu cursor)
+pub picture_graphic : (place : StatusPlace) (columns : ℕ) (cells : List Cell) (keyboard : Keyboard) (connected : Bool) (trouble : Option Trouble) (lu : List ℕ) (held : Bool) (seconds : ℕ) (cursor : Place)
+    → list_all has_graphic (with_status place columns (screen_cells cells) (status_cells columns keyboard connected trouble lu held seconds cursor)) ≡ true
+picture_graphic place columns cells keyboard connected trouble lu held seconds cursor =
+    placed_graphic place columns (screen_cells cells) (status_cells columns keyboard connected trouble lu held seconds cursor) (screen_graphic cells)
+    (status_graphic columns keyboard connected trouble lu held seconds cursor)
 
 -- ---- pages
 

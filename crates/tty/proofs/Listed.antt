@@ -1,17 +1,15 @@
 -- The sequences of the table read as their keys.
-use Rattle.std.proofs.Common.{◌≡◌, ◌≢◌, ℕ, zero, suc, ◌+◌, ◌≤◌, Bool, true, false, not, ◌&&◌, nat_le, List, [], ◌∷◌, length, get_or, Option, Some, None, option_map, refl, ap, sym, subst, ◌∙◌, inl, inr, arith}
+use Rattle.std.proofs.Common.{◌≡◌, ◌≢◌, ℕ, ◌≤◌, Bool, true, false, ◌&&◌, nat_le, List, [], ◌∷◌, length, get_or, Option, Some, None, refl, ap, sym, subst, ◌∙◌, inl, inr, arith}
 use Rattle.std.specs.Prelude.{bytes_eq, codes, if◌then◌else◌}
 use Rattle.std.specs.List.{list_all, list_any}
-use Rattle.std.specs.Option.{option_or}
-use Rattle.std.proofs.lemmas.Bool.{and_from, and_parts, cases_Bool, or_cases, false≢true, le-leb, leb-true, not-true}
+use Rattle.std.proofs.lemmas.Bool.{and_from, and_parts, cases_Bool, or_cases, false≢true, le-leb, leb-true}
+use Rattle.std.proofs.lemmas.Bool.Decides.{nat_tests}
 use Rattle.std.proofs.lemmas.List.Folds.{list_all_at}
 use Rattle.std.proofs.lemmas.List.Quantifiers.{position-Some}
 use Rattle.std.proofs.lemmas.Slice.Eq.{bytes_eq-Decides}
-use Rattle.keyboard.specs.declared.key.Key.{Key as BoardKey}
-use Rattle.keyboard.specs.declared.key.Key.TheVariants.{Char, Tab, Pf, Pa}
 use Rattle.tty.specs.declared.keystroke.Keystroke.{Keystroke}
-use Rattle.tty.specs.declared.keystroke.Keystroke.TheVariants.{Key, Help, Unknown}
-use Rattle.tty.specs.KeySequences.{pf_sequences, pa_sequences, other_sequences, other_keys, place_of, key_or, escaped, meaning, size_report}
+use Rattle.tty.specs.declared.keystroke.Keystroke.TheVariants.{Alt, Char, PasteBegins, PasteEnds, Unknown}
+use Rattle.tty.specs.KeySequences.{escaped, is_alt, marked, meaning, named_or, named_sequences, other_keystroke, place_of, size_report}
 use Rattle.tty.specs.KeyLaws.{one, SequencesAreRead, SequencesTypeNothing}
 use Rattle.tty.proofs.Reports.{IsReported, report_is, report_is_read}
 use Rattle.tty.proofs.Single.{is_single, all_kept, single_read}
@@ -44,33 +42,37 @@ passes_at test keys sequence place all found =
 abbrev is_read : List ℕ → Bool
 is_read text = is_single [] (0x1B ∷ text) && nat_le (length text) 11
 
-abbrev key_at : (pf pa other : Option ℕ) → Option BoardKey
-key_at pf pa other =
-    option_or (option_or (option_map (λ place. Pf (place + 1)) pf) (option_map (λ place. Pa (place + 1)) pa)) (option_map (λ place. get_or other_keys place Tab) other)
+alt_is_read : (alt : Bool) (byte : ℕ) → is_alt byte ≡ alt → (if alt then Alt byte else Unknown) ≢ Unknown → is_read (byte ∷ []) ≡ true
+alt_is_read false byte is known = absurd (known refl)
+alt_is_read true byte is known = grind (arith, nat_tests)
 
-abbrev keystroke_at : (pf pa other : Option ℕ) (help : Bool) (report : Keystroke) → Keystroke
-keystroke_at pf pa other help report = key_or (if help then Help else report) (key_at pf pa other)
+marks_are_read : (begins ends : Bool) (sequence : List ℕ) → bytes_eq sequence (codes "[200~") ≡ begins → bytes_eq sequence (codes "[201~") ≡ ends
+    → (if begins then PasteBegins else if ends then PasteEnds else size_report sequence) ≢ Unknown → is_read sequence ≡ true
+marks_are_read true ends sequence first second known =
+    subst (λ (it : List ℕ). is_read it ≡ true) (sym ((bytes_eq-Decides sequence (codes "[200~")).0 first)) refl
+marks_are_read false true sequence first second known =
+    subst (λ (it : List ℕ). is_read it ≡ true) (sym ((bytes_eq-Decides sequence (codes "[201~")).0 second)) refl
+marks_are_read false false sequence first second known =
+    let read = report_is_read sequence known in
+    and_from (is_single [] (0x1B ∷ sequence)) (nat_le (length sequence) 11) read.0 (le-leb (length sequence) 11 (omega (arith, read.1)))
 
-in_a_row : (pf pa other : Option ℕ) (help : Bool) (report : Keystroke) (P : Type 0) → ((place : ℕ) → pf ≡ Some place → P) → ((place : ℕ) → pa ≡ Some place → P)
-    → ((place : ℕ) → other ≡ Some place → P) → (help ≡ true → P) → (report ≢ Unknown → P) → keystroke_at pf pa other help report ≢ Unknown → P
-in_a_row (Some place) pa other help report P first second third fourth fifth known = first place refl
-in_a_row None (Some place) other help report P first second third fourth fifth known = second place refl
-in_a_row None None (Some place) help report P first second third fourth fifth known = third place refl
-in_a_row None None None true report P first second third fourth fifth known = fourth refl
-in_a_row None None None false report P first second third fourth fifth known = fifth known
+marked_is_read : (sequence : List ℕ) → marked sequence ≢ Unknown → is_read sequence ≡ true
+marked_is_read sequence known =
+    marks_are_read (bytes_eq sequence (codes "[200~")) (bytes_eq sequence (codes "[201~")) sequence refl refl known
+
+other_is_read : (sequence : List ℕ) → other_keystroke sequence ≢ Unknown → is_read sequence ≡ true
+other_is_read [] known = marked_is_read [] known
+other_is_read (byte ∷ []) known = alt_is_read (is_alt byte) byte refl known
+other_is_read (first ∷ second ∷ rest) known = marked_is_read (first ∷ second ∷ rest) known
+
+named_is_read : (place : Option ℕ) (sequence : List ℕ) → place_of named_sequences sequence ≡ place
+    → named_or (other_keystroke sequence) place ≢ Unknown → is_read sequence ≡ true
+named_is_read None sequence is known = other_is_read sequence known
+named_is_read (Some place) sequence is known = passes_at is_read named_sequences sequence place refl is
 
 known_is_read : (sequence : List ℕ) → escaped sequence ≢ Unknown → is_read sequence ≡ true
 unfolding escaped
-known_is_read sequence known =
-    in_a_row (place_of pf_sequences sequence) (place_of pa_sequences sequence) (place_of other_sequences sequence)
-    (list_any (λ text. bytes_eq text sequence) (codes "?" ∷ [])) (size_report sequence) (is_read sequence ≡ true)
-    (λ place found. passes_at is_read pf_sequences sequence place refl found)
-    (λ place found. passes_at is_read pa_sequences sequence place refl found)
-    (λ place found. passes_at is_read other_sequences sequence place refl found)
-    (λ found. passes is_read (codes "?" ∷ []) sequence refl found)
-    (λ known. let read = report_is_read sequence known in
-    and_from (is_single [] (0x1B ∷ sequence)) (nat_le (length sequence) 11) read.0 (le-leb (length sequence) 11 (omega (arith, read.1))))
-    known
+known_is_read sequence known = named_is_read (place_of named_sequences sequence) sequence refl known
 
 pub sequences_are_read : SequencesAreRead
 sequences_are_read sequence known =
@@ -78,34 +80,41 @@ sequences_are_read sequence known =
     let short : length sequence ≤ 11 = leb-true (length sequence) 11 read.1 in
     single_read [] (0x1B ∷ sequence) read.0 ∙ ap (λ (bytes : List ℕ). one (meaning bytes)) (all_kept [] (0x1B ∷ sequence) (omega arith))
 
--- ---- no key of a sequence is a character
-
-abbrev is_char : BoardKey → Bool
-is_char (Char letter) = true
-is_char _ = false
-
-none_at : (keys : List BoardKey) (place : ℕ) → list_all (λ key. not (is_char key)) keys ≡ true → is_char (get_or keys place Tab) ≡ false
-none_at [] place all = refl
-none_at (key ∷ keys) zero all = not-true _ (and_parts _ _ all).0
-none_at (key ∷ keys) (suc place) all = none_at keys place (and_parts _ _ all).1
+-- ---- no sequence is a character
 
 abbrev types : Keystroke → Bool
-types (Key key) = is_char key
+types (Char letter) = true
 types _ = false
 
 report_types_none : (report : Keystroke) → IsReported report → types report ≡ false
 report_types_none _ IsReported.Nothing = refl
 report_types_none _ (IsReported.Sized rows columns) = refl
 
-types_none : (pf pa other : Option ℕ) (help : Bool) (report : Keystroke) (letter : ℕ) → types report ≡ false → keystroke_at pf pa other help report ≢ Key (Char letter)
-types_none (Some place) pa other help report letter none is = cc
-types_none None (Some place) other help report letter none is = cc
-types_none None None (Some place) help report letter none is = false≢true (sym (none_at other_keys place refl) ∙ ap types is)
-types_none None None None true report letter none is = cc
-types_none None None None false report letter none is = false≢true (sym none ∙ ap types is)
+marks_type_none : (begins ends : Bool) (report : Keystroke) → types report ≡ false
+    → types (if begins then PasteBegins else if ends then PasteEnds else report) ≡ false
+marks_type_none true ends report none = refl
+marks_type_none false true report none = refl
+marks_type_none false false report none = none
+
+marked_types_none : (sequence : List ℕ) → types (marked sequence) ≡ false
+marked_types_none sequence =
+    marks_type_none (bytes_eq sequence (codes "[200~")) (bytes_eq sequence (codes "[201~")) (size_report sequence)
+    (report_types_none (size_report sequence) (report_is sequence))
+
+alt_types_none : (alt : Bool) (byte : ℕ) → types (if alt then Alt byte else Unknown) ≡ false
+alt_types_none true byte = refl
+alt_types_none false byte = refl
+
+other_types_none : (sequence : List ℕ) → types (other_keystroke sequence) ≡ false
+other_types_none [] = marked_types_none []
+other_types_none (byte ∷ []) = alt_types_none (is_alt byte) byte
+other_types_none (first ∷ second ∷ rest) = marked_types_none (first ∷ second ∷ rest)
+
+named_types_none : (place : Option ℕ) (other : Keystroke) → types other ≡ false → types (named_or other place) ≡ false
+named_types_none None other none = none
+named_types_none (Some place) other none = refl
 
 pub sequences_type_nothing : SequencesTypeNothing
 unfolding escaped
-sequences_type_nothing sequence letter =
-    types_none (place_of pf_sequences sequence) (place_of pa_sequences sequence) (place_of other_sequences sequence)
-    (list_any (λ text. bytes_eq text sequence) (codes "?" ∷ [])) (size_report sequence) letter (report_types_none (size_report sequence) (report_is sequence))
+sequences_type_nothing sequence letter is =
+    false≢true (sym (named_types_none (place_of named_sequences sequence) (other_keystroke sequence) (other_types_none sequence)) ∙ ap types is)

@@ -114,7 +114,7 @@ report_by true sequence is known =
     let shape = report_shape sequence is in
     let final : IsInRange 0x40 0x7E 0x52 = (omega arith, omega arith) in
     let long = length-append parameters (0x52 ∷ []) in (
-      subst (λ (it : List ℕ). is_single [] (0x1B ∷ it) ≡ true) (sym shape) (single_csi parameters 0x52 are.0 final (λ none. λ same. absurd (omega (arith, same)))),
+      subst (λ (it : List ℕ). is_single [] (0x1B ∷ it) ≡ true) (sym shape) (single_csi parameters 0x52 are.0 final (λ none. ((λ same. absurd (omega (arith, same))), (λ same. absurd (omega (arith, same)))))),
       subst (λ (it : List ℕ). length it ≤ 9) (sym shape) (omega (arith, long, are.1)),
     )
 

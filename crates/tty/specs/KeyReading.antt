@@ -1,11 +1,11 @@
 -- Which keystrokes bytes are (our profile).
-use Rattle.std.specs.Prelude.{ℕ, List, [], ◌∷◌, ◌++◌, take, Option, Some, None, if◌then◌else◌}
+use Rattle.std.specs.Prelude.{ℕ, ◌==◌, ◌||◌, List, [], ◌∷◌, ◌++◌, take, if◌then◌else◌}
 use Rattle.std.specs.Option.{option_to_list}
 use Rattle.tty.specs.declared.keystroke.Keystroke.{Keystroke}
 use Rattle.tty.specs.declared.keystroke.Keystroke.TheVariants.{Unknown}
 use Rattle.tty.specs.declared.keystroke.PushResult.{PushResult}
 use Rattle.tty.specs.KeySequences.{meaning}
-use Rattle.tty.specs.KeyForms.{may_continue, completes}
+use Rattle.tty.specs.KeyForms.{breaks_off, completes, front, is_late, outlasts}
 
 -- the keystrokes that bytes complete, and the kept bytes of the next one
 pub record Reading : Type 0 where
@@ -22,11 +22,12 @@ read_on kept byte =
     if completes kept byte then record { keystrokes = meaning (grown kept byte) ∷ []; kept = [] }
     else record { keystrokes = []; kept = grown kept byte }
 
--- the reading of any byte: one that may not follow the kept ones begins the next keystroke, and they are an Unknown
+-- The reading of any byte. One that may not follow the kept ones begins the next keystroke, and they are an Unknown;
+-- but a lone ESC that a pause has ended is nothing, and goes on with a `[` as the sequence that it began.
 abbrev pub read_byte : List ℕ → ℕ → Reading
 read_byte kept byte =
-    if may_continue kept byte then read_on kept byte
-    else (let next = read_on [] byte in record { keystrokes = Unknown ∷ next.keystrokes; kept = next.kept })
+    let next = read_on (front kept byte) byte in
+    record { keystrokes = (if breaks_off kept byte then Unknown ∷ [] else []) ++ next.keystrokes; kept = next.kept }
 
 -- two readings, one after the other, as one
 abbrev pub joined : Reading → Reading → Reading
@@ -37,10 +38,17 @@ abbrev pub read_bytes : List ℕ → List ℕ → Reading
 read_bytes kept [] = record { keystrokes = []; kept = kept }
 read_bytes kept (byte ∷ bytes) = let first = read_byte kept byte in joined first (read_bytes first.kept bytes)
 
--- the keystroke that a pause ends: Unknown, if one has begun
-abbrev pub after_pause : List ℕ → Option Keystroke
-after_pause [] = None
-after_pause (first ∷ rest) = Some Unknown
+-- The reading of a pause. It ends a lone ESC, but what comes next may go on with it; it doesn't end a control sequence
+-- or an SS3; it ends what else is incomplete, a character or a control string, as an Unknown.
+abbrev pub after_pause : List ℕ → Reading
+after_pause [] = record { keystrokes = []; kept = [] }
+after_pause (first ∷ []) =
+    if first == 0x1B then record { keystrokes = []; kept = 0x1B ∷ 0x1B ∷ [] }
+    else record { keystrokes = Unknown ∷ []; kept = [] }
+after_pause (first ∷ second ∷ rest) =
+    if is_late (first ∷ second ∷ rest) || outlasts (first ∷ second ∷ rest)
+    then record { keystrokes = []; kept = first ∷ second ∷ rest }
+    else record { keystrokes = Unknown ∷ []; kept = [] }
 
 -- the keystrokes that `push` reports
 abbrev pub keystrokes_of : PushResult → List Keystroke

@@ -1,41 +1,20 @@
--- What the bytes of each keystroke mean (our profile: c3270's default keymap where it has the key, the sequences of
--- xterm, tmux, screen, rxvt and the Linux console). Page Up and Page Down, with which c3270 scrolls through its old
--- screens, are PF7 and PF8, as in x3270's keymap `rlx`. End, with which c3270 moves the cursor, is Erase EOF, as in
--- x3270's keymap `ncd`, and so are Shift-End and Ctrl-End, as in `rlx` and `ibm-xterm`. Where terminals send one
--- sequence for different keys, it has xterm's or the Linux console's meaning: `CSI 23~` and `CSI 24~` are F11 and F12,
--- which rxvt also sends for Shift-F1 and Shift-F2, and `CSI 25~` to `CSI 34~` are the Linux console's Shift-F1 to
--- Shift-F8, which rxvt sends for Shift-F3 to Shift-F10.
-use Rattle.std.specs.Prelude.{ℕ, ◌+◌, ◌-◌, ◌==◌, ◌&&◌, Bool, List, [], ◌∷◌, drop, length, take, nat_lt, Option, Some, None, if◌then◌else◌, bytes_eq, codes, get_or}
+-- Which keystroke bytes are (our profile: the sequences of xterm, tmux, screen, rxvt and the Linux console). Where
+-- terminals send one sequence for different keys, it has xterm's or the Linux console's meaning: `CSI 23~` and `CSI
+-- 24~` are F11 and F12, which rxvt also sends for Shift-F1 and Shift-F2, and `CSI 25~` to `CSI 34~` are the Linux
+-- console's Shift-F1 to Shift-F8, which rxvt sends for Shift-F3 to Shift-F10.
+use Rattle.std.specs.Prelude.{ℕ, ◌+◌, ◌-◌, ◌==◌, ◌&&◌, ◌||◌, not, Bool, List, [], ◌∷◌, drop, length, take, nat_lt, Option, Some, None, if◌then◌else◌, bytes_eq, codes, get_or}
 use Rattle.std.specs.Char.{is_ascii_control}
+use Rattle.std.specs.Int.{is_in_range}
 use Rattle.std.specs.List.{list_any, position}
-use Rattle.std.specs.Option.{option_map, option_or}
 use Rattle.std.specs.Str.{all_ascii_digits, chars, is_utf8}
 use Rattle.std.specs.Str.Parse.{digits_value}
-use Rattle.keyboard.specs.declared.key.Key.{Key as BoardKey}
-use Rattle.keyboard.specs.declared.key.Key.TheVariants.{Char, Tab, BackTab, NewLine, Home, CursorUp, CursorDown, CursorLeft, CursorRight, Backspace, Insert, Delete, EraseEof, EraseInput, Reset, Enter, Pf, Pa, Clear}
 use Rattle.tty.specs.declared.keystroke.Keystroke.{Keystroke}
-use Rattle.tty.specs.declared.keystroke.Keystroke.TheVariants.{Key, Redraw, Size, Status, Help, Quit, Unknown}
+use Rattle.tty.specs.declared.keystroke.Keystroke.TheVariants.{Char, Control, Alt, Named, Size, PasteBegins, PasteEnds, Unknown}
+use Rattle.tty.specs.KeyForms.{opens, opens_string}
 
--- the keystroke that a control character means
-abbrev pub control : ℕ → Keystroke
-control byte =
-    if byte == 0x03 then Key Clear  -- Ctrl-C
-    else if byte == 0x05 then Key EraseEof  -- Ctrl-E
-    else if byte == 0x08 then Key Backspace  -- BS
-    else if byte == 0x09 then Key Tab  -- TAB
-    else if byte == 0x0A then Key NewLine  -- LF, Ctrl-J
-    else if byte == 0x0C then Redraw  -- Ctrl-L
-    else if byte == 0x0D then Key Enter  -- CR
-    else if byte == 0x12 then Key Reset  -- Ctrl-R
-    else if byte == 0x14 then Status  -- Ctrl-T
-    else if byte == 0x15 then Key EraseInput  -- Ctrl-U
-    else if byte == 0x1D then Quit  -- Ctrl-]
-    else if byte == 0x7F then Key Backspace  -- DEL
-    else Unknown
-
--- the sequences of PF1 to PF24, in order, without their ESC: `O` after it is SS3, `[` is CSI
-abbrev pub pf_sequences : List (List (List ℕ))
-pf_sequences =
+-- The sequences of the keys that have some, without their ESC: `O` after it is SS3, `[` is CSI.
+abbrev pub named_sequences : List (List (List ℕ))
+named_sequences =
     -- F1 to F12: xterm, tmux and screen send SS3 or a number, the Linux console `CSI [` and a letter for the first five
     (codes "OP" ∷ codes "[11~" ∷ codes "[[A" ∷ [])
     ∷ (codes "OQ" ∷ codes "[12~" ∷ codes "[[B" ∷ [])
@@ -43,64 +22,49 @@ pf_sequences =
     ∷ (codes "OS" ∷ codes "[14~" ∷ codes "[[D" ∷ [])
     ∷ (codes "[15~" ∷ codes "[[E" ∷ [])
     ∷ (codes "[17~" ∷ [])
-    ∷ (codes "[18~" ∷ codes "[5~" ∷ [])  -- and Page Up
-    ∷ (codes "[19~" ∷ codes "[6~" ∷ [])  -- and Page Down
+    ∷ (codes "[18~" ∷ [])
+    ∷ (codes "[19~" ∷ [])
     ∷ (codes "[20~" ∷ [])
     ∷ (codes "[21~" ∷ [])
     ∷ (codes "[23~" ∷ [])
     ∷ (codes "[24~" ∷ [])
-    -- Shift-F1 to Shift-F12, or ESC and a digit's character with Shift on a US keyboard
-    ∷ (codes "[1;2P" ∷ codes "[11;2~" ∷ codes "[25~" ∷ codes "!" ∷ [])
-    ∷ (codes "[1;2Q" ∷ codes "[12;2~" ∷ codes "[26~" ∷ codes "@" ∷ [])
-    ∷ (codes "[1;2R" ∷ codes "[13;2~" ∷ codes "[28~" ∷ codes "#" ∷ [])
-    ∷ (codes "[1;2S" ∷ codes "[14;2~" ∷ codes "[29~" ∷ codes "$" ∷ [])
-    ∷ (codes "[15;2~" ∷ codes "[31~" ∷ codes "%" ∷ [])
-    ∷ (codes "[17;2~" ∷ codes "[32~" ∷ codes "^" ∷ [])
-    ∷ (codes "[18;2~" ∷ codes "[33~" ∷ codes "&" ∷ [])
-    ∷ (codes "[19;2~" ∷ codes "[34~" ∷ codes "*" ∷ [])
-    ∷ (codes "[20;2~" ∷ codes "(" ∷ [])
-    ∷ (codes "[21;2~" ∷ codes ")" ∷ [])
-    ∷ (codes "[23;2~" ∷ codes "_" ∷ [])
-    ∷ (codes "[24;2~" ∷ codes "+" ∷ [])
-    ∷ []
-
--- the sequences of PA1 to PA3: most terminals send ESC and the digit for Alt-1 to Alt-3
-abbrev pub pa_sequences : List (List (List ℕ))
-pa_sequences = (codes "1" ∷ []) ∷ (codes "2" ∷ []) ∷ (codes "3" ∷ []) ∷ []
-
--- the sequences of the cursor keys up, down, right and left, of Home, Insert, Delete, Back Tab and Erase EOF
-abbrev pub other_sequences : List (List (List ℕ))
-other_sequences =
-    (codes "[A" ∷ codes "OA" ∷ [])
+    -- Shift-F1 to Shift-F12
+    ∷ (codes "[1;2P" ∷ codes "[11;2~" ∷ codes "[25~" ∷ [])
+    ∷ (codes "[1;2Q" ∷ codes "[12;2~" ∷ codes "[26~" ∷ [])
+    ∷ (codes "[1;2R" ∷ codes "[13;2~" ∷ codes "[28~" ∷ [])
+    ∷ (codes "[1;2S" ∷ codes "[14;2~" ∷ codes "[29~" ∷ [])
+    ∷ (codes "[15;2~" ∷ codes "[31~" ∷ [])
+    ∷ (codes "[17;2~" ∷ codes "[32~" ∷ [])
+    ∷ (codes "[18;2~" ∷ codes "[33~" ∷ [])
+    ∷ (codes "[19;2~" ∷ codes "[34~" ∷ [])
+    ∷ (codes "[20;2~" ∷ [])
+    ∷ (codes "[21;2~" ∷ [])
+    ∷ (codes "[23;2~" ∷ [])
+    ∷ (codes "[24;2~" ∷ [])
+    -- Page Up and Page Down
+    ∷ (codes "[5~" ∷ [])
+    ∷ (codes "[6~" ∷ [])
+    -- the cursor keys up, down, right and left
+    ∷ (codes "[A" ∷ codes "OA" ∷ [])
     ∷ (codes "[B" ∷ codes "OB" ∷ [])
     ∷ (codes "[C" ∷ codes "OC" ∷ [])
     ∷ (codes "[D" ∷ codes "OD" ∷ [])
+    -- Home, Insert, Delete and Shift-Tab
     ∷ (codes "[H" ∷ codes "OH" ∷ codes "[1~" ∷ codes "[7~" ∷ [])
     ∷ (codes "[2~" ∷ [])
     ∷ (codes "[3~" ∷ [])
     ∷ (codes "[Z" ∷ (9 ∷ []) ∷ [])
     -- End, and with Shift and with Ctrl
-    ∷ (codes "[F" ∷ codes "OF" ∷ codes "[4~" ∷ codes "[8~" ∷ codes "[1;2F" ∷ codes "[1;5F" ∷ [])
+    ∷ (codes "[F" ∷ codes "OF" ∷ codes "[4~" ∷ codes "[8~" ∷ [])
+    ∷ (codes "[1;2F" ∷ [])
+    ∷ (codes "[1;5F" ∷ [])
+    -- Enter of the keypad
+    ∷ (codes "OM" ∷ [])
     ∷ []
-
--- the keys of `other_sequences`, in the same order
-abbrev pub other_keys : List BoardKey
-other_keys = CursorUp ∷ CursorDown ∷ CursorRight ∷ CursorLeft ∷ Home ∷ Insert ∷ Delete ∷ BackTab
-    ∷ EraseEof ∷ []
 
 -- the index of the key that has this sequence
 abbrev pub place_of : List (List (List ℕ)) → List ℕ → Option ℕ
 place_of keys sequence = position (λ texts. list_any (λ text. bytes_eq text sequence) texts) keys
-
--- the key that has this sequence
-abbrev pub pf_key : List ℕ → Option BoardKey
-pf_key sequence = option_map (λ place. Pf (place + 1)) (place_of pf_sequences sequence)
-
-abbrev pub pa_key : List ℕ → Option BoardKey
-pa_key sequence = option_map (λ place. Pa (place + 1)) (place_of pa_sequences sequence)
-
-abbrev pub other_key : List ℕ → Option BoardKey
-other_key sequence = option_map (λ place. get_or other_keys place Tab) (place_of other_sequences sequence)
 
 -- ---- a tty's report of its size
 
@@ -139,24 +103,35 @@ is_report sequence = get_or sequence 0 0 == 0x5B && get_or sequence (length sequ
 abbrev pub size_report : List ℕ → Keystroke
 size_report sequence = if is_report sequence then reported (take (length sequence - 2) (drop 1 sequence)) else Unknown
 
--- the keystroke that isn't a key of the 3278 and has this sequence
-abbrev pub other_keystroke : List ℕ → Keystroke
-other_keystroke sequence =
-    if list_any (λ text. bytes_eq text sequence) (codes "?" ∷ []) then Help else size_report sequence
+-- ---- other sequences
 
-abbrev pub key_or : Keystroke → Option BoardKey → Keystroke
-key_or other None = other
-key_or other (Some key) = Key key
+-- whether ESC and this byte are Alt and a key: a graphic character of ASCII, or a blank, that opens no sequence
+abbrev pub is_alt : ℕ → Bool
+is_alt byte = is_in_range 0x20 0x7E byte && not (opens byte || opens_string byte)
+
+-- the marks before and after a pasted text (xterm, "bracketed paste"); or a report
+abbrev pub marked : List ℕ → Keystroke
+marked sequence =
+    if bytes_eq sequence (codes "[200~") then PasteBegins
+    else if bytes_eq sequence (codes "[201~") then PasteEnds else size_report sequence
+
+-- the keystroke of a sequence that isn't in the table
+abbrev pub other_keystroke : List ℕ → Keystroke
+other_keystroke (byte ∷ []) = if is_alt byte then Alt byte else Unknown
+other_keystroke sequence = marked sequence
+
+abbrev pub named_or : Keystroke → Option ℕ → Keystroke
+named_or other None = other
+named_or other (Some place) = Named place
 
 -- the keystroke that the bytes after ESC mean
 unfoldable pub escaped : List ℕ → Keystroke
-escaped sequence = key_or (other_keystroke sequence)
-    (option_or (option_or (pf_key sequence) (pa_key sequence)) (other_key sequence))
+escaped sequence = named_or (other_keystroke sequence) (place_of named_sequences sequence)
 
 -- the keystroke for the first character of a text, and for the character that bytes encode in UTF-8 (RFC 3629)
 abbrev pub first_of : List ℕ → Keystroke
 first_of [] = Unknown
-first_of (letter ∷ letters) = Key (Char letter)
+first_of (letter ∷ letters) = Char letter
 
 abbrev pub character : List ℕ → Keystroke
 character bytes = if is_utf8 bytes then first_of (chars bytes) else Unknown
@@ -165,4 +140,4 @@ character bytes = if is_utf8 bytes then first_of (chars bytes) else Unknown
 abbrev pub meaning : List ℕ → Keystroke
 meaning [] = Unknown
 meaning (first ∷ rest) =
-    if first == 0x1B then escaped rest else if is_ascii_control first then control first else character (first ∷ rest)
+    if first == 0x1B then escaped rest else if is_ascii_control first then Control first else character (first ∷ rest)

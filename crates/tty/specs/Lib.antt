@@ -2,6 +2,8 @@ pub mod KeySequences
 pub mod KeyForms
 pub mod KeyReading
 pub mod KeyLaws
+pub mod StandardKeys
+pub mod Keymaps
 pub mod Looks
 pub mod Pictures
 pub mod StatusRow

@@ -6,7 +6,6 @@ use Rattle.codes3270.specs.declared.attribute.Cell.TheVariants.{Char}
 use Rattle.datastream.specs.Screen.{attribute_over}
 use Rattle.presentation.specs.Glyph.{glyph_at}
 use Rattle.presentation.specs.Sizes.{SizedScreen}
-use Rattle.keyboard.specs.declared.key.Refusal.{Refusal}
 use Rattle.keyboard.specs.State.{Keyboard}
 use Rattle.tty.specs.declared.place.Place.{Place}
 use Rattle.tty.specs.declared.picture.PictureCell.{PictureCell}
@@ -15,6 +14,7 @@ use Rattle.tty.specs.Pictures.{PictureParts, origin}
 use Rattle.tty.specs.StatusRow.{in_columns, status_cells}
 use Rattle.tty.specs.declared.status.StatusPlace.{StatusPlace}
 use Rattle.tty.specs.declared.status.StatusPlace.TheVariants as status
+use Rattle.tty.specs.declared.status.Trouble.{Trouble}
 
 -- the picture's cell for an address: the character that is printed for it, in a hidden field a blank, and its look
 abbrev pub painted_at : List Cell → ℕ → PictureCell
@@ -43,14 +43,14 @@ with_status status.Over columns screen row = take (length screen - columns) scre
 with_status status.Nowhere columns screen row = screen
 
 -- the picture: the rows of the screen, and the status row at its place
-abbrev pub picture_of : StatusPlace → SizedScreen → Keyboard → Bool → Option Refusal → List ℕ → PictureParts
-picture_of place sized keyboard connected refusal lu =
+abbrev pub picture_of : StatusPlace → SizedScreen → Keyboard → Bool → Option Trouble → List ℕ → Bool → ℕ → PictureParts
+picture_of place sized keyboard connected trouble lu held seconds =
     let cursor : Place = place_of sized.size.columns sized.screen.cursor in
     record {
       rows = sized.size.rows + status_rows place;
       columns = sized.size.columns;
       cells = with_status place sized.size.columns (screen_cells sized.screen.cells)
-          (status_cells sized.size.columns keyboard connected refusal lu cursor);
+          (status_cells sized.size.columns keyboard connected trouble lu held seconds cursor);
       cursor = cursor;
     }
 

@@ -1,9 +1,11 @@
 //! The reader: bytes go in, keystrokes come out.
 ghost use Rattle.std.specs.Prelude.{◌≡◌, ◌==◌, [], length};
+ghost use Rattle.std.specs.Option.{option_to_list};
+ghost use Rattle.tty.specs.KeyForms.{breaks_off, front};
 ghost use Rattle.tty.specs.KeySequences.{meaning};
 ghost use Rattle.tty.specs.KeyReading.{grown, read_byte, after_pause, keystrokes_of};
 
-use crate::key_forms::{completes, may_continue};
+use crate::key_forms::{ESC, completes, is_late, may_continue, outlasts};
 use crate::key_sequences::meaning;
 use crate::keystroke::{Keystroke, PushResult};
 use arrayvec::ArrayVec;
@@ -49,10 +51,7 @@ impl KeyReader {
         ensures keystrokes { keystrokes_of result ≡ (read_byte self.old byte).keystrokes }
         ensures kept { self.new ≡ (read_byte self.old byte).kept }
     {
-        let interrupted = !may_continue(&self.kept, byte);
-        if interrupted {
-            self.kept.clear();
-        }
+        let interrupted = self.begin(byte);
         let is_last = completes(&self.kept, byte);
         self.keep(byte);
         let keystroke = if is_last { Some(self.take()) } else { None };
@@ -60,6 +59,22 @@ impl KeyReader {
             interrupted,
             keystroke,
         }
+    }
+
+    /// Drops the kept bytes, if this one doesn't go on with them. Answers whether it breaks off a keystroke.
+    fn begin(&mut self, byte: u8) -> bool
+        ensures interrupted { result ≡ breaks_off self.old byte }
+        ensures kept { self.new ≡ front self.old byte }
+    {
+        if may_continue(&self.kept, byte) {
+            return false;
+        }
+        let late = is_late(&self.kept);
+        self.kept.clear();
+        if late && byte == b'[' {
+            self.kept.push(ESC);
+        }
+        !late
     }
 
     /// Keeps a byte, if there is room.
@@ -82,16 +97,21 @@ impl KeyReader {
         keystroke
     }
 
-    /// Reports that no byte arrived for a while. This ends a lone ESC, and any incomplete sequence or
-    /// character, as a [`Keystroke::Unknown`]. Returns `None` if no keystroke has begun.
+    /// Reports that no byte arrived for a while. This ends an incomplete character or control string, as a
+    /// [`Keystroke::Unknown`]. A lone ESC is nothing from now on, but a slow line may deliver a sequence in pieces: if
+    /// the next byte is `[`, it goes on with the sequence, and so does what comes behind ESC and `[` or `O`.
     ///
-    /// The caller decides how long a pause is. A slow line may deliver a sequence in pieces, so a
-    /// long one is safer; since a lone ESC means nothing, nobody waits for its end.
+    /// The caller decides how long a pause is.
     pub fn pause(&mut self) -> Option<Keystroke>
-        ensures keystroke { result ≡ after_pause self.old }
-        ensures kept { self.new ≡ [] }
+        ensures keystroke { option_to_list result ≡ (after_pause self.old).keystrokes }
+        ensures kept { self.new ≡ (after_pause self.old).kept }
     {
-        if self.kept.is_empty() {
+        if self.kept.is_empty() || is_late(&self.kept) || outlasts(&self.kept) {
+            return None;
+        }
+        let escaped = matches!(self.kept.as_slice(), [ESC]);
+        if escaped {
+            self.kept.push(ESC);
             return None;
         }
         self.kept.clear();

@@ -1,47 +1,41 @@
-//! What the bytes of a complete keystroke mean.
+//! Which keystroke the bytes of a complete one are.
 ghost use Rattle.std.specs.Prelude.{◌≡◌, ◌<◌, [], ◌∷◌, IfSome, Some, bytes_eq, length, position};
 ghost use Rattle.std.specs.List.{list_any};
 ghost use Rattle.std.specs.Str.{chars};
-ghost use Rattle.tty.specs.KeySequences.{control, character, escaped, first_of, meaning, other_key, is_semicolon, other_keystroke, pa_key, pf_key, reported, side_of, size, size_report};
+ghost use Rattle.tty.specs.KeySequences.{character, escaped, first_of, is_alt, is_semicolon, marked, meaning, other_keystroke, reported, side_of, size, size_report};
 
 use crate::key_forms::ESC;
 use crate::keystroke::Keystroke;
-use codes3270::{PaNo, PfNo};
-use keyboard::Key;
 use std::str;
 
-// The sequences of each key, without their ESC.
-
-static PF_SEQUENCES: [&[&str]; 24] = [
+/// The sequences of the keys that have some, without their ESC. `KEY_NAMES` has their names, in the same order.
+static NAMED_SEQUENCES: [&[&str]; 38] = [
     &["OP", "[11~", "[[A"],
     &["OQ", "[12~", "[[B"],
     &["OR", "[13~", "[[C"],
     &["OS", "[14~", "[[D"],
     &["[15~", "[[E"],
     &["[17~"],
-    &["[18~", "[5~"],
-    &["[19~", "[6~"],
+    &["[18~"],
+    &["[19~"],
     &["[20~"],
     &["[21~"],
     &["[23~"],
     &["[24~"],
-    &["[1;2P", "[11;2~", "[25~", "!"],
-    &["[1;2Q", "[12;2~", "[26~", "@"],
-    &["[1;2R", "[13;2~", "[28~", "#"],
-    &["[1;2S", "[14;2~", "[29~", "$"],
-    &["[15;2~", "[31~", "%"],
-    &["[17;2~", "[32~", "^"],
-    &["[18;2~", "[33~", "&"],
-    &["[19;2~", "[34~", "*"],
-    &["[20;2~", "("],
-    &["[21;2~", ")"],
-    &["[23;2~", "_"],
-    &["[24;2~", "+"],
-];
-
-static PA_SEQUENCES: [&[&str]; 3] = [&["1"], &["2"], &["3"]];
-
-static OTHER_SEQUENCES: [&[&str]; 9] = [
+    &["[1;2P", "[11;2~", "[25~"],
+    &["[1;2Q", "[12;2~", "[26~"],
+    &["[1;2R", "[13;2~", "[28~"],
+    &["[1;2S", "[14;2~", "[29~"],
+    &["[15;2~", "[31~"],
+    &["[17;2~", "[32~"],
+    &["[18;2~", "[33~"],
+    &["[19;2~", "[34~"],
+    &["[20;2~"],
+    &["[21;2~"],
+    &["[23;2~"],
+    &["[24;2~"],
+    &["[5~"],
+    &["[6~"],
     &["[A", "OA"],
     &["[B", "OB"],
     &["[C", "OC"],
@@ -50,20 +44,10 @@ static OTHER_SEQUENCES: [&[&str]; 9] = [
     &["[2~"],
     &["[3~"],
     &["[Z", "\t"],
-    &["[F", "OF", "[4~", "[8~", "[1;2F", "[1;5F"],
-];
-
-/// The keys of `OTHER_SEQUENCES`, in the same order.
-const OTHER_KEYS: [Key; 9] = [
-    Key::CursorUp,
-    Key::CursorDown,
-    Key::CursorRight,
-    Key::CursorLeft,
-    Key::Home,
-    Key::Insert,
-    Key::Delete,
-    Key::BackTab,
-    Key::EraseEof,
+    &["[F", "OF", "[4~", "[8~"],
+    &["[1;2F"],
+    &["[1;5F"],
+    &["OM"],
 ];
 
 /// Whether a sequence is one of these.
@@ -79,32 +63,6 @@ fn place_of(keys: &[&[&str]], sequence: &[u8]) -> Option<usize>
     ensures in_range { IfSome result (λ place. place < length keys.now) }
 {
     keys.iter().position(|texts| is_among(texts, sequence))
-}
-
-/// The PF key that has this sequence.
-fn pf_key(sequence: &[u8]) -> Option<Key>
-    ensures { result ≡ pf_key sequence.now }
-{
-    let place = place_of(&PF_SEQUENCES, sequence)?;
-    let number = PfNo::new(place as u8 + 1)?;
-    Some(Key::Pf(number))
-}
-
-/// The PA key that has this sequence.
-fn pa_key(sequence: &[u8]) -> Option<Key>
-    ensures { result ≡ pa_key sequence.now }
-{
-    let place = place_of(&PA_SEQUENCES, sequence)?;
-    let number = PaNo::new(place as u8 + 1)?;
-    Some(Key::Pa(number))
-}
-
-/// The key of `OTHER_KEYS` that has this sequence.
-fn other_key(sequence: &[u8]) -> Option<Key>
-    ensures { result ≡ other_key sequence.now }
-{
-    let place = place_of(&OTHER_SEQUENCES, sequence)?;
-    Some(OTHER_KEYS[place])
 }
 
 /// The number in three decimal digits; None if they aren't digits, or if it is 0.
@@ -184,14 +142,39 @@ fn size_report(sequence: &[u8]) -> Keystroke
     }
 }
 
-/// The keystroke that isn't a key of the 3278 and has this sequence.
+/// Whether ESC and this byte are Alt and a key.
+fn is_alt(byte: u8) -> bool
+    ensures { result ≡ is_alt byte }
+{
+    matches!(byte, 0x20..=0x7E) && !matches!(byte, b'[' | b'O' | b']' | b'P')
+}
+
+/// The mark of a pasted text, or the report, that has this sequence.
+fn marked(sequence: &[u8]) -> Keystroke
+    ensures { result ≡ marked sequence.now }
+{
+    if sequence == b"[200~".as_slice() {
+        Keystroke::PasteBegins
+    } else if sequence == b"[201~".as_slice() {
+        Keystroke::PasteEnds
+    } else {
+        size_report(sequence)
+    }
+}
+
+/// The keystroke of a sequence that isn't in the table.
 fn other_keystroke(sequence: &[u8]) -> Keystroke
     ensures { result ≡ other_keystroke sequence.now }
 {
-    if is_among(&["?"], sequence) {
-        Keystroke::Help
-    } else {
-        size_report(sequence)
+    match sequence {
+        [byte] => {
+            if is_alt(*byte) {
+                Keystroke::Alt(*byte)
+            } else {
+                Keystroke::Unknown
+            }
+        }
+        _ => marked(sequence),
     }
 }
 
@@ -200,32 +183,9 @@ fn other_keystroke(sequence: &[u8]) -> Keystroke
 fn escaped(sequence: &[u8]) -> Keystroke
     ensures { result ≡ escaped sequence.now }
 {
-    let found = pf_key(sequence)
-        .or_else(|| pa_key(sequence))
-        .or_else(|| other_key(sequence));
-    let Some(key) = found else {
-        return other_keystroke(sequence);
-    };
-    Keystroke::Key(key)
-}
-
-/// The keystroke that a control character means.
-fn control(byte: u8) -> Keystroke
-    ensures { result ≡ control byte }
-{
-    match byte {
-        0x03 => Keystroke::Key(Key::Clear),
-        0x05 => Keystroke::Key(Key::EraseEof),
-        0x08 | 0x7F => Keystroke::Key(Key::Backspace),
-        0x09 => Keystroke::Key(Key::Tab),
-        0x0A => Keystroke::Key(Key::NewLine),
-        0x0C => Keystroke::Redraw,
-        0x0D => Keystroke::Key(Key::Enter),
-        0x12 => Keystroke::Key(Key::Reset),
-        0x14 => Keystroke::Status,
-        0x15 => Keystroke::Key(Key::EraseInput),
-        0x1D => Keystroke::Quit,
-        _ => Keystroke::Unknown,
+    match place_of(&NAMED_SEQUENCES, sequence) {
+        Some(place) => Keystroke::Named(place as u8),
+        None => other_keystroke(sequence),
     }
 }
 
@@ -234,7 +194,7 @@ fn first_of(text: &str) -> Keystroke
     ensures { result ≡ first_of (chars text.now) }
 {
     match text.chars().next() {
-        Some(letter) => Keystroke::Key(Key::Char(letter)),
+        Some(letter) => Keystroke::Char(letter),
         None => Keystroke::Unknown,
     }
 }
@@ -259,7 +219,7 @@ pub(crate) fn meaning(bytes: &[u8]) -> Keystroke
         [ESC, sequence @ ..] => escaped(sequence),
         [first, ..] => {
             if first.is_ascii_control() {
-                control(*first)
+                Keystroke::Control(*first)
             } else {
                 character(bytes)
             }

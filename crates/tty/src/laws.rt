@@ -1,7 +1,7 @@
 //! Laws of reading keys and of drawing: each is the contract of a function that does nothing. Proofs of other crates
 //! use them; no program calls them, and the root doesn't export them.
 ghost use Rattle.tty.specs.DrawingLaws.{AreShown, AreBlank, AreUntold};
-ghost use Rattle.tty.specs.KeyLaws.{CharactersAreRead, ControlSequencesAreOne, ControlsBreakOff, PiecesCompose, SequencesAreRead, SequencesTypeNothing};
+ghost use Rattle.tty.specs.KeyLaws.{CharactersAreRead, ControlSequencesAreOne, ControlsBreakOff, LateRestsAreRead, MouseReportsAreOne, PiecesCompose, SequencesAreRead, SequencesTypeNothing, StringsTypeNothing};
 
 /// Law: bytes have the same meaning however they are cut into pieces.
 pub fn cut_anywhere()
@@ -9,13 +9,17 @@ pub fn cut_anywhere()
 {}
 
 /// Law: each sequence of the table is read as its key, and each character as itself. A control
-/// sequence of any length is one keystroke, and no sequence types a character. A control character
-/// breaks off what isn't complete, and then has the meaning that it has alone.
+/// sequence of any length is one keystroke, and no sequence types a character, nor does a report of
+/// the mouse or a control string. A control character breaks off what isn't complete, and then has
+/// the meaning that it has alone. What comes after a pause still goes on with a control sequence.
 pub fn keys_are_read()
     ensures sequences { SequencesAreRead }
     ensures characters { CharactersAreRead }
     ensures any_length { ControlSequencesAreOne }
     ensures types_nothing { SequencesTypeNothing }
+    ensures mouse { MouseReportsAreOne }
+    ensures strings { StringsTypeNothing }
+    ensures late { LateRestsAreRead }
     ensures breaks_off { ControlsBreakOff }
 {}
 

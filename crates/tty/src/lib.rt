@@ -4,6 +4,7 @@
 //! A [`KeyReader`] takes the bytes of a tty in raw mode one by one, cut anywhere. Most keys are one byte, or the bytes
 //! of one character in UTF-8; the others are escape sequences. Only a pause distinguishes a lone ESC from the first
 //! byte of a sequence: the program calls [`KeyReader::pause`] if no byte arrives for a while. No call of it allocates.
+//! What a key does a [`Keymap`] says.
 //!
 //! ```text
 //! let mut reader = KeyReader::new();
@@ -38,11 +39,16 @@
 //! row, and `Drawn` when a tty shows a picture. `Changes` is the list of what is written.
 #![tactic(auto)]
 
+mod action;
+mod action_names;
 mod colors;
 mod drawing;
 mod key_forms;
+mod key_names;
+mod key_page;
 mod key_reader;
 mod key_sequences;
+mod keymap;
 mod keystroke;
 pub mod laws;
 mod look;
@@ -50,15 +56,18 @@ mod output;
 mod picture;
 mod place;
 mod room;
+mod standard_keys;
 mod status;
 
+pub use action::Action;
 pub use colors::Colors;
 pub use drawing::Drawing;
 pub use key_reader::KeyReader;
+pub use keymap::{Binding, Keymap, KeymapFault};
 pub use keystroke::{Keystroke, PushResult};
 pub use look::Look;
 pub use output::put_bell;
 pub use picture::{Picture, PictureCell};
 pub use place::Place;
 pub use room::{TooSmall, check_room};
-pub use status::{Status, StatusPlace};
+pub use status::{Status, StatusPlace, Trouble};

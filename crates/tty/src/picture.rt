@@ -1,5 +1,5 @@
 //! Pictures: what an operator sees.
-ghost use Rattle.std.specs.Prelude.{◌≡◌, ◌<◌, ◌≤◌, ◌+◌, ◌-◌, ◌++◌, [], map, length, take, get_or, IfOk, OnOk, slice_index_or};
+ghost use Rattle.std.specs.Prelude.{◌≡◌, ◌<◌, ◌≤◌, ◌+◌, ◌-◌, ◌++◌, [], map, length, take, get_or, IfOk, OnOk, slice_index_or, string_bytes};
 ghost use Rattle.codes3270.specs.Size.{cells_in};
 ghost use Rattle.tty.specs.Pictures.{IsSized, erased_cell, same_cell, plain};
 ghost use Rattle.tty.specs.Changes.{same_size};
@@ -9,7 +9,7 @@ ghost use Rattle.tty.specs.StatusRow.{in_columns, letter_at, three_digits, posit
 use crate::look::{Look, look_of};
 use crate::place::Place;
 use crate::status::{
-    KEYS_HINT, Status, StatusPlace, connection_word, graphic_or_blank, insert_word, reason,
+    KEYS_HINT, Status, StatusPlace, connection_word, graphic_or_blank, reason, seconds_text, signs,
 };
 use codes3270::{Addr, Size};
 use keyboard::Keyboard;
@@ -167,11 +167,12 @@ fn put_status(
     requires column { cursor.column < usize.MAX }
     ensures { let status = status.now in
         OnOk result (cells.new.items ≡ cells.old.items
-        ++ status_cells columns keyboard status.connected status.refusal status.lu.now cursor) }
+        ++ status_cells columns keyboard status.connected status.trouble status.lu.now status.held status.seconds cursor) }
 {
     put_text(cells, 16, connection_word(status.connected))?;
-    put_text(cells, 16, reason(keyboard.lock(), status.refusal))?;
-    put_text(cells, 8, insert_word(keyboard.inserting()))?;
+    put_text(cells, 13, reason(keyboard.lock(), status.trouble))?;
+    put_text(cells, 3, &seconds_text(status.seconds))?;
+    put_text(cells, 8, signs(keyboard.inserting(), status.held))?;
     put_text(cells, 15, status.lu)?;
     put_text(cells, 17, KEYS_HINT)?;
     put_text(cells, columns - 72, &position_text(cursor))
@@ -190,7 +191,7 @@ fn put_status_over(
     requires column { cursor.column < usize.MAX }
     ensures { let status = status.now in
         OnOk result (cells.new.items ≡ take (length cells.old.items - columns) cells.old.items
-        ++ status_cells columns keyboard status.connected status.refusal status.lu.now cursor) }
+        ++ status_cells columns keyboard status.connected status.trouble status.lu.now status.held status.seconds cursor) }
 {
     cells.truncate(cells.len().saturating_sub(columns));
     put_status(cells, columns, keyboard, status, cursor)
@@ -209,7 +210,7 @@ fn put_status_at_place(
     requires column { cursor.column < usize.MAX }
     ensures { let status = status.now in
         OnOk result (cells.new.items ≡ with_status status.place columns cells.old.items
-        (status_cells columns keyboard status.connected status.refusal status.lu.now cursor)) }
+        (status_cells columns keyboard status.connected status.trouble status.lu.now status.held status.seconds cursor)) }
 {
     match status.place {
         StatusPlace::Below => put_status(cells, columns, keyboard, status, cursor),
@@ -230,10 +231,13 @@ fn status_rows(place: StatusPlace) -> usize
 }
 
 /// A line of a text; empty beyond its end.
-fn line_at<'a>(lines: &[&'a str], row: usize) -> &'a [u8]
-    ensures { result.now ≡ get_or (map (λ line. line.now) lines.now) row [] }
+fn line_at<'a>(lines: &'a [String], row: usize) -> &'a [u8]
+    ensures { result.now ≡ get_or (map (λ line. string_bytes line) lines.now) row [] }
 {
-    lines.get(row).copied().unwrap_or("").as_bytes()
+    match lines.get(row) {
+        Some(line) => line.as_bytes(),
+        None => &[],
+    }
 }
 
 /// Adds rows of a page of text.
@@ -241,10 +245,10 @@ fn put_page(
     cells: &mut Vec<PictureCell>,
     rows: usize,
     columns: usize,
-    lines: &[&str],
+    lines: &[String],
 ) -> Result<(), AllocError>
     ensures { OnOk result (cells.new.items
-        ≡ cells.old.items ++ page_cells rows columns (map (λ line. line.now) lines.now)) }
+        ≡ cells.old.items ++ page_cells rows columns (map (λ line. string_bytes line) lines.now)) }
 {
     for row in 0..rows {
         put_text(cells, columns, line_at(lines, row))?;
@@ -308,9 +312,10 @@ impl Picture {
     ///
     /// The rows of the screen show what `Screen::glyph_at` returns, a hidden field as blanks, each cell in its
     /// [`Look`]. The status row, where it is, shows `connected` or `not connected`; why the keyboard accepts no keys:
-    /// `X SYSTEM` while it waits for the host, `X PROTECTED`, `X NUMERIC` or `X NO ROOM` for the refusal that locked
-    /// it, and `X NO CODE` for a character that has no code; `^` in insert mode; the name of the LU; which key shows
-    /// the table of keys; and row and column of the cursor, each from 1 on.
+    /// `X SYSTEM` while it waits for the host, or why there is no connection, `X PROTECTED`, `X NUMERIC` or `X NO ROOM`
+    /// for the refusal that locked it, `X NO CODE` for a character that has no code, and `X PASTE CUT` for a pasted text
+    /// without room; the seconds of the wait from 2 on; `^` in insert mode; `T` if keys are held; the name of the LU;
+    /// which key shows the table of keys; and row and column of the cursor, each from 1 on.
     pub fn new(
         alloc: Global,
         screen: &Screen,
@@ -319,7 +324,7 @@ impl Picture {
     ) -> Result<Picture, AllocError>
         ensures { let status = status.now in
             IfOk result (λ picture. picture
-            ≡ picture_of status.place screen.now keyboard status.connected status.refusal status.lu.now) }
+            ≡ picture_of status.place screen.now keyboard status.connected status.trouble status.lu.now status.held status.seconds) }
     {
         let columns = columns_of(screen);
         let cursor = cursor_of(screen);
@@ -336,8 +341,8 @@ impl Picture {
 
     /// A page of text in ASCII in place of a screen: the first rows and columns of these lines, and the cursor in the
     /// upper left corner. Err only if memory is refused.
-    pub fn page(alloc: Global, screen: &Screen, lines: &[&str]) -> Result<Picture, AllocError>
-        ensures { IfOk result (λ picture. picture ≡ page_of screen.now (map (λ line. line.now) lines.now)) }
+    pub fn page(alloc: Global, screen: &Screen, lines: &[String]) -> Result<Picture, AllocError>
+        ensures { IfOk result (λ picture. picture ≡ page_of screen.now (map (λ line. string_bytes line) lines.now)) }
     {
         let rows = screen_rows(screen);
         let columns = columns_of(screen);

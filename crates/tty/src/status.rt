@@ -1,6 +1,6 @@
 //! The words in the status row.
 ghost use Rattle.std.specs.Prelude.{◌≡◌};
-ghost use Rattle.tty.specs.StatusRow.{connection_word, reason, refusal_reason, free_reason, insert_word, graphic_or_blank};
+ghost use Rattle.tty.specs.StatusRow.{connection_word, digit_or_blank, error_reason, free_reason, graphic_or_blank, reason, refusal_reason, seconds_text, signs, wait_reason};
 
 use keyboard::{Lock, Refusal};
 
@@ -15,6 +15,21 @@ pub enum StatusPlace {
     Nowhere,
 }
 
+/// Why what an operator did last had no effect, or not all of it.
+#[derive(Clone, Copy, Debug, PartialEq, Eq)]
+pub enum Trouble {
+    /// The keyboard refused the key.
+    Refused(Refusal),
+    /// The rest of a pasted text had no room.
+    PasteCut,
+    /// The host refuses a connection.
+    HostRefuses,
+    /// The host doesn't answer.
+    NoAnswer,
+    /// No connection to the host can be made, for another reason.
+    Unreachable,
+}
+
 /// Where the status row is, and what it shows in addition to the state of screen and keyboard.
 #[derive(Clone, Copy)]
 pub struct Status<'a> {
@@ -22,10 +37,14 @@ pub struct Status<'a> {
     pub place: StatusPlace,
     /// Whether the terminal is connected to a host.
     pub connected: bool,
-    /// The refusal that set the lock to `Error`; while the lock is free, `NoCode` if the last key was refused for it.
-    pub refusal: Option<Refusal>,
+    /// What the operator must be told: the refusal that set the lock to `Error`, or why the last key had no effect.
+    pub trouble: Option<Trouble>,
     /// The name of the LU in ASCII, of which the first 15 bytes are shown; empty if there is none.
     pub lu: &'a [u8],
+    /// Whether keys are held that were typed ahead.
+    pub held: bool,
+    /// For how many seconds the keyboard has waited, of which the last three digits are shown from 2 on.
+    pub seconds: u16,
 }
 
 /// Which key shows the table of keys.
@@ -42,46 +61,99 @@ pub(crate) fn connection_word(connected: bool) -> &'static [u8]
     }
 }
 
-/// The reason that is shown while the lock is `Error`.
-fn refusal_reason(refusal: Option<Refusal>) -> &'static [u8]
+/// The reason for a refusal that set the lock.
+fn refusal_reason(refusal: Refusal) -> &'static [u8]
     ensures { result.now ≡ refusal_reason refusal }
 {
     match refusal {
-        Some(Refusal::Protected) => b"X PROTECTED",
-        Some(Refusal::NotNumeric) => b"X NUMERIC",
-        Some(Refusal::NoRoom) => b"X NO ROOM",
-        Some(Refusal::NoCode) => b"X NO CODE",
-        Some(Refusal::Locked) | None => b"X",
+        Refusal::Protected => b"X PROTECTED",
+        Refusal::NotNumeric => b"X NUMERIC",
+        Refusal::NoRoom => b"X NO ROOM",
+        Refusal::NoCode => b"X NO CODE",
+        Refusal::Locked => b"X",
     }
 }
 
-/// The reason that is shown while the lock is free; empty unless the last key was refused for its code.
-fn free_reason(refusal: Option<Refusal>) -> &'static [u8]
-    ensures { result.now ≡ free_reason refusal }
+/// The reason that is shown while the lock is `Error`.
+fn error_reason(trouble: Option<Trouble>) -> &'static [u8]
+    ensures { result.now ≡ error_reason trouble }
 {
-    match refusal {
-        Some(Refusal::NoCode) => b"X NO CODE",
-        Some(Refusal::Protected | Refusal::NotNumeric | Refusal::NoRoom | Refusal::Locked) | None =>
-            b"",
+    match trouble {
+        Some(Trouble::Refused(refusal)) => refusal_reason(refusal),
+        Some(Trouble::PasteCut) => b"X PASTE CUT",
+        Some(Trouble::HostRefuses | Trouble::NoAnswer | Trouble::Unreachable) | None => b"X",
     }
 }
 
-/// Why the keyboard accepts no keys, or refused the last one.
-pub(crate) fn reason(lock: Lock, refusal: Option<Refusal>) -> &'static [u8]
-    ensures { result.now ≡ reason lock refusal }
+/// The reason that is shown while the lock is free.
+fn free_reason(trouble: Option<Trouble>) -> &'static [u8]
+    ensures { result.now ≡ free_reason trouble }
+{
+    match trouble {
+        Some(Trouble::Refused(Refusal::NoCode)) => b"X NO CODE",
+        Some(Trouble::PasteCut) => b"X PASTE CUT",
+        _ => b"",
+    }
+}
+
+/// The reason that is shown while the keyboard waits for the host.
+fn wait_reason(trouble: Option<Trouble>) -> &'static [u8]
+    ensures { result.now ≡ wait_reason trouble }
+{
+    match trouble {
+        Some(Trouble::HostRefuses) => b"X REFUSED",
+        Some(Trouble::NoAnswer) => b"X NO ANSWER",
+        Some(Trouble::Unreachable) => b"X UNREACHABLE",
+        _ => b"X SYSTEM",
+    }
+}
+
+/// Why the keyboard accepts no keys, or why the last one had no effect.
+pub(crate) fn reason(lock: Lock, trouble: Option<Trouble>) -> &'static [u8]
+    ensures { result.now ≡ reason lock trouble }
 {
     match lock {
-        Lock::Free => free_reason(refusal),
-        Lock::Wait => b"X SYSTEM",
-        Lock::Error => refusal_reason(refusal),
+        Lock::Free => free_reason(trouble),
+        Lock::Wait => wait_reason(trouble),
+        Lock::Error => error_reason(trouble),
     }
 }
 
-/// The sign of insert mode: `^`, or nothing.
-pub(crate) fn insert_word(inserting: bool) -> &'static [u8]
-    ensures { result.now ≡ insert_word inserting }
+/// The last digit of a number; a blank if the number is 0.
+fn digit_or_blank(number: u16) -> u8
+    ensures { result ≡ digit_or_blank number }
 {
-    if inserting { b"^" } else { b"" }
+    if number == 0 {
+        b' '
+    } else {
+        b'0' + (number % 10) as u8
+    }
+}
+
+/// The last three digits of how long the keyboard has waited, without zeros in front, if that is 2 seconds or more.
+pub(crate) fn seconds_text(seconds: u16) -> [u8; 3]
+    ensures { result ≡ seconds_text seconds }
+{
+    if seconds < 2 {
+        return [b' ', b' ', b' '];
+    }
+    [
+        digit_or_blank(seconds / 100),
+        digit_or_blank(seconds / 10),
+        b'0' + (seconds % 10) as u8,
+    ]
+}
+
+/// The signs of insert mode, `^`, and of keys that are held, `T`.
+pub(crate) fn signs(inserting: bool, held: bool) -> &'static [u8]
+    ensures { result.now ≡ signs inserting held }
+{
+    match (inserting, held) {
+        (true, true) => b"^ T",
+        (true, false) => b"^",
+        (false, true) => b"  T",
+        (false, false) => b"",
+    }
 }
 
 /// A byte of a text in ASCII; a blank if it isn't a graphic character.

@@ -2,16 +2,16 @@ use Rattle.std.proofs.Common.{sym, ◌∙◌}
 use Rattle.operate.proofs.LiveLemmas.{keys_done, keys_more}
 use Rattle.operate.proofs.live.LiveTerminal.type_keys.Goals as goal
 
-pub loop-key-preserved : goal.loop-key-preserved
-loop-key-preserved c = record {
+pub loop-typed-preserved : goal.loop-typed-preserved
+loop-typed-preserved c = record {
   seat =
-      keys_more c.args.keys.now c.loop-key.key-index _ c.key-item.result c.loop-key.self.seat c.type_key.new.self.seat
-      c.loop-key-test.true c.key-item.is
+      keys_more c.args.keys.now c.loop-typed.typed-index _ c.typed-item.result c.loop-typed.self.seat c.type_key.new.self.seat
+      c.loop-typed-test.true c.typed-item.is
       c.in_ok-type_key.ensures.seat
-      ∙ c.loop-key.invariant.seat;
-  kept = c.type_key.ensures.kept ∙ c.loop-key.invariant.kept;
+      ∙ c.loop-typed.invariant.seat;
+  kept = c.in_ok-type_key.ensures.kept ∙ c.loop-typed.invariant.kept;
 }
 
 pub returns-clause-seat : goal.returns-clause-seat
 returns-clause-seat c =
-    sym (keys_done c.args.keys.now c.loop-key.key-index c.loop-key.self.seat c.loop-key-test.false) ∙ c.loop-key.invariant.seat
+    sym (keys_done c.args.keys.now c.loop-typed.typed-index c.loop-typed.self.seat c.loop-typed-test.false) ∙ c.loop-typed.invariant.seat

@@ -19,13 +19,13 @@ invariant_of-result c =
     let column_below : c.cursor_of-cursor.result.column < sized.size.columns = c.cursor_of-cursor.ensures.column in
     let rows : c.rows_of.result ≡ sized.size.rows + status_rows place = c.rows_of.ensures.value in
     let many : length sized.screen.cells ≡ sized.size.rows * columns = c.columns_of-columns.ensures.cells ∙ ap (λ (count : ℕ). sized.size.rows * count) (sym width) in
-    let status : List PictureCell = status_cells columns c.args.keyboard c.args.status.now.connected c.args.status.now.refusal c.args.status.now.lu.now c.cursor_of-cursor.result in
+    let status : List PictureCell = status_cells columns c.args.keyboard c.args.status.now.connected c.args.status.now.trouble c.args.status.now.lu.now c.args.status.now.held c.args.status.now.seconds c.cursor_of-cursor.result in
     let cells : c.put_status_at_place.new.cells.items ≡ with_status place columns (screen_cells sized.screen.cells) status =
     c.in_ok-put_status_at_place.ensures ∙ ap (λ (items : List PictureCell). with_status place columns items status) (c.in_ok-put_screen.ensures ∙ ap (λ (items : List PictureCell). items ++ screen_cells sized.screen.cells) c.new-cells.ensures.items) in
     record {
       cells =
           ap length cells
-          ∙ picture_counted place sized.size.rows columns sized.screen.cells c.args.keyboard c.args.status.now.connected c.args.status.now.refusal c.args.status.now.lu.now c.cursor_of-cursor.result wide (omega (arith, row_below)) many
+          ∙ picture_counted place sized.size.rows columns sized.screen.cells c.args.keyboard c.args.status.now.connected c.args.status.now.trouble c.args.status.now.lu.now c.args.status.now.held c.args.status.now.seconds c.cursor_of-cursor.result wide (omega (arith, row_below)) many
           ∙ ap (λ (count : ℕ). count * columns) (sym rows);
       row = omega (arith, row_below, rows);
       column = omega (arith, column_below, width);
@@ -33,7 +33,7 @@ invariant_of-result c =
       few_columns = c.columns_of-columns.ensures.few;
       graphic =
           ap (list_all has_graphic) cells
-          ∙ picture_graphic place columns sized.screen.cells c.args.keyboard c.args.status.now.connected c.args.status.now.refusal c.args.status.now.lu.now c.cursor_of-cursor.result;
+          ∙ picture_graphic place columns sized.screen.cells c.args.keyboard c.args.status.now.connected c.args.status.now.trouble c.args.status.now.lu.now c.args.status.now.held c.args.status.now.seconds c.cursor_of-cursor.result;
     }
 
 pub returns : goal.returns
@@ -41,8 +41,8 @@ returns c =
     let sized = c.args.screen.now in
     let place = c.args.status.now.place in
     let connected = c.args.status.now.connected in
-    let status : List PictureCell = status_cells c.columns_of-columns.result c.args.keyboard connected c.args.status.now.refusal c.args.status.now.lu.now c.cursor_of-cursor.result in
-    picture_made place sized c.args.keyboard connected c.args.status.now.refusal c.args.status.now.lu.now c.rows_of.result c.columns_of-columns.result
+    let status : List PictureCell = status_cells c.columns_of-columns.result c.args.keyboard connected c.args.status.now.trouble c.args.status.now.lu.now c.args.status.now.held c.args.status.now.seconds c.cursor_of-cursor.result in
+    picture_made place sized c.args.keyboard connected c.args.status.now.trouble c.args.status.now.lu.now c.args.status.now.held c.args.status.now.seconds c.rows_of.result c.columns_of-columns.result
     c.put_status_at_place.new.cells.items c.cursor_of-cursor.result c.rows_of.ensures.value c.columns_of-columns.ensures.value c.cursor_of-cursor.ensures.value
     (c.in_ok-put_status_at_place.ensures ∙ ap (λ (items : List PictureCell). with_status place c.columns_of-columns.result items status)
     (c.in_ok-put_screen.ensures ∙ ap (λ (items : List PictureCell). items ++ screen_cells sized.screen.cells) c.new-cells.ensures.items))

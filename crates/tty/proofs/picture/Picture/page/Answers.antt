@@ -1,3 +1,4 @@
+use Rattle.std.specs.Prelude.{string_bytes}
 use Rattle.std.proofs.Common.{◌≡◌, ◌++◌, ◌∙◌, List, length, map, ap, arith}
 use Rattle.std.specs.List.{list_all}
 use Rattle.tty.specs.declared.picture.PictureCell.{PictureCell}
@@ -11,7 +12,7 @@ pub invariant_of-result : goal.invariant_of-result
 invariant_of-result c =
     let rows = c.screen_rows-rows.result in
     let columns = c.columns_of-columns.result in
-    let lines = map (λ line. line.now) c.args.lines.now in
+    let lines = map (λ line. string_bytes line) c.args.lines.now in
     let cells : c.put_page.new.cells.items ≡ page_cells rows columns lines =
     c.in_ok-put_page.ensures ∙ ap (λ (items : List PictureCell). items ++ page_cells rows columns lines) c.new-cells.ensures.items in
     let some = c.screen_rows-rows.ensures.some in
@@ -30,6 +31,6 @@ pub returns : goal.returns
 returns c =
     let rows = c.screen_rows-rows.result in
     let columns = c.columns_of-columns.result in
-    let lines = map (λ line. line.now) c.args.lines.now in
+    let lines = map (λ line. string_bytes line) c.args.lines.now in
     page_made c.args.screen.now lines rows columns c.put_page.new.cells.items c.screen_rows-rows.ensures.value c.columns_of-columns.ensures.value
     (c.in_ok-put_page.ensures ∙ ap (λ (items : List PictureCell). items ++ page_cells rows columns lines) c.new-cells.ensures.items)
