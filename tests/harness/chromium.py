@@ -115,11 +115,37 @@ class Chromium:
     def cursor(self):
         """The row and the column of the cursor, from 0."""
         return self.value("""(() => {
-          const it = document.querySelector('#screen .cursor'), row = it.parentNode;
-          const place = [...row.children].slice(0, [...row.children].indexOf(it));
-          return [[...row.parentNode.children].indexOf(row),
-            place.reduce((sum, span) => sum + [...span.textContent].length, 0)];
+          const it = document.querySelector('#screen .cursor'), row = it.closest('#screen > div');
+          const before = document.createRange();
+          before.setStart(row, 0);
+          before.setEndBefore(it);
+          return [[...row.parentNode.children].indexOf(row), [...before.toString()].length];
         })()""")
+
+    def status(self):
+        """The status row."""
+        return self.rows()[-1]
+
+    def state(self):
+        """What the page says of its connection, or of the last key."""
+        return self.value("document.getElementById('state')?.textContent ?? ''")
+
+    def says(self, text):
+        self.until(f"the page says {text}", lambda: text in self.state())
+
+    def announces(self, text):
+        said = "document.getElementById('said').textContent"
+        self.until(f"the page announces {text}", lambda: text in self.value(said))
+
+    def nodes(self):
+        """The accessibility tree: the role, the name and the value of each node that isn't ignored."""
+        self.call("Accessibility.enable")
+        nodes = self.call("Accessibility.getFullAXTree")["nodes"]
+        part = lambda node, name: node.get(name, {}).get("value", "")
+        return [
+            (part(it, "role"), part(it, "name"), str(part(it, "value")))
+            for it in nodes if not it["ignored"]
+        ]
 
     def shows(self, text):
         self.until(f"a page with {text}", lambda: any(text in it for it in self.rows()))
@@ -142,8 +168,8 @@ class Chromium:
 
     # ---- the operator
 
-    def key(self, key, code=None, text=None, modifiers=0):
-        given = {"key": key, "code": code or key, "modifiers": modifiers}
+    def key(self, key, code=None, text=None, modifiers=0, **more):
+        given = {"key": key, "code": code or key, "modifiers": modifiers, **more}
         down = {"type": "keyDown", "text": text} if text else {"type": "rawKeyDown"}
         self.call("Input.dispatchKeyEvent", **given, **down)
         self.call("Input.dispatchKeyEvent", **given, type="keyUp")
@@ -152,19 +178,29 @@ class Chromium:
         for letter in text:
             self.key(letter, text=letter)
 
-    def click(self, row, column):
-        """Clicks a cell of the screen."""
-        x, y = self.value(f"""(() => {{
+    def place(self, row, column):
+        """Where a cell of the screen is."""
+        return self.value(f"""(() => {{
           const rows = document.querySelectorAll('#screen div');
           const box = document.getElementById('screen').getBoundingClientRect();
           const columns = [...rows[0].textContent].length;
           return [box.left + box.width * ({column} + 0.5) / columns,
             box.top + box.height * ({row} + 0.5) / rows.length];
         }})()""")
+
+    def mouse(self, kind, x, y):
+        self.call("Input.dispatchMouseEvent", type=kind, x=x, y=y, button="left", clickCount=1)
+
+    def click(self, row, column):
+        """Clicks a cell of the screen."""
         for kind in ("mousePressed", "mouseReleased"):
-            self.call(
-                "Input.dispatchMouseEvent", type=kind, x=x, y=y, button="left", clickCount=1
-            )
+            self.mouse(kind, *self.place(row, column))
+
+    def drags(self, start, end):
+        """Drags the mouse from one cell to another."""
+        self.mouse("mousePressed", *self.place(*start))
+        self.mouse("mouseMoved", *self.place(*end))
+        self.mouse("mouseReleased", *self.place(*end))
 
     def presses(self, button):
         """Presses a button of the page."""
@@ -172,6 +208,13 @@ class Chromium:
             "[...document.querySelectorAll('button')]"
             f".find(it => it.textContent === '{button}').click()"
         )
+
+    def copies(self):
+        """What Ctrl-C copies."""
+        self.value("""copied = undefined;
+          document.addEventListener('copy', it => copied = it.clipboardData.getData('text'))""")
+        self.key("c", "KeyC", modifiers=CTRL, commands=["copy"])
+        return self.value("copied")
 
     def pastes(self, text):
         self.value(f"""(() => {{

@@ -2,13 +2,15 @@
 
 The requests are spelt by RFC 9112, the frames by RFC 6455; the limits are requirements: a head of
 8,192 bytes and 64 fields, 16 clients without a session for 5 seconds each, messages of 4,096 bytes,
-a ping every 25 seconds, and a minute of silence.
+a ping every 5 seconds, and a minute of silence.
 """
 import contextlib
 import re
+import signal
 import socket
 import subprocess
 import tempfile
+import threading
 import time
 
 from harness import programs
@@ -111,6 +113,16 @@ def heads(port):
         "a short key": (handshake(port, Sec_WebSocket_Key="c2hvcnQ="), 400),
         "no upgrade": (handshake(port, Upgrade=None), 400),
         "a handshake with bytes after it": (handshake(port) + b"\x89\x80abcd", 400),
+        # Absolute-form (RFC 9112, section 3.2.2): its host counts, not that of the field.
+        "an absolute target": (get(port, f"{own}/"), 200),
+        "an absolute target without a path": (get(port, own), 200),
+        "an absolute target, for another Host": (get(port, f"{own}/", Host="attacker.example"), 200),
+        "an absolute target at another host": (get(port, "http://attacker.example/"), 403),
+        "an absolute target at another port": (get(port, f"{own}0/"), 403),
+        "an absolute target without a Host": (get(port, f"{own}/", Host=None), 400),
+        "another absolute target": (get(port, f"{own}/index.html"), 404),
+        "a handshake with an absolute target": (handshake(port).replace(b"GET /", f"GET {own}/".encode()), 101),
+        "a relative target": (get(port, "index.html"), 404),
     }
 
 
@@ -155,6 +167,31 @@ def an_origin_is_served() -> None:
         screen_of(web.page(**fields), "TELLER")
         other = handshake(web.port, **{**fields, "Origin": "https://bank.example"})
         expect("another origin", requested(web.port, other)[0], 403)
+
+
+@check
+def its_own_address_is_served() -> None:
+    """Browsers may use the address where it listens, also one of IPv6 (RFC 3986, section 3.2.2)."""
+    for listen, host in (("::1", "[::1]"), ("127.0.0.2", "127.0.0.2")):
+        port = free_port()
+        with Server("serve", text=BANK.read_bytes()) as server:
+            words = ["web", "--listen", listen, "--port", str(port), "--connect", str(server.port)]
+            ran = subprocess.Popen([programs.panel3270(), *words], stderr=subprocess.DEVNULL)
+            try:
+                own = f"{host}:{port}"
+                def status(head):
+                    with socket.create_connection((listen, port), 10) as it:
+                        it.sendall(head)
+                        return int(it.recv(65536).split()[1])
+                def answers():
+                    with contextlib.suppress(OSError):
+                        return status(get(port, Host=own)) == 200
+                until(f"web answers at {listen}", answers)
+                expect("a handshake", status(handshake(port, Host=own, Origin=f"http://{own}")), 101)
+                expect("another host", status(get(port, Host=f"[::2]:{port}")), 403)
+            finally:
+                ran.kill()
+                ran.wait()
 
 
 @check
@@ -257,27 +294,74 @@ def first_messages_are_checked() -> None:
         expect("keys", page.closing(), 1008)
 
 
+def clients(web: Web, stack: contextlib.ExitStack, count: int, said=b"") -> list[socket.socket]:
+    """Clients that send no more than this."""
+    made = []
+    for _ in range(count):
+        it = stack.enter_context(socket.create_connection((LOCALHOST, web.port), 20))
+        it.sendall(said)
+        made.append(it)
+    time.sleep(0.2)
+    return made
+
+
+def has_ended(client: socket.socket) -> bool:
+    client.settimeout(0.3)
+    with contextlib.suppress(TimeoutError):
+        return client.recv(4096) == b""
+    return False
+
+
 @check
-def silent_clients_are_dropped() -> None:
-    """16 clients without a session keep others out for 5 seconds; a session doesn't notice."""
+def silent_clients_make_room() -> None:
+    """Of 16 clients without a session the oldest that has sent nothing makes room for a new one: neither
+    a new page nor one that resumes waits for them, however many come. A session doesn't notice."""
     with Web() as web, contextlib.ExitStack() as stack:
         page = web.page()
+        token = page.told("token")
         screen_of(page, "TELLER")
+        begins = clients(web, stack, 1, b"GET / HTTP/1.1\r\n")
+        silent = clients(web, stack, 15)
+        expect("the page", web.answers(), True)
+        expect("the oldest", has_ended(silent[0]), True)
+        expect("one that sent something", has_ended(begins[0]), False)
+        for _ in range(3):
+            clients(web, stack, 16)
+            expect("the page again", web.answers(), True)
+        clients(web, stack, 16)
+        screen_of(web.page("resume " + token), "TELLER")
+        clients(web, stack, 16)
+        screen_of(web.page("open 2 BANK04"), "BANK04")
+
+
+@check
+def the_oldest_client_makes_room() -> None:
+    """If all 16 have sent something, the oldest makes room once it has been there for a second; before
+    that a new one is turned away."""
+    with Web() as web, contextlib.ExitStack() as stack:
+        clients_ = clients(web, stack, 16, b"GET / HTTP/1.1\r\n")
+        [late] = clients(web, stack, 1)
+        expect("the 17th", has_ended(late), True)
+        expect("the first", has_ended(clients_[0]), False)
+        time.sleep(1)
+        expect("the page", web.answers(), True)
+        expect("the first, then", has_ended(clients_[0]), True)
+        expect("the last", has_ended(clients_[15]), False)
+
+
+@check
+def silent_clients_are_dropped() -> None:
+    """A client without a session is dropped after 5 seconds. That is logged only if it has sent
+    something: browsers connect ahead of requests that may not come."""
+    with Web() as web, contextlib.ExitStack() as stack:
         begin = time.monotonic()
-        idle = []
-        for place in range(16):
-            it = stack.enter_context(socket.create_connection((LOCALHOST, web.port)))
-            it.sendall(b"GET / HTTP/1.1\r\n" if place % 2 else handshake(web.port))
-            idle.append(it)
-        late = stack.enter_context(socket.create_connection((LOCALHOST, web.port)))
-        expect("the 17th", late.recv(4096), b"")
-        web.logs("event=turned-away")
-        page.keys(b"4")
-        screen_of(page, "4")
-        idle[1].settimeout(20)
-        expect("the end", idle[1].recv(4096), b"")
+        [silent] = clients(web, stack, 1)
+        [begun] = clients(web, stack, 1, b"GET / HTTP/1.1\r\n")
+        expect("the end", silent.recv(4096), b"")
+        expect("the other end", begun.recv(4096), b"")
         expect("in time", 4 < time.monotonic() - begin < 8, True)
-        until("the page", web.answers)
+        web.logs("event=refused reason=late")
+        expect("the silent one", web.logged().count("reason=late"), 1)
 
 
 @check
@@ -286,10 +370,36 @@ def sessions_are_counted() -> None:
     with Web("--sessions", "1", "--keep", "0") as web:
         page = web.page()
         screen_of(page, "TELLER")
-        expect("the second", web.page().ending(), ("ended all sessions are in use", 1000))
+        expect("the second", web.page().ending(), ("busy", 1000))
         page.close()
         web.logs("event=ended reason=not-resumed")
         screen_of(web.page(), "TELLER")
+
+
+@check
+def a_lost_session_makes_room() -> None:
+    """If all sessions are in use, one that a page at the same address has left ends for a new one."""
+    with Web("--sessions", "2", "--keep", "300") as web:
+        there, lost = web.page("open 2 BANK01"), web.page("open 2 BANK02")
+        screen_of(there, "BANK01")
+        screen_of(lost, "BANK02")
+        lost.close()
+        web.logs("event=page-lost reason=lost")
+        newer = web.page("open 2 BANK03")
+        screen_of(newer, "BANK03")
+        web.logs("event=ended reason=made-room")
+        expect("the next", web.page().ending(), ("busy", 1000))
+        there.keys(b"4")
+        screen_of(there, "4")
+
+
+@check
+def an_lu_in_use_is_told() -> None:
+    """A page whose LU is in use is told so, and may try again."""
+    with Web() as web:
+        first = web.page("open 2 BANK01")
+        screen_of(first, "BANK01")
+        expect("the second", web.page("open 2 BANK01").ending(), ("busy", 1000))
 
 
 @check
@@ -367,16 +477,69 @@ def a_session_is_kept_for_its_time() -> None:
 
 
 @check
+def a_page_that_closes_ends_soon() -> None:
+    """A session whose page closed its WebSocket is kept for 5 seconds, one whose network was lost for
+    the time of --keep."""
+    with Web("--keep", "300") as web:
+        left, lost = web.page("open 2 BANK01"), web.page("open 2 BANK02")
+        token = lost.told("token")
+        screen_of(left, "BANK01")
+        lost.close()
+        left.send(CLOSE, b"\x03\xe9")
+        web.logs("event=page-lost reason=closed")
+        begin = time.monotonic()
+        web.logs("event=ended reason=not-resumed")
+        expect("in time", 4 < time.monotonic() - begin < 8, True)
+        screen_of(web.page("resume " + token), "BANK02")
+
+
+@check
+def keys_are_counted() -> None:
+    """A page is told how many bytes of keys the session has from its pages: when it comes, and every 5
+    seconds."""
+    with Web() as web:
+        page = web.page()
+        token = page.told("token")
+        expect("at first", page.told("heard"), "0")
+        page.keys(b"4711")
+        page.keys("é".encode())
+        begin = time.monotonic()
+        expect("then", page.told("heard"), "6")
+        expect("in time", 2 < time.monotonic() - begin < 12, True)
+        page.close()
+        expect("another page", web.page("resume " + token).told("heard"), "6")
+
+
+@check
+def a_stopped_program_drops_nobody() -> None:
+    """After a stop of more than a minute no page counts as silent: a turn counts for a second at most."""
+    with Web() as web:
+        page = web.page()
+        screen_of(page, "TELLER")
+        web.process.send_signal(signal.SIGSTOP)
+        time.sleep(62)
+        web.process.send_signal(signal.SIGCONT)
+        time.sleep(1)
+        page.keys(b"4")
+        screen_of(page, "4")
+        expect("the log", "page-lost" in web.logged(), False)
+
+
+@check
 def pages_are_pinged() -> None:
-    """A page gets a ping every 25 seconds, and one that answers none is dropped after a minute."""
+    """A page gets a ping every 5 seconds, and one that answers none is dropped after a minute."""
     with Web() as web:
         deaf, there = web.page(), web.page()
         begin = time.monotonic()
         there.socket.settimeout(40)
-        while there.receive()[0] != PING:
-            pass
-        expect("the ping in time", 24 < time.monotonic() - begin < 28, True)
-        there.send(PONG)
+        for count in (1, 2):
+            while there.receive()[0] != PING:
+                pass
+            passed = time.monotonic() - begin
+            expect(f"ping {count} in time", 5 * count - 1 < passed < 5 * count + 7, True)
+            there.send(PONG)
+        answers = threading.Thread(target=lambda: [there.send(PONG) or time.sleep(4) for _ in range(16)])
+        answers.start()
         until_silent = begin + 70
         while "reason=silent" not in web.logged():
             if time.monotonic() > until_silent:
@@ -385,6 +548,7 @@ def pages_are_pinged() -> None:
         expect("the end in time", 58 < time.monotonic() - begin, True)
         expect("only one", web.logged().count("event=page-lost"), 1)
         deaf.close()
+        answers.join()
         there.keys(b"4")
         screen_of(there, "4")
 

@@ -1,9 +1,9 @@
 """The page of a terminal in a browser, crates/web_wire/src/page.rt.
 
-Its text, its hashes, and, if Node.js is installed, two parts of its script: the tty beside the
-model of a tty of the suite operate, and the bytes that each key sends. Which keys these are is a
-requirement: those of a PC keyboard that x3270's keymaps have for the same functions, but that
-Ctrl-C copies, and Esc is Reset."""
+Its text, its hashes, and, if Node.js is installed, parts of its script: the tty beside the model of a
+tty of the suite operate, the bytes that each key sends, and what a session's part says to a server.
+Which keys these are is a requirement: those of a PC keyboard that x3270's keymaps have for the same
+functions, but that Ctrl-C copies, and Esc is Reset."""
 import base64
 import hashlib
 import json
@@ -16,7 +16,7 @@ from harness.case import TOP, Checks, NotHere, expect
 from harness.tty import Screen
 
 SOURCE = TOP / "crates/web_wire/src/page.rt"
-MOST_LINES = 250
+MOST_LINES = 450
 check = Checks()
 cases = check.cases
 
@@ -42,8 +42,17 @@ def section(begin, end):
 
 @check
 def it_is_short() -> None:
-    """The page has at most 250 lines."""
-    expect("it fits", len(constant("PAGE").splitlines()) <= MOST_LINES, True)
+    """The page has at most 450 lines, of at most 118 characters."""
+    lines = constant("PAGE").splitlines()
+    expect("it fits", len(lines) <= MOST_LINES, True)
+    expect("long lines", [it for it in lines if len(it) > 118], [])
+
+
+@check
+def its_script_is_javascript() -> None:
+    """Node's own parser takes the script."""
+    script = "new (require('vm').Script)(JSON.parse(require('fs').readFileSync(0, 'utf8')));"
+    of_node(script + "console.log('true')", inside("script"))
 
 
 @check
@@ -73,7 +82,8 @@ const show = () => {{}}, fit = () => {{}}, ring = () => bells++;
 %s
 const given = JSON.parse(require('fs').readFileSync(0, 'utf8'));
 resize(given.rows, given.columns);
-for (const piece of given.pieces) draw(piece);
+awaited = first;
+given.pieces.forEach(read);
 console.log(JSON.stringify({{
   lines: grid.map(row => row.map(cell => cell.glyph).join('').trimEnd()),
   names: grid.map(row => row.map(cell => cell.name)), cursor: [cursor.row, cursor.column], bells,
@@ -81,21 +91,33 @@ console.log(JSON.stringify({{
 """
 KEYS = f"""
 {HELPERS}
-const typed = {{ addEventListener() {{}}, append() {{}} }}, screen = typed, keys = typed;
-const document = {{ ...typed, createElement: () => typed }};
+const typed = {{ focus() {{}} }}, terminal = {{ contains: () => true }}, help = {{ open: false }};
+const navigator = {{ platform: 'Linux x86_64' }}, document = {{}}, keys = {{}};
+const isWaiting = false, isOver = true, tell = () => {{}}, reason = () => '';
+let last;
+const send = bytes => last = bytes;
 %s
 const given = JSON.parse(require('fs').readFileSync(0, 'utf8'));
-const sent = it => bytesOf({{ getModifierState: () => false, ...it }}) ?? null;
+const sent = it => {{
+  last = null;
+  let kept = false;
+  onKey({{ getModifierState: () => false, preventDefault: () => kept = true, ...it }});
+  return kept ? last : null;
+}};
 console.log(JSON.stringify(given.map(sent)));
 """
 
 
 SESSION = f"""
 {HELPERS}
-const enter = code(13), log = [], sockets = [], waits = [], stored = {{}};
-const state = {{}}, typed = {{ focus() {{}} }}, first = () => first, draw = data => log.push(['draw', [...data]]);
-const document = {{ body: {{ classList: {{ add() {{}}, remove() {{}} }} }} }}, addEventListener = () => 0;
-const resize = (...size) => log.push(['size', ...size]), fit = 0;
+const enter = code(13), log = [], sockets = [], waits = [], stored = {{}}, model = {{}}, lu = {{}};
+const state = {{ textContent: '' }}, typed = {{ focus() {{}} }}, screen = {{ querySelector: () => null }};
+const document = {{ body: {{ classList: {{ toggle() {{}} }} }} }}, addEventListener = () => 0;
+const resize = (...size) => log.push(['size', ...size]), fit = 0, first = 0, ring = () => log.push('bell');
+const show = () => 0, say = () => 0, isLocked = () => false, summary = () => ({{}}), changes = () => [];
+const read = bytes => log.push(['draw', [...bytes]]), setInterval = then => every = then;
+let isWaiting = false, isAhead = false, every, now = 0;
+const Date = {{ now: () => now }}, clearTimeout = () => 0;
 const location = {{ hash: '#model=4&lu=BANK02', href: 'https://bank.example/t/#model=4&lu=BANK02' }};
 const sessionStorage = {{
   getItem: name => stored[name] ?? null,
@@ -111,10 +133,13 @@ class WebSocket {{
     sockets.push(this);
   }}
   send(it) {{ this.sent.push(typeof it === 'string' ? it : new TextDecoder('utf-8', {{ fatal: true }}).decode(it)); }}
+  close() {{ this.readyState = 3; }}
 }}
 let awaited;
 %s
-const last = () => sockets.at(-1), close = () => last().onclose(), say = data => last().onmessage({{ data }});
+const last = () => sockets.at(-1), close = (code = 1006) => last().onclose({{ code }});
+const says = (...texts) => texts.forEach(data => last().onmessage({{ data }}));
+const draws = () => last().onmessage({{ data: new Uint8Array([65]).buffer }});
 const again = () => waits.at(-1)[0]();
 %s
 console.log(JSON.stringify(log));
@@ -167,7 +192,7 @@ def it_is_a_tty() -> None:
         cuts = sorted(rng.sample(range(len(data) + 1), min(9, len(data))))
         pieces = [list(data[a:b]) for a, b in zip([0, *cuts], [*cuts, len(data)])]
         found = of_node(
-            TTY % section("A tty", "What is shown"),
+            TTY % section("A tty", "Fields"),
             {"rows": rows, "columns": columns, "pieces": pieces},
         )
         screen = Screen(rows, columns)
@@ -192,11 +217,12 @@ SENT = [
     *(({"key": f"F{n}"}, it) for n, it in enumerate(F_KEYS.split(), 1)),
     *(({"key": f"F{n}", **SHIFT}, it) for n, it in enumerate(SHIFTED.split(), 1)),
     *(({"key": f"{n}", "code": f"Digit{n}", **ALT}, str(n)) for n in (1, 2, 3)),
-    ({"key": "Insert", "code": "Insert", **ALT}, "1"),
-    ({"key": "Home", "code": "Home", **ALT}, "2"),
-    ({"key": "PageUp"}, "[5~"),
-    ({"key": "PageDown"}, "[6~"),
-    ({"key": "End"}, "[F"),
+    # The place of a digit, whatever the layout has there.
+    ({"key": "&", "code": "Digit1", **ALT}, "1"),
+    ({"key": "Insert", **ALT}, "1"),
+    ({"key": "Home", **ALT}, "2"),
+    ({"key": "PageUp"}, "[18~"),
+    ({"key": "PageDown"}, "[19~"),
     ({"key": "Home"}, "[H"),
     ({"key": "Insert"}, "[2~"),
     ({"key": "Delete"}, "[3~"),
@@ -210,21 +236,30 @@ CONTROLS = [
     ({"key": "Enter"}, "\r"),
     ({"key": "Enter", **SHIFT}, "\n"),
     ({"key": "Tab"}, "\t"),
-    ({"key": "Backspace"}, "\b"),
+    ({"key": "Backspace"}, "\x7f"),
+    ({"key": "Backspace", **SHIFT}, "\b"),
     ({"key": "Escape"}, "\x12"),
     ({"key": "Pause"}, "\x03"),
-    ({"key": "End", "code": "End", **ALT}, "\x15"),
-    ({"key": "r", **CTRL}, "\x12"),
-    ({"key": "e", **CTRL}, "\x05"),
-    ({"key": "u", **CTRL}, "\x15"),
-    ({"key": "l", **CTRL}, "\x0c"),
+    ({"key": "c", "code": "KeyC", **ALT}, "\x03"),
+    ({"key": "End"}, "\x05"),
+    ({"key": "End", **ALT}, "\x15"),
+    ({"key": "r", "code": "KeyR", **CTRL}, "\x12"),
+    ({"key": "e", "code": "KeyE", **CTRL}, "\x05"),
+    ({"key": "u", "code": "KeyU", **CTRL}, "\x15"),
+    ({"key": "l", "code": "KeyL", **CTRL}, "\x0c"),
+    # The letter of the layout; if that has no Latin ones, its place.
+    ({"key": "r", "code": "KeyO", **CTRL}, "\x12"),
+    ({"key": "к", "code": "KeyR", **CTRL}, "\x12"),
     # A character is an event of the input, and the browser keeps what it has for other keys.
-    ({"key": "a"}, None),
-    ({"key": "A", **SHIFT}, None),
-    ({"key": "c", **CTRL}, None),
-    ({"key": "v", **CTRL}, None),
-    ({"key": "t", **CTRL}, None),
-    ({"key": "R", **CTRL, **SHIFT}, None),
+    ({"key": "a", "code": "KeyA"}, None),
+    ({"key": "A", "code": "KeyA", **SHIFT}, None),
+    ({"key": "1", "code": "Digit1"}, None),
+    ({"key": "!", "code": "Digit1", **SHIFT, **ALT}, None),
+    ({"key": "c", "code": "KeyC", **CTRL}, None),
+    ({"key": "v", "code": "KeyV", **CTRL}, None),
+    ({"key": "t", "code": "KeyT", **CTRL}, None),
+    ({"key": "R", "code": "KeyR", **CTRL, **SHIFT}, None),
+    ({"key": "Insert", **SHIFT}, None),
     ({"key": "Enter", "metaKey": True}, None),
     ({"key": "Enter", "isComposing": True}, None),
 ]
@@ -234,7 +269,8 @@ CONTROLS = [
 def its_keys_send_what_a_tty_sends() -> None:
     """Each key sends the bytes of its function, and no other is kept from the browser."""
     wanted = [(key, "\x1b" + it) for key, it in SENT] + CONTROLS
-    found = of_node(KEYS % section("Keys", "The session"), [key for key, _ in wanted])
+    events = [{"code": key["key"], **key} for key, _ in wanted]
+    found = of_node(KEYS % section("Keys", "The operator"), events)
     for (key, bytes_), sent in zip(wanted, found):
         expect(f"bytes of {key}", sent, bytes_)
 
@@ -247,10 +283,13 @@ def of_session(steps):
 
 @check
 def it_opens_a_session() -> None:
-    """The first message has the model and the LU of the address; the WebSocket is beside the page."""
-    found = of_session("last().onopen(); log.push(last().sent); say('size 44 80');")
+    """The first message has the model and the LU of the address; the WebSocket is beside the page. The
+    screen has the size of the session once that draws."""
+    found = of_session(
+        "last().onopen(); log.push(last().sent); says('size 44 80'); log.push('sized'); draws();"
+    )
     wanted = [["size", 25, 80], ["connect", "wss://bank.example/t/terminal"], ["open 4 BANK02"]]
-    expect("log", found, [*wanted, ["size", 44, 80]])
+    expect("log", found, [*wanted, "sized", ["size", 44, 80], ["draw", [65]]])
 
 
 @check
@@ -258,11 +297,11 @@ def it_resumes_a_session() -> None:
     """A page that lost its WebSocket connects again, after 0.5 to 15 seconds, and resumes by its
     token; a session that can't be resumed is begun again."""
     found = of_session(
-        "last().onopen(); say('size 25 80'); say('token 0f'); log.length = 0;"
+        "last().onopen(); says('size 25 80', 'token 0f'); log.length = 0;"
         "for (let n = 0; n < 7; n++) { close(); again(); }"
         "last().onopen(); log.length = 0;"
         "log.push(waits.map(it => it[1]), last().sent);"
-        "say('ended no such session'); close(); again(); last().onopen();"
+        "says('ended no such session'); close(); again(); last().onopen();"
         "log.push(waits.at(-1)[1], last().sent);"
     )
     waits, first, *_, wait, second = found
@@ -275,7 +314,7 @@ def it_resumes_a_session() -> None:
 def it_stays_when_a_session_has_ended() -> None:
     """After `ended` the page waits for Enter, and then begins a session."""
     found = of_session(
-        "last().onopen(); say('size 25 80'); say('token 0f'); say('ended signed off'); close();"
+        "last().onopen(); says('size 25 80', 'token 0f', 'ended signed off'); close();"
         "log.length = 0; log.push(state.textContent, waits.length); send('a'); send(enter);"
         "last().onopen(); log.push(last().sent);"
     )
@@ -284,10 +323,60 @@ def it_stays_when_a_session_has_ended() -> None:
 
 
 @check
+def it_waits_for_a_free_terminal() -> None:
+    """After `busy` it tries again each 5 seconds."""
+    found = of_session(
+        "last().onopen(); log.length = 0; says('busy'); close(1000); log.push(state.textContent, waits[0][1]);"
+        "again(); last().onopen(); log.push(last().sent);"
+    )
+    wanted = ["All terminals are in use: trying again.", 5000]
+    expect("log", found, [*wanted, ["connect", "wss://bank.example/t/terminal"], ["open 4 BANK02"]])
+
+
+@check
+def a_refused_opening_is_not_tried_again() -> None:
+    """A close with code 1008, policy, is the server's answer to a model or an LU that can't be."""
+    found = of_session("last().onopen(); log.length = 0; close(1008); log.push(waits.length, state.textContent);")
+    expect("log", found, [0, "The session has ended: there is no such model or LU: 4 BANK02. Enter begins a new one."])
+
+
+@check
+def each_key_arrives_once() -> None:
+    """Keys that were typed without a connection are sent once there is one; keys that the server hasn't
+    heard are sent again to it, in order, and no others."""
+    found = of_session(
+        "last().onopen(); last().sent.length = 0; send('a'); log.length = 0; log.push([...last().sent]);"
+        "says('size 25 80', 'token 0f', 'heard 40'); send('b'); send('€'); send('d');"
+        "log.push([...last().sent]); says('heard 42'); close(); send('e'); again(); last().onopen();"
+        "log.push([...last().sent]); says('size 25 80', 'token 0f', 'heard 45'); log.push([...last().sent]);"
+        "says('heard 47'); close(); again(); last().onopen(); says('heard 47'); log.push([...last().sent]);"
+    )
+    connect = ["connect", "wss://bank.example/t/terminal"]
+    wanted = [
+        [], ["a", "b", "€", "d"], connect, ["resume 0f"], ["resume 0f", "d", "e"], connect, ["resume 0f"],
+    ]
+    expect("log", found, wanted)
+
+
+@check
+def silence_is_told_and_ends() -> None:
+    """After 6 seconds without a word of the server the page says so; after 15 it connects again, and
+    doesn't close what it had, by which the server would end the session soon."""
+    found = of_session(
+        "last().onopen(); says('size 25 80', 'token 0f', 'heard 0'); log.length = 0;"
+        "for (now of [6000, 7000, 15000, 15001]) { every(); log.push(state.textContent); }"
+        "log.push(sockets.length, sockets[0].readyState);"
+    )
+    connect = ["connect", "wss://bank.example/t/terminal"]
+    texts = ["", "No answer for 7 s.", "No answer for 15 s.", connect, "Not connected: trying again."]
+    expect("log", found, [*texts, 2, 1])
+
+
+@check
 def its_messages_are_short() -> None:
     """A long text is sent in messages of at most 4,096 bytes, each of whole characters."""
     found = of_session(
-        "last().onopen(); last().sent.length = 0; send('€😀'.repeat(1500));"
+        "last().onopen(); says('heard 0'); last().sent.length = 0; send('€😀'.repeat(1500));"
         "log.length = 0; log.push(...last().sent);"
     )
     expect("together", "".join(found), "€😀" * 1500)

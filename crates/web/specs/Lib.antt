@@ -1,3 +1,4 @@
 pub mod Crowds
 pub mod Links
 pub mod Pages
+pub mod Limits

@@ -1,5 +1,5 @@
 -- The turn of a page and its terminal (our profile): what is read, and what is sent.
-use Rattle.std.specs.Prelude.{◌≡◌, ◌⊎◌, ℕ, Bool, true, false, List, [], Result}
+use Rattle.std.specs.Prelude.{◌≡◌, ◌⊎◌, ℕ, Bool, true, false, List, [], Result, length}
 use Rattle.std.specs.declared.io.Error.{Error}
 use Rattle.host_core.specs.declared.links.LinkRead.{LinkRead}
 use Rattle.host_core.specs.declared.links.LinkRead.TheVariants as read
@@ -7,7 +7,7 @@ use Rattle.host_core.specs.declared.links.LinkWrite.{LinkWrite}
 use Rattle.host_core.specs.declared.links.LinkWrite.TheVariants as write
 use Rattle.jobs.specs.declared.fault.Fault.{Fault}
 use Rattle.operate.specs.LiveSessions.{BreaksTurnTyped, Session, TakesTurnTyped}
-use Rattle.web_wire.specs.Sockets.{IsRead}
+use Rattle.web_wire.specs.Sockets.{IsRead, is_full}
 use Rattle.web_wire.specs.Steps.{is_closed}
 use Rattle.web_wire.specs.declared.received.Closing.{Closing}
 use Rattle.web_wire.specs.declared.received.Received.{Received}
@@ -45,8 +45,8 @@ fault_of send.Full = Fault.OutputFailed
 
 -- what a turn is in which output waits after this write
 abbrev pub waiting : LinkWrite → PageTurn
-waiting (write.Took count) = turned.Going false true
-waiting write.NotNow = turned.Going false false
+waiting (write.Took count) = turned.Going false true 0
+waiting write.NotNow = turned.Going false false 0
 waiting write.Failed = turned.Lost
 
 -- a terminal whose drawings its caller takes
@@ -64,13 +64,14 @@ module _ {B H : Type 0} (gave : H → ℕ → List ℕ → Result ℕ Error → 
     pub sent : new_page ≡ with_drawing drawing old_page
 
   -- Holds if a turn in which these bytes were typed fails: it breaks off by this fault, and the page is sent nothing; or
-  -- the drawing is made and can't be sent, for want of memory or since it is too long for a page.
+  -- the drawing is made and can't be sent, for want of memory or, only if too many bytes would wait, since it is too long.
   pub data FailsToDraw (typed : List ℕ) (old_page : Link B) (old_terminal : Terminal H) (new_page : Link B)
       (new_terminal : Terminal H) : Fault → Type 0 where
     at_turn : (fault : Fault) (drawn : List ℕ) → BreaksTurnTyped gave took typed old_terminal new_terminal [] drawn fault
         → new_page ≡ old_page → FailsToDraw typed old_page old_terminal new_page new_terminal fault
     at_page : (drawn : List ℕ) (why : SendFault) → TakesTurnTyped gave took typed old_terminal new_terminal [] drawn
-        → new_page ≡ old_page → FailsToDraw typed old_page old_terminal new_page new_terminal (fault_of why)
+        → new_page ≡ old_page → (why ≡ send.Full → is_full old_page.frames.output (length drawn) ≡ true)
+        → FailsToDraw typed old_page old_terminal new_page new_terminal (fault_of why)
 
   -- holds if this frame is a close, or breaks a rule: the terminal isn't touched
   abbrev pub IsClosedBy : Received → (read_page : Link B) → (old_terminal : Terminal H) → PageTurn → (new_page : Link B)
@@ -79,11 +80,11 @@ module _ {B H : Type 0} (gave : H → ℕ → List ℕ → Result ℕ Error → 
       × (frame ≡ received.Closed closing) × (turn ≡ turned.Closed closing) × (new_page ≡ read_page)
       × (new_terminal ≡ old_terminal)
 
-  -- holds if the keys of this frame are pressed, and the page is sent the drawing
+  -- holds if the keys of this frame are pressed, all of them, and the page is sent the drawing
   abbrev pub IsPressed : Received → List ℕ → (heard : Bool) → (read_page : Link B) → (old_terminal : Terminal H)
       → PageTurn → (new_page : Link B) → (new_terminal : Terminal H) → Type 0
   IsPressed frame keys heard read_page old_terminal turn new_page new_terminal = (moved : Bool)
-      × (is_closed frame ≡ false) × (turn ≡ turned.Going heard moved)
+      × (is_closed frame ≡ false) × (turn ≡ turned.Going heard moved (length keys))
       × DrawsTurn keys read_page old_terminal new_page new_terminal
 
   -- Holds if the next frame is read, its keys are pressed, and the drawing is sent; or if it closes the WebSocket.

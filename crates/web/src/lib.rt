@@ -7,6 +7,7 @@
 #![tactic(auto)]
 
 mod departing;
+mod limits;
 mod log;
 mod page_link;
 mod page_turn;

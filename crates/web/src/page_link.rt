@@ -1,7 +1,7 @@
 //! A page: its socket, and its end of the WebSocket.
-ghost use Rattle.std.specs.Prelude.{◌≡◌, ◌+◌, ◌≤◌, [], OnErr, OnOk, length};
+ghost use Rattle.std.specs.Prelude.{◌≡◌, ◌+◌, ◌≤◌, [], true, Err, OnErr, OnOk, length};
 ghost use Rattle.web_wire.specs.Notices.{notice_text};
-ghost use Rattle.web_wire.specs.Sockets.{IsRead, is_over, most_input};
+ghost use Rattle.web_wire.specs.Sockets.{IsRead, is_full, is_over, most_input};
 ghost use Rattle.websocket.specs.Content.{ping, text};
 ghost use Rattle.web.specs.Links.{IsTaken, ReadsPage, Receives, SendsPage, WritesFront, has_output, with_drawing, with_message};
 
@@ -150,10 +150,12 @@ impl<B: RawRead + RawWrite + Drop> PageLink<B> {
         self.frames.read_frame(keys)
     }
 
-    /// Sends what draws a picture, if that is something, and the WebSocket isn't closed.
+    /// Sends what draws a picture, if that is something, and the WebSocket isn't closed. Full only if too many bytes would
+    /// wait.
     pub(crate) fn draw(&mut self, drawing: &[u8]) -> Result<(), SendFault>
         ensures sent { OnOk result (self.new ≡ with_drawing drawing.now self.old) }
         ensures unchanged { OnErr result (self.new ≡ self.old) }
+        ensures full { result ≡ Err SendFault.Full → is_full self.old.frames.output (length drawing.now) ≡ true }
     {
         if drawing.is_empty() || is_over(self.frames.stage()) {
             return Ok(());

@@ -18,8 +18,13 @@ const REDRAW: u8 = 12;
 /// What a turn of a page was.
 #[derive(Clone, Copy)]
 pub(crate) enum PageTurn {
-    /// The page goes on. `heard`: it has sent something; `moved`: a byte was read or written, or a message was taken.
-    Going { heard: bool, moved: bool },
+    /// The page goes on. `heard`: it has sent something; `moved`: a byte was read or written, or a message was taken;
+    /// `typed`: how many bytes of keys were pressed.
+    Going {
+        heard: bool,
+        moved: bool,
+        typed: usize,
+    },
     /// The page's socket has ended or failed.
     Lost,
     /// The WebSocket is closed, for this reason.
@@ -109,10 +114,12 @@ fn serve<B: RawRead + RawWrite + Drop, H: RawRead + RawWrite + Drop>(
     if let Received::Closed(closing) = received {
         return Ok(PageTurn::Closed(closing));
     }
-    let moved = draw_turn(alloc, keys.as_slice(), page, terminal)?;
+    let pressed = keys.as_slice();
+    let moved = draw_turn(alloc, pressed, page, terminal)?;
     Ok(PageTurn::Going {
         heard,
         moved: moved | has_moved(&received),
+        typed: pressed.len(),
     })
 }
 
@@ -142,10 +149,12 @@ fn waiting(wrote: LinkWrite) -> PageTurn
         LinkWrite::Took(_) => PageTurn::Going {
             heard: false,
             moved: true,
+            typed: 0,
         },
         LinkWrite::NotNow => PageTurn::Going {
             heard: false,
             moved: false,
+            typed: 0,
         },
         LinkWrite::Failed => PageTurn::Lost,
     }

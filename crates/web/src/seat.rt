@@ -1,4 +1,5 @@
 //! A session: a terminal, its page, and its connection to the host.
+use crate::limits::time_kept;
 use crate::page_link::PageLink;
 use crate::page_turn::{PageTerminal, PageTurn, draw_again, take_page_turn};
 use codes3270::Model;
@@ -8,14 +9,14 @@ use operate::{OperatorRequest, OperatorSession};
 use std::alloc::Global;
 use std::fmt;
 use std::io::ErrorKind;
-use std::net::SocketAddr;
+use std::net::{IpAddr, SocketAddr};
 use term_core::TermPhase;
-use tn3270e_msg::Lu;
+use tn3270e_msg::{Lu, Reason};
 use tty::Colors;
 use web_wire::{Closing, Notice, Token};
 
-/// How often a page is sent a ping, in milliseconds: proxies cut connections that are silent for a minute.
-const PING_TIME: u64 = 25_000;
+/// How often a page is sent a ping and told what was heard of it, in milliseconds: so it knows that the server is there.
+const PING_TIME: u64 = 5_000;
 
 /// How long a page may be silent, in milliseconds. A page answers pings, so that it is gone then.
 const SILENCE: u64 = 60_000;
@@ -49,6 +50,17 @@ impl SessionEnd {
                 Fault::OutputFailed => "drawing-too-long",
                 _ => "socket-failed",
             },
+        }
+    }
+}
+
+impl SessionEnd {
+    /// What the page is told, if this prints as `reason`: that it ended, or that all LUs are in use.
+    pub(crate) fn notice<'a>(&self, reason: &'a str) -> Notice<'a> {
+        match self {
+            SessionEnd::Failed(Fault::Live(LiveFault::LuRefused(reason)))
+                if *reason == Reason::DEVICE_IN_USE => { Notice::Busy }
+            _ => Notice::Ended(reason),
         }
     }
 }
@@ -107,6 +119,12 @@ pub(crate) struct Seat {
     /// The connection to the host while it is being established, and since when.
     dialed: Option<(TcpStream, u64)>,
     page: Option<PageLink<TcpStream>>,
+    /// The address of its last page.
+    peer: IpAddr,
+    /// How many bytes of keys its pages sent.
+    typed: u64,
+    /// How long it is kept without a page, in milliseconds.
+    kept_for: u64,
     /// When the page was attached, sent something, or left, whichever was last, in milliseconds of the server's time.
     heard: u64,
     /// When the page was last sent a ping.
@@ -146,6 +164,7 @@ impl Seat {
         model: Model,
         wanted: Option<Lu>,
         dialed: TcpStream,
+        peer: IpAddr,
         now: u64,
     ) -> Result<Seat, Fault> {
         Ok(Seat {
@@ -163,31 +182,43 @@ impl Seat {
             )?,
             dialed: Some((dialed, now)),
             page: None,
+            peer,
+            typed: 0,
+            kept_for: 0,
             heard: now,
             pinged: now,
             is_bound: false,
         })
     }
 
-    /// Attaches a page: it gets the size, the token, and the whole screen. Returns the page that it replaces.
+    /// Attaches a page: it gets the size, the token, how many bytes of keys were heard, and the whole screen. Returns the
+    /// page that it replaces.
     pub(crate) fn attach(
         &mut self,
         alloc: Global,
         mut page: PageLink<TcpStream>,
+        peer: IpAddr,
         now: u64,
     ) -> Result<Option<PageLink<TcpStream>>, Fault> {
         let TtySize { rows, columns } = page_size(self.model);
         let told = page.tell(alloc, &Notice::Size(rows, columns)).is_ok()
-            && page.tell(alloc, &Notice::Token(self.token)).is_ok();
+            && page.tell(alloc, &Notice::Token(self.token)).is_ok()
+            && page.tell(alloc, &Notice::Heard(self.typed)).is_ok();
         if !told {
             return Err(Fault::NoMemory);
         }
         if self.dialed.is_none() {
             draw_again(alloc, &mut page, &mut self.terminal)?;
         }
+        self.peer = peer;
         self.heard = now;
         self.pinged = now;
         Ok(std::mem::replace(&mut self.page, Some(page)))
+    }
+
+    /// Whether it has no page, and its last one was at this address.
+    pub(crate) fn was_left_by(&self, peer: IpAddr) -> bool {
+        self.page.is_none() && self.peer == peer
     }
 
     /// Its page, once it has ended.
@@ -203,13 +234,13 @@ impl Seat {
         now: u64,
         keep: u64,
     ) -> Result<SeatTurn, SessionEnd> {
-        if self.page.is_none() && keep <= now.saturating_sub(self.heard) {
+        if self.page.is_none() && self.kept_for <= now.saturating_sub(self.heard) {
             return Err(SessionEnd::NotResumed);
         }
         if self.dialed.is_some() {
             return Ok(self.wait_for_host(host, now)?);
         }
-        let mut turn = self.take_turn(alloc, now)?;
+        let mut turn = self.take_turn(alloc, now, keep)?;
         match self.terminal.take_asked() {
             OperatorRequest::Quit => return Err(SessionEnd::ByOperator),
             OperatorRequest::Nothing | OperatorRequest::Connect => {}
@@ -259,33 +290,41 @@ impl Seat {
 
     /// Takes a turn of the terminal, with its page if it has one. Without a page, what is drawn is dropped: a page that
     /// resumes the session gets the whole screen.
-    fn take_turn(&mut self, alloc: Global, now: u64) -> Result<SeatTurn, Fault> {
+    fn take_turn(&mut self, alloc: Global, now: u64, keep: u64) -> Result<SeatTurn, Fault> {
         let Some(page) = &mut self.page else {
             let moved = self.terminal.turn_typed(alloc, &[], &mut Vec::new(alloc))?;
             return Ok(SeatTurn::quiet(moved));
         };
         match take_page_turn(alloc, page, &mut self.terminal)? {
-            PageTurn::Going { heard, moved } => {
+            PageTurn::Going {
+                heard,
+                moved,
+                typed,
+            } => {
                 if heard {
                     self.heard = now;
                 }
-                Ok(self.keep_time(now, moved))
+                self.typed = self.typed.saturating_add(typed as u64);
+                Ok(self.keep_time(alloc, now, keep, moved))
             }
-            PageTurn::Lost => Ok(self.leave(now, "lost")),
-            PageTurn::Closed(closing) => Ok(self.leave(now, closing_word(closing))),
+            PageTurn::Lost => Ok(self.leave(now, "lost", keep)),
+            PageTurn::Closed(closing) => {
+                Ok(self.leave(now, closing_word(closing), time_kept(closing, keep)))
+            }
         }
     }
 
     /// Sends a ping if it is time, and drops a page that is silent.
-    fn keep_time(&mut self, now: u64, moved: bool) -> SeatTurn {
+    fn keep_time(&mut self, alloc: Global, now: u64, keep: u64, moved: bool) -> SeatTurn {
         if SILENCE <= now.saturating_sub(self.heard) {
-            return self.leave(now, "silent");
+            return self.leave(now, "silent", keep);
         }
         if PING_TIME <= now.saturating_sub(self.pinged) {
             if let Some(page) = &mut self.page {
                 if !page.has_output() {
                     // If memory is refused, the next turn tries again.
-                    if page.ping().is_ok() {
+                    let heard = Notice::Heard(self.typed);
+                    if page.ping().is_ok() && page.tell(alloc, &heard).is_ok() {
                         self.pinged = now;
                     }
                 }
@@ -294,9 +333,10 @@ impl Seat {
         SeatTurn::quiet(moved)
     }
 
-    /// Takes the page from the session.
-    fn leave(&mut self, now: u64, reason: &'static str) -> SeatTurn {
+    /// Takes the page from the session, which is kept for so long.
+    fn leave(&mut self, now: u64, reason: &'static str, kept_for: u64) -> SeatTurn {
         self.heard = now;
+        self.kept_for = kept_for;
         SeatTurn {
             left: self.page.take().map(|page| (page, reason)),
             ..SeatTurn::quiet(true)

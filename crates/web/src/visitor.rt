@@ -1,5 +1,6 @@
 //! A client that has no session yet: it sends a request, or has begun a WebSocket and not opened a session.
-ghost use Rattle.std.specs.Prelude.{◌≡◌, IfOk, IfSome, option_map};
+ghost use Rattle.std.specs.Prelude.{◌≡◌, ◌-◌, ◌<◌, IfOk, IfSome, length, nat_le, not, option_map, position};
+ghost use Rattle.web.specs.Crowds.{leaving_place, sure_time};
 ghost use Rattle.web_wire.specs.Heads.{IsAnswerTo, with_more};
 ghost use Rattle.web_wire.specs.Responses.{response};
 
@@ -80,10 +81,45 @@ pub(crate) struct Visitor<B> {
     pub(crate) peer: SocketAddr,
     /// When it connected, in milliseconds of the server's time.
     pub(crate) began: u64,
+    /// Whether it has sent anything.
+    pub(crate) has_sent: bool,
     /// The request so far; None once it is answered.
     head: Option<HeadReader>,
     /// What is left of the response.
     response: Vec<u8>,
+}
+
+/// For how long a client that sends something is sure of its place, in milliseconds.
+const SURE_TIME: u64 = 1_000;
+
+/// The first client that has sent nothing.
+fn silent_place<B>(visitors: &[Visitor<B>]) -> Option<usize>
+    ensures place { result ≡ position (λ it. not it.has_sent) visitors.now }
+    ensures in_range { IfSome result (λ place. place < length visitors.now) }
+{
+    visitors.iter().position(|visitor| !visitor.has_sent)
+}
+
+/// The first client that isn't sure of its place.
+fn unsure_place<B>(visitors: &[Visitor<B>], now: u64) -> Option<usize>
+    ensures place { result ≡ position (λ it. nat_le sure_time (now - it.began)) visitors.now }
+    ensures in_range { IfSome result (λ place. place < length visitors.now) }
+{
+    visitors
+        .iter()
+        .position(|visitor| SURE_TIME <= now.saturating_sub(visitor.began))
+}
+
+/// Which client without a session makes room for a new one, of these, the oldest first: the first that has sent
+/// nothing, or else the first that has been there for a second.
+pub(crate) fn leaving_place<B>(visitors: &[Visitor<B>], now: u64) -> Option<usize>
+    ensures place { result ≡ leaving_place (λ it. it.has_sent) (λ it. it.began) now visitors.now }
+    ensures in_range { IfSome result (λ place. place < length visitors.now) }
+{
+    match silent_place(visitors) {
+        Some(place) => Some(place),
+        None => unsure_place(visitors, now),
+    }
 }
 
 impl<B: RawRead + RawWrite + Drop> Visitor<B> {
@@ -93,6 +129,7 @@ impl<B: RawRead + RawWrite + Drop> Visitor<B> {
             link: PageLink::new(alloc, socket),
             peer,
             began,
+            has_sent: false,
             head: Some(HeadReader::new(alloc)),
             response: Vec::new(alloc),
         }
@@ -122,6 +159,7 @@ impl<B: RawRead + RawWrite + Drop> Visitor<B> {
             LinkRead::NotNow => return Visit::Going { moved: false },
             LinkRead::Ended | LinkRead::Failed => return Visit::Gone,
         };
+        self.has_sent = true;
         let Some(head) = &mut self.head else {
             return Visit::Gone;
         };

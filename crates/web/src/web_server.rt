@@ -2,10 +2,11 @@
 ghost use Rattle.std.specs.Prelude.{◌≡◌, ◌<◌, IfErr, IfOk};
 
 use crate::departing::{Departing, Progress};
+use crate::limits::time_after;
 use crate::log::{EventLog, WebEvent, WebLog};
 use crate::page_link::PageLink;
 use crate::seat::{Seat, SeatTurn, SessionEnd, closing_word};
-use crate::visitor::{Visit, Visitor};
+use crate::visitor::{Visit, Visitor, leaving_place};
 use codes3270::Model as TerminalModel;
 use jobs::{Fault, LiveFault, RawRandom, Sink, WebOptions, poll_timeout, report_and_exit_code};
 use mio::event::Source;
@@ -15,7 +16,7 @@ use std::alloc::Global;
 use std::fmt;
 use std::io::{self, ErrorKind};
 use std::marker::Model;
-use std::net::{Net, SocketAddr};
+use std::net::{IpAddr, Net, SocketAddr};
 use std::random::RandomSource;
 use std::time::{Clock, Instant};
 use tn3270e_msg::Lu;
@@ -73,14 +74,16 @@ fn status_word(status: HttpStatus) -> &'static str {
     }
 }
 
-/// The word for why a client is refused; None if it isn't.
-fn refusal_word(visit: &Visit) -> Option<&'static str> {
+/// The word for why a client is refused; None if it isn't, or if it has never sent anything: browsers connect ahead of
+/// requests that may not come.
+fn refusal_word(visit: &Visit, has_sent: bool) -> Option<&'static str> {
     match visit {
-        Visit::Late => Some("late"),
+        Visit::Late if has_sent => Some("late"),
         Visit::Answered(HttpStatus::Found) => None,
         Visit::Answered(status) => Some(status_word(*status)),
         Visit::Closed(closing) => Some(closing_word(*closing)),
-        Visit::Going { .. } | Visit::Opened(..) | Visit::Resumed(_) | Visit::Gone => None,
+        Visit::Late | Visit::Going { .. } | Visit::Opened(..) | Visit::Resumed(_) | Visit::Gone =>
+            None,
     }
 }
 
@@ -185,11 +188,11 @@ impl WebServer {
         })
     }
 
-    /// Takes the time, in milliseconds; an earlier one than before is ignored.
-    fn keep_time(&mut self, now: u64)
+    /// Takes the time after a turn, by the clock before and after it, in milliseconds.
+    fn keep_time(&mut self, before: u64, after: u64)
         ensures { self.new ≡ self.old }
     {
-        self.now = self.now.max(now);
+        self.now = time_after(self.now, before, after);
     }
 
     /// Waits until a socket is ready, or not at all if the turn before did something (`busy`).
@@ -214,8 +217,9 @@ impl WebServer {
         }
     }
 
-    /// Takes a client, unless there are 16 without a session already, or memory is refused.
+    /// Takes a client, unless there are 16 without a session of which none makes room, or memory is refused.
     fn admit<L: EventLog>(&mut self, mut socket: TcpStream, peer: SocketAddr, log: &mut L) {
+        self.make_room(log);
         if self.visitors.len() >= MOST_VISITORS {
             return log.note(&WebEvent::TurnedAway(peer));
         }
@@ -226,6 +230,17 @@ impl WebServer {
         let _ = self.visitors.push(visitor);
     }
 
+    /// If there are 16 clients without a session, drops the one that makes room for a new one, if one does.
+    fn make_room<L: EventLog>(&mut self, log: &mut L) {
+        if self.visitors.len() < MOST_VISITORS {
+            return;
+        }
+        if let Some(place) = leaving_place(self.visitors.as_slice(), self.now) {
+            let visitor = self.visitors.remove(place);
+            log.note(&WebEvent::TurnedAway(visitor.peer));
+        }
+    }
+
     /// Lets a client go once it was sent this response, and what waits for its page.
     fn depart(&mut self, link: PageLink<TcpStream>, response: Vec<u8>) {
         if self.departing.len() < MOST_DEPARTING {
@@ -234,9 +249,9 @@ impl WebServer {
         }
     }
 
-    /// Tells a page why its session has ended, closes its WebSocket, and lets it go.
-    fn dismiss(&mut self, mut link: PageLink<TcpStream>, reason: &str) {
-        let _ = link.tell(self.alloc, &Notice::Ended(reason));
+    /// Tells a page why it has no session, closes its WebSocket, and lets it go.
+    fn dismiss(&mut self, mut link: PageLink<TcpStream>, notice: &Notice<'_>) {
+        let _ = link.tell(self.alloc, notice);
         link.close();
         let none = Vec::new(self.alloc);
         self.depart(link, none);
@@ -267,7 +282,7 @@ impl WebServer {
         match self.visit(index) {
             Visit::Going { moved } => moved,
             visit => {
-                let visitor = self.visitors.swap_remove(index);
+                let visitor = self.visitors.remove(index);
                 self.end_visit(rt, visitor, visit, log);
                 true
             }
@@ -295,7 +310,7 @@ impl WebServer {
         log: &mut L,
     ) {
         let peer = visitor.peer;
-        if let Some(word) = refusal_word(&visit) {
+        if let Some(word) = refusal_word(&visit, visitor.has_sent) {
             log.note(&WebEvent::Refused(peer, word));
         }
         let (link, response) = visitor.into_parts();
@@ -318,10 +333,13 @@ impl WebServer {
         log: &mut L,
     ) {
         if self.seats.len() >= self.most_sessions {
-            log.note(&WebEvent::Refused(peer, "all-in-use"));
-            return self.dismiss(link, "all sessions are in use");
+            self.make_seat(peer.ip(), log);
         }
-        let mut seat = match self.new_seat(rt, model, lu) {
+        if self.seats.len() >= self.most_sessions {
+            log.note(&WebEvent::Refused(peer, "all-in-use"));
+            return self.dismiss(link, &Notice::Busy);
+        }
+        let mut seat = match self.new_seat(rt, model, lu, peer.ip()) {
             Ok(seat) => seat,
             Err(fault) => {
                 let end = SessionEnd::Failed(fault);
@@ -329,11 +347,20 @@ impl WebServer {
                 return self.dismiss_for(link, &end);
             }
         };
-        if seat.attach(self.alloc, link, self.now).is_err() {
+        if seat.attach(self.alloc, link, peer.ip(), self.now).is_err() {
             return log.note(&WebEvent::Refused(peer, "no-memory"));
         }
         log.note(&WebEvent::Opened(seat.number, peer));
         self.add(seat);
+    }
+
+    /// Ends the oldest session that a page at this address has left, if there is one.
+    fn make_seat<L: EventLog>(&mut self, peer: IpAddr, log: &mut L) {
+        let left = self.seats.iter().position(|seat| seat.was_left_by(peer));
+        if let Some(place) = left {
+            let seat = self.seats.remove(place);
+            log.note(&WebEvent::Ended(seat.number, "made-room"));
+        }
     }
 
     /// Adds a session.
@@ -349,6 +376,7 @@ impl WebServer {
         rt: &R,
         model: TerminalModel,
         lu: Option<Lu>,
+        peer: IpAddr,
     ) -> Result<Seat, Fault>
         ensures { self.new ≡ self.old }
     {
@@ -370,6 +398,7 @@ impl WebServer {
             model,
             lu,
             socket,
+            peer,
             self.now,
         )
     }
@@ -385,14 +414,14 @@ impl WebServer {
         let (alloc, now) = (self.alloc, self.now);
         let Some(seat) = self.seats.iter_mut().find(|seat| seat.token == token) else {
             log.note(&WebEvent::Refused(peer, "unknown-token"));
-            return self.dismiss(link, "it isn't kept any more");
+            return self.dismiss(link, &Notice::Ended("it isn't kept any more"));
         };
         let number = seat.number;
-        match seat.attach(alloc, link, now) {
+        match seat.attach(alloc, link, peer.ip(), now) {
             Ok(replaced) => {
                 log.note(&WebEvent::Resumed(number, peer));
                 if let Some(replaced) = replaced {
-                    self.dismiss(replaced, "another page has resumed it");
+                    self.dismiss(replaced, &Notice::Ended("another page has resumed it"));
                 }
             }
             Err(_) => log.note(&WebEvent::Refused(peer, "no-memory")),
@@ -420,7 +449,7 @@ impl WebServer {
         match self.seats[index].turn(self.alloc, self.host, self.now, self.keep) {
             Ok(turn) => self.follow(number, turn, log),
             Err(end) => {
-                let seat = self.seats.swap_remove(index);
+                let seat = self.seats.remove(index);
                 log.note(&WebEvent::Ended(number, end.word()));
                 if let Some(page) = seat.into_page() {
                     self.dismiss_for(page, &end);
@@ -458,8 +487,8 @@ impl WebServer {
     /// Tells a page why its session has ended, and lets it go.
     fn dismiss_for(&mut self, link: PageLink<TcpStream>, end: &SessionEnd) {
         match format!(in self.alloc; "{end}") {
-            Ok(text) => self.dismiss(link, text.as_str()),
-            Err(_) => self.dismiss(link, "no memory"),
+            Ok(text) => self.dismiss(link, &end.notice(text.as_str())),
+            Err(_) => self.dismiss(link, &Notice::Ended("no memory")),
         }
     }
 
@@ -543,9 +572,19 @@ impl fmt::Display for Serving {
     }
 }
 
+/// The origin at the address where a server with these options listens.
+fn own_origin(alloc: Global, options: &WebOptions<'_>) -> Result<Origin, OriginFault> {
+    let address = SocketAddr::new(options.listen, options.port.get());
+    let text = format!(in alloc; "http://{address}")?;
+    Origin::parse(alloc, text.as_str())
+}
+
 /// The origins of a server with these options.
 fn site_of(alloc: Global, options: &WebOptions<'_>) -> Result<Site, OriginFault> {
     let mut site = Site::new(alloc, options.port.get())?;
+    if !options.listen.is_unspecified() {
+        site.allow(own_origin(alloc, options)?)?;
+    }
     if let Some(origin) = &options.origin {
         site.allow(Origin::parse(alloc, origin.as_str())?)?;
     }
@@ -566,10 +605,13 @@ fn take_turns<R: Net + Clock + RandomSource, L: EventLog>(
 ) -> Result<(), Fault> {
     let start = Instant::now(rt).ok();
     let mut busy = false;
+    let mut before = 0;
     for _ in 0..u64::MAX {
         busy = server.turn(rt, busy, log)?;
         if let (Some(start), Ok(now)) = (start, Instant::now(rt)) {
-            server.keep_time(millis_between(start, now));
+            let after = millis_between(start, now);
+            server.keep_time(before, after);
+            before = after;
         }
     }
     Err(Fault::TurnsOver)
@@ -599,9 +641,11 @@ fn serve<R: Net + Clock + RandomSource, E: Sink>(
 /// which client is refused and why; and of each session when it begins, is connected, is bound to an LU, loses its
 /// page, is resumed, and ends. Nothing that is typed or shown is logged.
 ///
-/// At most 16 clients have no session, for at most 5 seconds each. A page that takes too little isn't drawn until it
-/// has taken what waits. One that is silent for a minute is dropped; it gets a ping every 25 seconds. A session that
-/// has lost its page is kept for the time of the options.
+/// At most 16 clients have no session, for at most 5 seconds each. For a further one the oldest makes room that has
+/// sent nothing, or else the oldest of all, once it has been there for a second. A page that takes too little isn't
+/// drawn until it has taken what waits. One that is silent for a minute is dropped; it gets a ping every 5 seconds. A
+/// session that has lost its page is kept for the time of the options, and for 5 seconds at most if the page closed
+/// its WebSocket.
 ///
 /// Returns the exit status: 2 if the origin isn't one; 3 if memory is refused; 4 if the system can't listen, or wait
 /// for sockets; 5 after 2^64 - 1 turns.

@@ -1,6 +1,7 @@
 -- How a request is answered, by its head (RFC 9110, RFC 9112, and section 4.2 of RFC 6455; which resources there are:
 -- our profile).
-use Rattle.std.specs.Prelude.{◌≡◌, ℕ, ◌<◌, ◌≤◌, ◌⊎◌, Bool, true, false, List, [], ◌∷◌, ◌++◌, length, map, take, codes, bytes_eq, Option, None, Some, Result, Ok, Err, if◌then◌else◌}
+use Rattle.std.specs.Prelude.{◌≡◌, ℕ, ◌<◌, ◌≤◌, ◌⊎◌, Bool, true, false, ◌==◌, List, [], ◌∷◌, ◌++◌, length, map, take, drop, codes, bytes_eq, nat_eq, position, Option, None, Some, option_map, unwrap_or, Result, Ok, Err, if◌then◌else◌}
+use Rattle.std.specs.List.{starts_with}
 use Rattle.std.specs.Option.{option_or}
 use Rattle.httparse.specs.Grammar.{RequestHead, ReadsRequest, HasNoRequest, NeverHasRequest}
 use Rattle.httparse.specs.Spans.{RequestExceeds, name_and_value}
@@ -71,6 +72,34 @@ resource_status origins target origin is_last =
     else if bytes_eq target (codes "/terminal") then handshake_refusal origins origin is_last
     else Some NotFound
 
+-- What follows the scheme of a target in absolute-form (RFC 9112, section 3.2.2); None for one of another form.
+abbrev pub after_scheme : (target : List ℕ) → Option (List ℕ)
+after_scheme target =
+    if starts_with nat_eq target (codes "http://") then Some (drop 7 target)
+    else if starts_with nat_eq target (codes "https://") then Some (drop 8 target)
+    else None
+
+abbrev pub is_slash : ℕ → Bool
+is_slash byte = byte == 0x2F
+
+-- where the path begins behind a scheme: at the first slash
+abbrev pub path_start : List ℕ → ℕ
+path_start rest = unwrap_or (position is_slash rest) (length rest)
+
+-- the host for which a request is: that of a target in absolute-form, and else that of the field Host
+abbrev pub host_meant : Option (List ℕ) → (host : List ℕ) → List ℕ
+host_meant None host = host
+host_meant (Some rest) host = take (path_start rest) rest
+
+abbrev pub or_root : (path : List ℕ) → List ℕ
+or_root [] = codes "/"
+or_root (byte ∷ path) = byte ∷ path
+
+-- the path of a target: in absolute-form what follows the host, `/` if nothing does
+abbrev pub path_meant : Option (List ℕ) → (target : List ℕ) → List ℕ
+path_meant None target = target
+path_meant (Some rest) target = or_root (drop (path_start rest) rest)
+
 abbrev pub method_status : (origins : List (List ℕ)) → (method target : List ℕ) → (origin : Option (List ℕ))
     → (is_last : Bool) → Option HttpStatus
 method_status origins method target origin is_last =
@@ -80,7 +109,8 @@ method_status origins method target origin is_last =
 abbrev pub status_of : (origins : List (List ℕ)) → (method target : List ℕ) → (host origin : Option (List ℕ))
     → (is_last : Bool) → Option HttpStatus
 status_of origins method target host origin is_last =
-    option_or (host_refusal origins host) (method_status origins method target origin is_last)
+    option_or (host_refusal origins (option_map (host_meant (after_scheme target)) host))
+    (method_status origins method (path_meant (after_scheme target) target) origin is_last)
 
 -- the status for a handshake that lacks something (RFC 6455, section 4.2.2: 426 for another version)
 abbrev pub failed_status : HandshakeError → HttpStatus

@@ -1,11 +1,11 @@
 //! The answer to a request, by its head: the part of HTTP/1.1 (RFC 9110, RFC 9112) and of the opening handshake (RFC
 //! 6455, section 4.2) that a page with a terminal needs.
-ghost use Rattle.std.specs.Prelude.{◌≡◌, ◌≤◌, ℕ, List, All, IfSome, IsSome, drop, length, option_map, take};
+ghost use Rattle.std.specs.Prelude.{◌≡◌, ◌<◌, ◌≤◌, ℕ, List, All, IfSome, IsSome, drop, length, option_map, position, take};
 ghost use Rattle.httparse.specs.Grammar.{RequestHead as Head, ReadsRequest};
 ghost use Rattle.httparse.specs.Spans.{IsHeaderWithin, IsRequestWithin, header_bytes, span_bytes};
 ghost use Rattle.websocket.specs.Handshake.{requested_key};
 ghost use Rattle.websocket.specs.Headers.{eq_ignore_case, fields_of};
-ghost use Rattle.web_wire.specs.Heads.{IsAnswerTo, IsAnswerToHead, IsAnswerToParts, IsHandshakeAnswer, StartsNamed, failed_status, handshake_refusal, host_refusal, is_nothing, most_fields, only_value, origin_refusal, resource_status, status_of, values_named};
+ghost use Rattle.web_wire.specs.Heads.{IsAnswerTo, IsAnswerToHead, IsAnswerToParts, IsHandshakeAnswer, StartsNamed, failed_status, after_scheme, handshake_refusal, host_meant, host_refusal, is_nothing, is_slash, most_fields, only_value, origin_refusal, path_meant, path_start, resource_status, status_of, values_named};
 
 use crate::origin::Site;
 use httparse::spans::{EMPTY_HEADER_SPAN, HeaderSpan, RequestSpans, parse_request};
@@ -136,6 +136,61 @@ fn resource_status(
     }
 }
 
+/// What follows the scheme of a target in absolute-form (RFC 9112, section 3.2.2); None for one of another form.
+fn after_scheme(target: &[u8]) -> Option<&[u8]>
+    ensures { option_map (λ rest. rest.now) result ≡ after_scheme target.now }
+{
+    if target.starts_with(b"http://") {
+        Some(&target[7..])
+    } else if target.starts_with(b"https://") {
+        Some(&target[8..])
+    } else {
+        None
+    }
+}
+
+/// The index of the first slash.
+fn slash_in(rest: &[u8]) -> Option<usize>
+    ensures place { result ≡ position is_slash rest.now }
+    ensures in_range { IfSome result (λ place. place < length rest.now) }
+{
+    rest.iter().position(|byte| *byte == b'/')
+}
+
+/// Where the path begins behind a scheme: at the first slash.
+fn path_start(rest: &[u8]) -> usize
+    ensures place { result ≡ path_start rest.now }
+    ensures in_range { result ≤ length rest.now }
+{
+    match slash_in(rest) {
+        Some(place) => place,
+        None => rest.len(),
+    }
+}
+
+/// The host for which a request is: that of a target in absolute-form, and else that of the field Host.
+fn host_meant<'a>(rest: Option<&'a [u8]>, host: &'a [u8]) -> &'a [u8]
+    ensures { result.now ≡ host_meant (option_map (λ it. it.now) rest.entry) host.now }
+{
+    match rest {
+        Some(rest) => &rest[..path_start(rest)],
+        None => host,
+    }
+}
+
+/// The path of a target: in absolute-form what follows the host, `/` if nothing does.
+fn path_meant<'a>(rest: Option<&'a [u8]>, target: &'a [u8]) -> &'a [u8]
+    ensures { result.now ≡ path_meant (option_map (λ it. it.now) rest.entry) target.now }
+{
+    let Some(rest) = rest else {
+        return target;
+    };
+    match &rest[path_start(rest)..] {
+        [] => b"/",
+        path => path,
+    }
+}
+
 /// The status of a request with these values of the fields Host and Origin; None if the handshake goes on.
 fn status_of(
     site: &Site,
@@ -148,13 +203,18 @@ fn status_of(
     ensures { result ≡ status_of site.now method.now target.now (option_map (λ value. value.now) host.entry)
         (option_map (λ value. value.now) origin.entry) is_last }
 {
+    let rest = after_scheme(target);
+    let host = match host {
+        Some(host) => Some(host_meant(rest, host)),
+        None => None,
+    };
     if let Some(refusal) = host_refusal(site, host) {
         return Some(refusal);
     }
     if method != b"GET".as_slice() {
         return Some(HttpStatus::MethodNotAllowed);
     }
-    resource_status(site, target, origin, is_last)
+    resource_status(site, path_meant(rest, target), origin, is_last)
 }
 
 /// The status for a handshake that lacks something.
@@ -208,6 +268,7 @@ fn answer_to_head(site: &Site, buf: &[u8], head: &RequestSpans, spans: &[HeaderS
 
 /// The answer to the bytes sent so far, at a server that is used at the site's origins; None if the head isn't complete
 /// yet.
+#[tactic(auto, using(crate::proofs::HeadLemmas::called_for))]
 pub(crate) fn answer_to(site: &Site, bytes: &[u8]) -> Option<Answer>
     ensures answer { IsAnswerTo site.now bytes.now result }
     // A complete head with at most that number of fields is answered.

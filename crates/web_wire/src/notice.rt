@@ -12,6 +12,10 @@ pub enum Notice<'a> {
     Size(u16, u16),
     /// `token TOKEN`: the page may resume the session by it.
     Token(Token),
+    /// `heard COUNT`: the server has so many bytes of keys from the pages of the session. It says that it is there, too.
+    Heard(u64),
+    /// `busy`: all terminals are in use, and the page tries again by itself.
+    Busy,
     /// `ended REASON`: the session has ended, and the page doesn't connect again by itself.
     Ended(&'a str),
 }
@@ -24,6 +28,8 @@ impl Notice<'_> {
         match self {
             Notice::Size(rows, columns) => format!(in alloc; "size {rows} {columns}"),
             Notice::Token(token) => token_text(alloc, *token),
+            Notice::Heard(count) => format!(in alloc; "heard {count}"),
+            Notice::Busy => format!(in alloc; "busy"),
             Notice::Ended(reason) => format!(in alloc; "ended {reason}"),
         }
     }

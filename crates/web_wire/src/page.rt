@@ -3,53 +3,84 @@
 //! literal is the page.
 
 /// The SHA-256 of what is in the page's element `script`, in base64.
-pub const SCRIPT_HASH: &str = "8KvsdydaLKzR+WclGfsQ502bKk46mibKLwQjwhflVSU=";
+pub const SCRIPT_HASH: &str = "nsy7i1atZUIqog0EOje3lkATYRvTAMaTAGNgo1pCp0c=";
 
 /// The SHA-256 of what is in the page's element `style`, in base64.
-pub const STYLE_HASH: &str = "hxzxF8D1D9zuAw2bfM4X7JyFAWCj4XRw/Y7VOrqDQI8=";
+pub const STYLE_HASH: &str = "5d4GZytdkizMCw6CRfrSpD16MT+O8YscEKEEk881ae0=";
 
 /// The page, in HTML.
 pub const PAGE: &str = "<!DOCTYPE html>
 <html lang=en translate=no>
 <meta charset=utf-8>
-<meta name=viewport content='width=device-width'>
+<meta name=viewport content='width=device-width, initial-scale=1'>
 <title>3270</title>
 <style>
-html, body { margin: 0; background: #101418; color: #d8dee4; }
+:root {
+  color-scheme: dark light; --back: #101418; --plain: #d8dee4; --bright: #ffffff; --raised: #2a3138;
+  --red: #ff8b82; --green: #56d364; --blue: #79c0ff; --columns: 80;
+}
+@media (prefers-color-scheme: light) {
+  :root { --back: #ffffff; --plain: #24292f; --bright: #000000; --raised: #e4e8ec; }
+  :root { --red: #a40e26; --green: #116329; --blue: #0550ae; }
+}
+html, body { margin: 0; height: 100%; background: var(--back); color: var(--plain); font: 14px sans-serif; }
+body { display: flex; flex-direction: column; }
+main { flex: 1 1 auto; min-height: 12em; }
+main, #keys { overflow: auto; }
 #terminal { position: relative; width: max-content; margin: 0 auto; padding: 4px; }
-#screen { margin: 0; font: 16px/1.25 monospace; width: max-content; cursor: text; }
+#screen { margin: 0; font: 8px/1.25 monospace; cursor: text; touch-action: manipulation; }
 #screen div { height: 1.25em; white-space: pre; }
-#screen .red { color: #ff7b72; } #screen .green { color: #56d364; }
-#screen .blue { color: #79c0ff; }
-#screen .bold { font-weight: bold; color: #ffffff; }
+#screen .red { color: var(--red); } #screen .green { color: var(--green); } #screen .blue { color: var(--blue); }
+#screen .bold { font-weight: bold; color: var(--bright); }
 #screen .underlined { text-decoration: underline; text-underline-offset: 0.15em; }
-#screen .cursor { background: #d8dee4; color: #101418; }
+#screen .cursor, #screen .selected { background: var(--plain); color: var(--back); }
 #typed { position: absolute; bottom: 0; width: 1px; height: 1px; padding: 0; border: 0; opacity: 0; resize: none; }
-#state { min-height: 1.3em; margin: 0; padding: 2px 8px; font: 14px sans-serif; text-align: center; }
+#state { min-height: 1.3em; margin: 0; padding: 2px 8px; text-align: center; }
 #said { position: absolute; width: 1px; height: 1px; overflow: hidden; clip-path: inset(50%); }
-#keys { display: flex; flex-wrap: wrap; gap: 4px; justify-content: center; padding: 4px; }
-#keys button { min-width: 3.2em; padding: 4px 6px; font: 13px sans-serif; }
-.lost #screen { opacity: 0.45; }
-.bell #screen { outline: 3px solid #f0c000; }
-@media (forced-colors: active) { #screen .cursor { outline: 2px solid; } }
+#keys { display: flex; flex-wrap: wrap; gap: 4px; justify-content: center; padding: 4px; max-height: 33%; }
+button, input, select { min-width: 3.2em; padding: 4px 6px; background: var(--raised); color: var(--bright); }
+button, input, select { border: 1px solid var(--plain); border-radius: 3px; font: 13px sans-serif; }
+input { width: 6em; margin-right: 4px; }
+dialog { width: 60em; max-width: 90vw; background: var(--back); color: var(--plain); }
+dialog dl { columns: 17em; margin: 0 0 8px; }
+dialog dl div { display: flex; justify-content: space-between; break-inside: avoid; }
+.lost #screen { outline: 2px dashed var(--red); }
+.bell #screen { outline: 3px solid var(--bright); }
+@media (forced-colors: active) {
+  #screen .cursor, #screen .selected { forced-color-adjust: none; background: Highlight; color: HighlightText; }
+}
+@media print {
+  html, body, main { display: block; height: auto; overflow: visible; }
+  #keys, #state, dialog { display: none; }
+  #screen { font-size: calc(95vw / (var(--columns) * 0.62)) !important; }
+  #screen span { background: none !important; color: #000000 !important; }
+}
 </style>
-<main id=terminal>
-<pre id=screen aria-label=screen></pre>
+<main>
+<div id=terminal role=application aria-label='3270 screen' aria-describedby=hint>
+<pre id=screen></pre>
 <textarea id=typed aria-label=keyboard autocomplete=off autocapitalize=off spellcheck=false></textarea>
+</div>
 </main>
-<p id=state role=status></p>
-<div id=said aria-live=polite></div>
+<p id=hint hidden>Ctrl-Alt-K shows the keys. Ctrl-Alt-B leads to the buttons, and Escape back to the screen.</p>
+<p id=state></p>
+<div id=said role=status></div>
 <nav id=keys aria-label=keys></nav>
+<dialog id=help aria-label='the keys'></dialog>
 <noscript>The terminal needs JavaScript.</noscript>
 <script>
 'use strict';
 const code = String.fromCharCode, ESC = code(27), CSI = ESC + '[';
-const [screen, typed, state, said, keys] =
-  ['screen', 'typed', 'state', 'said', 'keys'].map(name => document.getElementById(name));
+const [terminal, screen, typed, state, said, keys, help] =
+  ['terminal', 'screen', 'typed', 'state', 'said', 'keys', 'help'].map(name => document.getElementById(name));
+function make(name, ...content) {
+  const element = document.createElement(name);
+  element.append(...content);
+  return element;
+}
 // ---- A tty: characters, CUP, SGR and ED, as crates/tty/specs/Tty and Reading define them.
-let rows, columns, grid, cursor, look, changed;
+let rows, columns, grid, cursor, look, changed, awaited;
 const plain = () => ({ colour: '', bold: '', underlined: '' });
-
 function resize(newRows, newColumns) {
   [rows, columns, look] = [newRows, newColumns, plain()];
   screen.replaceChildren(...Array.from({ length: rows }, () => document.createElement('div')));
@@ -63,30 +94,23 @@ function erase() {
   grid = Array.from({ length: rows }, () => Array.from({ length: columns }, () => blank));
   changed = new Set(grid.keys());
 }
-
+// U+00AD has no width in some browsers; as a hyphen it has one cell, as every other character.
 function put(number) {
   const { row, column } = cursor;
-  const cell = { glyph: String.fromCodePoint(number), name: Object.values(look).filter(it => it).join(' ') };
+  const glyph = number === 0xAD ? '-' : String.fromCodePoint(number);
+  const cell = { glyph, name: Object.values(look).filter(it => it).join(' ') };
   if (row < rows && column < columns) grid[row][column] = cell;
   changed.add(row);
   cursor = { row, column: column + 1 };
 }
-function select(parameter) {
-  const colours = { 31: 'red', 32: 'green', 34: 'blue' };
-  if (parameter === 0) look = plain();
-  else if (parameter === 1) look.bold = 'bold';
-  else if (parameter === 4) look.underlined = 'underlined';
-  else if (parameter in colours) look.colour = colours[parameter];
-}
+const renditions = { 0: plain(), 1: { bold: 'bold' }, 4: { underlined: 'underlined' },
+  31: { colour: 'red' }, 32: { colour: 'green' }, 34: { colour: 'blue' } };
 function control(final, values) {
-  if (final === 0x48 && values.length === 2) {
-    changed.add(cursor.row);
+  if (final === 0x48 && values.length === 2)
     cursor = { row: Math.max(values[0] - 1, 0), column: Math.max(values[1] - 1, 0) };
-    changed.add(cursor.row);
-  } else if (final === 0x6D) values.forEach(select);
+  else if (final === 0x6D) values.forEach(it => look = { ...look, ...renditions[it] });
   else if (final === 0x4A && values.length === 1 && values[0] === 2) erase();
 }
-
 // What the tty awaits is a function: it takes the next byte, and returns what the tty awaits then.
 const first = byte => {
   if (byte === 0x1B) return escaped;
@@ -102,158 +126,335 @@ const parameter = (before, value) => byte => {
   control(byte, [...before, value]);
   return first;
 };
-let awaited = first;
-
-function draw(bytes) {
-  const before = cursor.row;
-  for (const byte of bytes) awaited = awaited(byte);
-  show();
-  if (cursor.row !== before) said.textContent = screen.children[cursor.row]?.textContent.trim() ?? '';
+const read = bytes => bytes.forEach(byte => awaited = awaited(byte));
+// ---- Fields: what is underlined is input. A field is named by the text to its left.
+const isInput = cell => cell.name.includes('underlined');
+const textOf = line => line.map(it => it.glyph).join('');
+function fieldName(row, column) {
+  const line = grid[row] ?? [];
+  if (!line[column] || !isInput(line[column])) return '';
+  const start = line.findLastIndex((cell, at) => at < column && !isInput(cell)) + 1;
+  if (start === 0 && row > 0 && isInput(grid[row - 1].at(-1))) return fieldName(row - 1, columns - 1);
+  const from = line.findLastIndex((cell, at) => at < start && isInput(cell)) + 1;
+  return textOf(line.slice(from, start)).trim().split(/ {2,}/).at(-1).replace(/[ .:=>_-]+$/, '') || 'field';
 }
-// ---- What is shown: a line for each row, with a span for each run of characters of one look.
+// How much of a pasted text there is a place for: none after the last field of the screen.
+function placeFor(letters) {
+  const cells = grid.slice(0, rows - 1).flat().map(isInput), last = cells.lastIndexOf(true);
+  let at = cursor.row * columns + cursor.column;
+  if (last < 0) return cells.length - at;
+  const fieldFrom = place => cells.findIndex((it, index) => it && index >= place && !cells[index - 1]);
+  for (const [count, letter] of letters.entries()) {
+    if (at < 0 || at > last) return count;
+    if (letter === tab) at = fieldFrom(at + 1);
+    else if (letter === newLine) at = fieldFrom((Math.floor(at / columns) + 1) * columns);
+    else if (cells[at]) at = cells[at + 1] ? at + 1 : fieldFrom(at + 1);
+  }
+  return letters.length;
+}
+// ---- What is shown: a line for each row, with a span for each run of characters of one look, in one for each field.
+let isWaiting = false, isAhead = false, selection = null;
 function show() {
-  for (const row of changed) if (row < rows) showRow(row);
-  changed = new Set([cursor.row]);
+  for (const row of changed.add(cursor.row)) if (row < rows) showRow(row);
+  changed = new Set([cursor.row, rows - 1]);
+}
+// The status row as the page has it: with its own hint, the lock that it set itself, and the sign of type-ahead.
+function statusRow(line) {
+  const glyphs = Array.from(textOf(line).replace('ESC ? shows keys', 'Ctrl-Alt-K: keys'));
+  if (isWaiting) glyphs.splice(16, 16, ...'X SYSTEM'.padEnd(16));
+  if (isAhead && (isLocked() || !isLive)) glyphs[34] = 'T';
+  return line.map((cell, column) => ({ ...cell, glyph: glyphs[column] }));
+}
+const reason = () => textOf(grid[rows - 1]).slice(16, 29).trim();
+const isLocked = () => isWaiting || reason() === 'X SYSTEM';
+function classOf(cell, row, column) {
+  const { top, bottom, left, right } = selection ?? { top: 0, bottom: -1 };
+  const isSelected = row >= top && row <= bottom && column >= left && column <= right;
+  const isCursor = row === cursor.row && column === cursor.column;
+  return [cell.name, isCursor ? 'cursor' : '', isSelected ? 'selected' : ''].filter(it => it).join(' ');
 }
 function showRow(row) {
-  const spans = [];
-  let last = null;
-  grid[row].forEach(({ glyph, name }, column) => {
-    const named = row === cursor.row && column === cursor.column ? (name + ' cursor').trim() : name;
-    if (named !== last) spans.push(document.createElement('span'));
-    last = named;
-    spans.at(-1).className = named;
-    spans.at(-1).append(glyph);
+  const line = row === rows - 1 ? statusRow(grid[row]) : grid[row], groups = [];
+  line.forEach((cell, column) => {
+    const aria = isInput(cell) ? { role: 'textbox', ariaLabel: fieldName(row, column) } : {};
+    if (column === 0 || isInput(cell) !== isInput(line[column - 1])) groups.push(Object.assign(make('span'), aria));
+    const group = groups.at(-1), className = classOf(cell, row, column);
+    if (group.lastChild?.className !== className) group.append(Object.assign(make('span'), { className }));
+    group.lastChild.append(cell.glyph);
   });
-  spans.forEach(span => span.normalize());
-  screen.children[row].replaceChildren(...spans);
+  screen.children[row].replaceChildren(...groups);
+  screen.children[row].normalize();
 }
-function fit() {
-  const box = screen.getBoundingClientRect();
-  const room = innerHeight - state.offsetHeight - Math.min(keys.offsetHeight, innerHeight / 3) - 12;
-  const scale = Math.min((innerWidth - 12) / box.width, room / box.height);
-  const size = parseFloat(getComputedStyle(screen).fontSize) * scale;
-  screen.style.fontSize = Math.max(6, Math.floor(size * 10) / 10) + 'px';
+function cellAt({ clientX, clientY }) {
+  const { left, top, width, height } = screen.getBoundingClientRect();
+  const within = (share, count) => Math.max(0, Math.min(count - 1, Math.floor(share * count)));
+  return { row: within((clientY - top) / height, rows), column: within((clientX - left) / width, columns) };
 }
 function ring() {
   document.body.classList.add('bell');
   setTimeout(() => document.body.classList.remove('bell'), 300);
 }
-// ---- Keys: the bytes that crates/tty reads. The browser keeps Ctrl-C, by which a selection is copied.
-const numbers = [15, 17, 18, 19, 20, 21, 23, 24], letters = ['P', 'Q', 'R', 'S'];
-const functionKeys = [letters.map(it => ESC + 'O' + it), numbers.map(it => CSI + it + '~'),
-  letters.map(it => CSI + '1;2' + it), numbers.map(it => CSI + it + ';2~')].flat();
-const [enter, newLine, tab, reset, clear, eraseInput, eraseEof] = [13, 10, 9, 18, 3, 21, 5].map(it => code(it));
-const plainKeys = {
-  Enter: enter, Tab: tab, Backspace: code(8), Escape: reset, Pause: clear, End: CSI + 'F', Home: CSI + 'H',
-  Insert: CSI + '2~', Delete: CSI + '3~', PageUp: CSI + '5~', PageDown: CSI + '6~',
-  ArrowUp: CSI + 'A', ArrowDown: CSI + 'B', ArrowRight: CSI + 'C', ArrowLeft: CSI + 'D',
-};
-const shiftKeys = { ...plainKeys, Enter: newLine, Tab: CSI + 'Z' };
-const [pa1, pa2, pa3] = [ESC + '1', ESC + '2', ESC + '3'];
-const altKeys = { Digit1: pa1, Digit2: pa2, Digit3: pa3, Insert: pa1, Home: pa2, End: eraseInput };
-const controlKeys = { r: reset, e: eraseEof, u: eraseInput, l: code(12) };
-functionKeys.forEach((bytes, place) => (place < 12 ? plainKeys : shiftKeys)['F' + (place % 12 + 1)] = bytes);
-
-function bytesOf(event) {
-  if (event.isComposing || event.metaKey || event.getModifierState('AltGraph')) return undefined;
-  if (event.ctrlKey) return event.altKey || event.shiftKey ? undefined : controlKeys[event.key];
-  if (event.altKey) return altKeys[event.code];
-  return (event.shiftKey ? shiftKeys : plainKeys)[event.key];
-}
-
-document.addEventListener('keydown', event => {
-  const bytes = bytesOf(event);
-  if (bytes === undefined) {
-    if (!event.ctrlKey && !event.metaKey) typed.focus();
-    return;
-  }
-  event.preventDefault();
-  typed.focus();
-  send(bytes);
-});
-
-const takeTyped = () => {
-  send(typed.value);
-  typed.value = '';
-};
-typed.addEventListener('input', event => event.isComposing || takeTyped());
-typed.addEventListener('compositionend', takeTyped);
-
-document.addEventListener('paste', event => {
-  event.preventDefault();
-  const text = event.clipboardData.getData('text').replaceAll(enter + newLine, newLine).replaceAll(enter, newLine);
-  const isTyped = it => it === newLine || it === tab || it >= ' ' && (it < code(127) || it > code(159));
-  send(Array.from(text).filter(isTyped).join(''));
-});
-
-screen.addEventListener('click', event => {
-  if (!getSelection().isCollapsed) return;
-  typed.focus();
+// ---- Size: the screen fits the window as it is without zoom. Zoom, and the buttons + and -, enlarge it.
+const chosen = () => Number(localStorage.getItem('size')) || 1;
+function fit() {
+  const ratio = outerWidth / innerWidth, zoom = ratio > 1.05 ? ratio : 1;
+  screen.style.fontSize = '100px';
   const box = screen.getBoundingClientRect();
-  const row = Math.floor((event.clientY - box.top) * rows / box.height);
-  const column = Math.floor((event.clientX - box.left) * columns / box.width);
+  const size = Math.min((innerWidth - 10) * zoom / box.width, innerHeight * zoom * 0.8 / box.height) * 100;
+  screen.style.fontSize = Math.max(4, Math.floor(size * chosen() * 10) / 10) + 'px';
+  document.documentElement.style.setProperty('--columns', columns);
+}
+function enlarge(factor) {
+  localStorage.setItem('size', factor ? Math.min(8, Math.max(0.25, chosen() * factor)) : 1);
+  fit();
+}
+// ---- What is said, to who doesn't see it: news of the screen, why keys are refused, the field, and the state.
+const summary = () => ({
+  lines: grid.slice(0, rows - 1).map(line => textOf(line.map(it => isInput(it) ? { glyph: ' ' } : it)).trim()),
+  field: fieldName(cursor.row, cursor.column), lock: reason(), at: cursor.row,
+});
+function changes(before, after) {
+  const lines = after.lines.filter((line, row) => line && line !== before.lines[row]);
+  const few = lines.length > 3 ? [lines[0], ...after.lines.slice(-2).filter(it => lines.includes(it))] : lines;
+  const isOther = after.field !== before.field || after.at !== before.at;
+  return [...few, after.lock === before.lock ? '' : after.lock, isOther ? after.field : ''].filter(it => it);
+}
+const say = words => words.length > 0 && (said.textContent = words.join('. '));
+// ---- Keys: one table of what keys and buttons do: a name, the bytes that crates/tty reads, and keys.
+// Option makes characters on a Mac, so that Ctrl is there what Alt is elsewhere.
+const alt = /^(Mac|iP)/.test(navigator.platform) ? 'Ctrl-' : 'Alt-';
+const [enter, newLine, tab] = [13, 10, 9].map(it => code(it));
+const numbers = [15, 17, 18, 19, 20, 21, 23, 24], letters = ['P', 'Q', 'R', 'S'];
+const functionBytes = [letters.map(it => ESC + 'O' + it), numbers.map(it => CSI + it + '~'),
+  letters.map(it => CSI + '1;2' + it), numbers.map(it => CSI + it + ';2~')].flat();
+const functionKeys = functionBytes.map((bytes, place) => ['PF' + (place + 1), bytes,
+  (place < 12 ? 'F' : 'Shift-F') + (place % 12 + 1), ...{ 6: ['PageUp'], 7: ['PageDown'] }[place] ?? []]);
+const table = [
+  ['Enter', enter, 'Enter'], ['Clear', code(3), 'Pause', alt + 'C'], ['Reset', code(18), 'Escape', 'Ctrl-R'],
+  ['Erase EOF', code(5), 'End', 'Ctrl-E'], ['Erase Input', code(21), alt + 'End', 'Ctrl-U'],
+  ['New Line', newLine, 'Shift-Enter'], ['Tab', tab, 'Tab'], ['Back Tab', CSI + 'Z', 'Shift-Tab'],
+  ['PA1', ESC + '1', alt + '1', alt + 'Insert'], ['PA2', ESC + '2', alt + '2', alt + 'Home'],
+  ['PA3', ESC + '3', alt + '3'], ...functionKeys, ['Erase', code(127), 'Backspace'],
+  ['Backspace', code(8), 'Shift-Backspace'], ['Delete', CSI + '3~', 'Delete'], ['Insert', CSI + '2~', 'Insert'],
+  ['Home', CSI + 'H', 'Home'], ['Up', CSI + 'A', 'ArrowUp'], ['Down', CSI + 'B', 'ArrowDown'],
+  ['Right', CSI + 'C', 'ArrowRight'], ['Left', CSI + 'D', 'ArrowLeft'], ['Draw again', code(12), 'Ctrl-L'],
+];
+const others = [
+  ['Keys', () => help.showModal(), 'Ctrl-Alt-K'], ['Buttons', () => keys.firstChild.focus(), 'Ctrl-Alt-B'],
+  ['Larger', () => enlarge(1.1)], ['Smaller', () => enlarge(1 / 1.1)], ['Fit', () => enlarge(0)],
+];
+const byKey = new Map([...table, ...others].flatMap(row => row.slice(2).map(key => [key, row])));
+const isAttention = name => /^(Enter|Clear|P[AF][0-9]+)$/.test(name);
+// The name of a key: digits by their place on the keyboard, letters by the layout if it has Latin ones.
+function nameOf({ key, code, ctrlKey, altKey, shiftKey }) {
+  const isPlaced = /^Digit/.test(code) || /^Key/.test(code) && !/^[a-z]$/i.test(key);
+  const name = isPlaced ? code.at(-1) : key.length === 1 ? key.toUpperCase() : key;
+  return (ctrlKey ? 'Ctrl-' : '') + (altKey ? 'Alt-' : '') + (shiftKey ? 'Shift-' : '') + name;
+}
+// After a key that sends, the page locks until a drawing comes, unless keys are refused already.
+function press([name, action]) {
+  if (typeof action === 'function') return action();
+  if (isAttention(name) && isWaiting) return refuse('The host has not answered yet.');
+  const locks = isAttention(name) && !isOver && ['', 'X NO CODE'].includes(reason());
+  send(action);
+  if (locks) [isWaiting, lockedAt] = [true, Date.now()];
+  tell();
+}
+function onKey(event) {
+  const isForBrowser = event.isComposing || event.metaKey || event.getModifierState('AltGraph');
+  const row = isForBrowser ? undefined : byKey.get(nameOf(event));
+  const isOutside = !terminal.contains(event.target) && event.target !== document.body;
+  if (help.open || isOutside && event.key !== 'Escape') return;
+  if (row === undefined) return void (event.ctrlKey || event.metaKey || typed.focus());
+  event.preventDefault();
+  typed.focus();
+  if (!isOutside) press(row);
+}
+const onTyped = () => { send(typed.value); typed.value = ''; };
+function paste(text) {
+  const isTyped = it => it === newLine || it === tab || it >= ' ' && (it < code(127) || it > code(159));
+  const letters = Array.from(text.replaceAll(enter + newLine, newLine).replaceAll(enter, newLine)).filter(isTyped);
+  const rest = letters.splice(placeFor(letters));
+  send(letters.join(''));
+  if (rest.length > 0) note(`The paste ended at the last field: ${rest.length} characters are left out.`);
+}
+function moveTo({ row, column }) {
   const steps = (count, more, less) => (CSI + (count < 0 ? less : more)).repeat(Math.abs(count));
   if (row < rows - 1) send(steps(row - cursor.row, 'B', 'A') + steps(column - cursor.column, 'C', 'D'));
-});
-
-const buttons = [['Enter', enter], ['Clear', clear], ['Reset', reset], ['Erase EOF', eraseEof],
-  ['Erase Input', eraseInput], ['New Line', newLine], ['Keys', ESC + '?'], ['PA1', pa1], ['PA2', pa2], ['PA3', pa3],
-  ...functionKeys.map((it, place) => ['PF' + (place + 1), it])];
-for (const [name, bytes] of buttons) {
-  const button = document.createElement('button');
-  button.append(name);
-  button.addEventListener('pointerdown', event => event.preventDefault());
-  button.addEventListener('click', () => { send(bytes); typed.focus(); });
-  keys.append(button);
 }
-// ---- The session: `open MODEL [LU]` begins one, `resume TOKEN` resumes the one of this tab.
-const wanted = new URLSearchParams(location.hash.slice(1));
-const opening = ['open', wanted.get('model') ?? '2', wanted.get('lu') ?? ''].join(' ').trim();
-let socket, wait = 500, isOver = false, isResuming = false;
-
+function selectTo(from, to) {
+  const [top, bottom] = [from.row, to.row].sort((a, b) => a - b);
+  const [left, right] = [from.column, to.column].sort((a, b) => a - b);
+  selection = top === bottom && left === right ? null : { top, bottom, left, right };
+  changed = new Set(grid.keys());
+  show();
+}
+const selected = () => grid.slice(selection.top, selection.bottom + 1)
+  .map(line => textOf(line.slice(selection.left, selection.right + 1)).trimEnd()).join(newLine);
+// ---- The operator: events of keyboard, mouse and clipboard; the buttons, the menu and the table of keys.
+document.addEventListener('keydown', onKey);
+typed.addEventListener('input', event => event.isComposing || onTyped());
+typed.addEventListener('compositionend', onTyped);
+document.addEventListener('paste', event => {
+  if (event.target.localName === 'input') return;
+  event.preventDefault();
+  paste(event.clipboardData.getData('text'));
+});
+// A browser that has nothing to copy asks first whether there is something.
+for (const kind of ['beforecopy', 'copy']) document.addEventListener(kind, event => {
+  if (!selection) return;
+  event.preventDefault();
+  event.clipboardData?.setData('text/plain', selected());
+});
+screen.addEventListener('mousedown', event => {
+  event.preventDefault();
+  typed.focus();
+  const from = cellAt(event), move = next => selectTo(from, cellAt(next));
+  document.addEventListener('mousemove', move);
+  document.addEventListener('mouseup', last => {
+    document.removeEventListener('mousemove', move);
+    move(last);
+    if (!selection) moveTo(from);
+  }, { once: true });
+});
+const onpointerdown = event => event.preventDefault();
+const button = (name, onclick) => Object.assign(make('button', name), { onclick, onpointerdown });
+const isOnButton = ([, , key]) => !/^(Back|Shift-Back|Arrow|Home|Delete|Ctrl-L|Ctrl-Alt-B)/.test(key);
+const buttonOf = row => button(row[0], () => { typed.focus(); press(row); });
+keys.append(...[...table, ...others].filter(isOnButton).map(buttonOf));
+const model = make('select', ...['2', '3', '4', '5'].map(it => make('option', it))), lu = make('input');
+const menu = make('form', make('label', 'Model ', model), make('label', ' LU ', lu), make('button', 'New session'));
+menu.addEventListener('submit', event => {
+  event.preventDefault();
+  const wanted = '#model=' + model.value + (lu.value ? '&lu=' + encodeURIComponent(lu.value) : '');
+  if (location.hash === wanted) restart();
+  else location.hash = wanted;
+  typed.focus();
+});
+keys.append(menu);
+const entries = [...table, ...others].filter(row => row.length > 2).map(([name, , ...keys]) =>
+  make('div', make('dt', name), make('dd', ...keys.flatMap(key => [make('kbd', key), ' ']))));
+help.append(make('dl', ...entries), button('Close', () => help.close()));
+help.addEventListener('close', () => typed.focus());
+// ---- The session: `open MODEL [LU]` begins one, `resume TOKEN` resumes the one of this tab. With `heard COUNT` the
+// server says, each 5 seconds, how many bytes of keys it has; those that it hasn't got are kept, and sent again.
+const mostKept = 1000, silence = 6000, patience = 15000;
+let socket, timer, wait = 500, isOver = false, isResuming = false, isLive = false, size = null;
+let heard = null, unheard = [], heardAt = 0, lockedAt = 0, problem = '', remark = '';
+function opening() {
+  const asked = new URLSearchParams(location.hash.slice(1));
+  [model.value, lu.value] = [asked.get('model') || '2', asked.get('lu') ?? ''];
+  return ['open', asked.get('model') || '2', lu.value].join(' ').trim();
+}
 function send(text) {
-  const letters = Array.from(text);
   if (isOver) return void (text === enter && begin());
-  for (let place = 0; place < letters.length && socket.readyState === WebSocket.OPEN; place += 1000)
-    socket.send(new TextEncoder().encode(letters.slice(place, place + 1000).join('')));
+  if (unheard.length >= mostKept) return refuse('No more keys are kept until the server answers.');
+  if (isLocked() || !isLive) isAhead = true;
+  note('');
+  const letters = Array.from(text);
+  for (let place = 0; place < letters.length; place += 1000) {
+    unheard.push(new TextEncoder().encode(letters.slice(place, place + 1000).join('')));
+    if (isLive) socket.send(unheard.at(-1));
+  }
+}
+const note = words => { remark = words; tell(); };
+const refuse = why => { ring(); note(why); };
+// What there is to say of the connection, or was noted last.
+function news() {
+  const seconds = since => Math.floor((Date.now() - since) / 1000);
+  const kept = unheard.length > 0 ? ` ${unheard.length} keys are kept.` : '';
+  if (isOver) return problem;
+  if (!isLive) return (problem || 'Not connected: trying again.') + kept;
+  if (Date.now() - heardAt > silence) return `No answer for ${seconds(heardAt)} s.` + kept;
+  if (isWaiting && !remark && seconds(lockedAt) > 2) return `The host has not answered for ${seconds(lockedAt)} s.`;
+  return remark;
+}
+function tell() {
+  const [before, words] = [state.textContent, news()], uncounted = it => it.replace(/[0-9]+/g, '');
+  state.textContent = words;
+  if (uncounted(words) !== uncounted(before)) say([words]);
+  document.body.classList.toggle('lost', isOver || !isLive);
+  show();
 }
 function begin() {
   const address = new URL('terminal', location.href.split('#')[0]);
   address.protocol = address.protocol === 'https:' ? 'wss:' : 'ws:';
-  [isOver, awaited, socket] = [false, first, new WebSocket(address)];
+  clearTimeout(timer);
+  [isOver, isLive, awaited, socket] = [false, false, first, new WebSocket(address)];
   socket.binaryType = 'arraybuffer';
   socket.onopen = () => {
     const token = sessionStorage.getItem('token');
     isResuming = token !== null;
-    socket.send(isResuming ? 'resume ' + token : opening);
+    socket.send(isResuming ? 'resume ' + token : opening());
   };
-  socket.onmessage = ({ data }) => typeof data === 'string' ? notice(data) : draw(new Uint8Array(data));
-  socket.onclose = () => {
-    document.body.classList.add('lost');
+  socket.onmessage = ({ data }) => {
+    heardAt = Date.now();
+    return typeof data === 'string' ? notice(data) : draw(new Uint8Array(data));
+  };
+  socket.onclose = ({ code }) => {
+    isLive = false;
+    if (code === 1008) end('there is no such model or LU: ' + opening().slice(5));
+    tell();
     if (isOver) return;
-    state.textContent = 'Not connected: the page tries again.';
-    setTimeout(begin, wait);
+    timer = setTimeout(begin, problem ? 5000 : wait);
     wait = Math.min(wait * 2, 15000);
   };
 }
-
+// Takes no notice of the socket any more. It isn't closed: to the server that would be the end of the page.
+const abandon = () => [socket.onopen, socket.onmessage, socket.onclose, isLive] = [null, null, null, false];
+function restart() {
+  abandon();
+  socket.close();
+  forget();
+  begin();
+}
+function forget() {
+  sessionStorage.removeItem('token');
+  if (unheard.length > 0) remark = `${unheard.length} keys of the session that ended are dropped.`;
+  [heard, unheard, isWaiting, isAhead] = [null, [], false, false];
+}
+function end(why) {
+  forget();
+  [isOver, problem] = [true, `The session has ended: ${why}. Enter begins a new one.`];
+}
+// The screen stays as it is until the first drawing of a session comes.
+function draw(bytes) {
+  if (size) resize(...size);
+  const before = summary();
+  [size, isWaiting] = [null, false];
+  read(bytes);
+  isAhead = isAhead && isLocked();
+  tell();
+  screen.querySelector('.cursor')?.scrollIntoView({ block: 'nearest', inline: 'nearest' });
+  typed.ariaLabel = summary().field || 'keyboard';
+  say(changes(before, summary()));
+}
 function notice(text) {
   const [word, ...rest] = text.split(' ');
-  if (word === 'size') {
-    document.body.classList.remove('lost');
-    [state.textContent, wait, isResuming] = ['', 500, false];
-    resize(Number(rest[0]), Number(rest[1]));
-  } else if (word === 'token') sessionStorage.setItem('token', rest[0]);
-  else if (word === 'ended') {
-    sessionStorage.removeItem('token');
-    if (isResuming) return;
-    isOver = true;
-    state.textContent = 'The session has ended: ' + rest.join(' ') + '. Enter begins a new one.';
-  }
+  if (word === 'size') [size, wait, isResuming, problem] = [rest.map(Number), 500, false, ''];
+  else if (word === 'token') sessionStorage.setItem('token', rest[0]);
+  else if (word === 'heard') take(Number(rest[0]));
+  else if (word === 'busy') problem = 'All terminals are in use: trying again.';
+  else if (word === 'ended' && isResuming) forget();
+  else if (word === 'ended') end(rest.join(' '));
+  tell();
 }
-
+function take(count) {
+  heard = heard ?? count;
+  while (unheard.length > 0 && heard + unheard[0].length <= count) heard += unheard.shift().length;
+  if (!isLive) unheard.forEach(bytes => socket.send(bytes));
+  isLive = true;
+}
+setInterval(() => {
+  if (!isOver && isLive && Date.now() - heardAt > patience) {
+    abandon();
+    begin();
+  }
+  tell();
+}, 1000);
 addEventListener('resize', fit);
+addEventListener('hashchange', restart);
+addEventListener('pagehide', () => socket.close());
 resize(25, 80);
 begin();
 typed.focus();
