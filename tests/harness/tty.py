@@ -65,6 +65,8 @@ class Screen:
         self.alternate, self.bells, self.written, self.reports = False, 0, 0, b""
         # The tty has another size, and may still be sent what was drawn for the old one.
         self.is_resized = False
+        # It is resized again before all is drawn for the last size.
+        self.is_dragged = False
         self.erase()
 
     def erase(self):
@@ -130,7 +132,7 @@ class Screen:
             row, column = self.row, self.column
             self.erase()
             self.row, self.column = row, column
-            self.is_resized = False
+            self.is_resized &= self.is_dragged
         else:
             raise Difference("a control sequence that is known", repr(final))
 

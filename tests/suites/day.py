@@ -162,6 +162,7 @@ class AtTty:
 
     def __init__(self, network):
         self.operator, self.bells = Operator("--colors", "mono", network.port), 0
+        self.operator.screen.is_dragged = True
 
     def __enter__(self):
         return self
