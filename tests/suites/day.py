@@ -371,9 +371,9 @@ class AtPage:
         does()
         hosts.until(f"web logs {words.decode()}", lambda: count() > before)
 
-    # Keys that are under way when the connection fails are lost.
-    events_in_the_wait = [is_resized, is_loaded_again]
-    events = [*events_in_the_wait, is_cut_off]
+    # Keys that are under way when the connection fails, or at a reload, are lost.
+    events_in_the_wait = [is_resized]
+    events = [is_resized, is_loaded_again, is_cut_off]
 
 
 # ---- the host
