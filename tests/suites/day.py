@@ -340,7 +340,9 @@ class AtPage:
         does()
         hosts.until(f"web logs {words.decode()}", lambda: count() > before)
 
-    events = events_in_the_wait = [is_resized, is_loaded_again, is_cut_off]
+    # Keys that `web` hasn't taken are lost at a reload.
+    events_in_the_wait = [is_resized, is_cut_off]
+    events = [is_resized, is_loaded_again, is_cut_off]
 
 
 # ---- the host
