@@ -68,7 +68,7 @@ PAGE_KEYS = {
 SENDS = [*["enter"] * 6, *["pf3"] * 3, "clear", "pa1", "pa2", "pa3", "pf1", "pf12", "pf13", "pf24"]
 EDITS = [
     "tab", "tab", "backtab", "newline", "home", "up", "down", "left", "left", "right", "backspace",
-    "insert", "delete", "eraseeof", "eraseinput",
+    "erase", "erase", "insert", "delete", "eraseeof", "eraseinput",
 ]
 LETTERS = "0123456789.-ABCxyz [é¦Ā"
 # What leads from panel to panel.
@@ -83,21 +83,15 @@ PASTES = [
 PASTED = {"\t": "tab", "\n": "newline"}
 
 
-@functools.cache
-def erases():
-    """Whether Backspace erases: so it does in programs that take keymaps."""
-    return "--keymap" in hosts.run(["help", "operate"], b"")[1]
-
-
 class Typist:
     """Random keys and texts."""
 
-    def __init__(self, chance, most_sent, edits):
+    def __init__(self, chance, most_sent):
         # How many keys that send may be typed before the host has answered the first.
-        self.chance, self.most_sent, self.edits = chance, most_sent, edits
+        self.chance, self.most_sent = chance, most_sent
 
     def key(self):
-        kinds = self.chance.choices((LETTERS, self.edits, SENDS, ["reset"]), (10, 8, 2, 2))
+        kinds = self.chance.choices((LETTERS, EDITS, SENDS, ["reset"]), (10, 8, 2, 2))
         return self.chance.choice(kinds[0])
 
     def keys(self, count):
@@ -170,15 +164,6 @@ class AtTty:
     def __exit__(self, *_):
         self.operator.__exit__()
 
-    def keeps_keys(self):
-        return False
-
-    def erases(self):
-        return erases()
-
-    def marks_pastes(self):
-        return b"\x1b[?2004h" in self.operator.written
-
     def typed(self, typed):
         """Types bytes, and has the status row shown if the window has no row for it."""
         self.operator.types(typed + SHOW_STATUS * (self.operator.screen.rows == ROWS))
@@ -188,10 +173,6 @@ class AtTty:
 
     def pastes(self, text, keys, model):
         """A tty marks a pasted text."""
-        if not self.marks_pastes():
-            self.typed(text.encode())
-            model.type(keys)
-            return
         self.typed(ESC + b"[200~" + text.encode() + ESC + b"[201~")
         if not model.paste(keys):
             model.keyboard.has_rung = True
@@ -212,7 +193,7 @@ class AtTty:
     def rings(self, has_rung):
         """The bell has rung since the last rest, or hasn't."""
         screen = self.operator.screen
-        if self.marks_pastes() and has_rung is not None:
+        if has_rung is not None:
             if has_rung:
                 self.operator.until("the bell rings", lambda it: it.bells > self.bells)
             expect("the bell rang", screen.bells > self.bells, has_rung)
@@ -275,13 +256,6 @@ class AtPage:
         self.page = Chromium(self.address)
         return self
 
-    def keeps_keys(self):
-        """Whether keys that it couldn't send, or that nobody heard, are sent again."""
-        return self.page.value("typeof unheard") == "object"
-
-    def erases(self):
-        return erases() and self.keeps_keys()
-
     def rings(self, _):
         """A page shows the bell for a moment only."""
 
@@ -307,10 +281,7 @@ class AtPage:
 
     def pastes(self, text, keys, model):
         self.page.pastes(text)
-        if self.page.value("typeof placeFor") == "function":
-            model.paste(keys)
-        else:
-            model.type(keys)
+        model.paste(keys)
 
     def sees(self):
         with contextlib.suppress(Difference):
@@ -326,9 +297,7 @@ class AtPage:
         return self.page.value(f"state.textContent.includes('has ended') && {is_closed}")
 
     def connects_in_vain(self):
-        # Else a connection that fails has it show a blank screen.
-        if self.keeps_keys():
-            self.waits_for(b"reason=cannot-connect", lambda: self.types(["enter"]))
+        self.waits_for(b"reason=cannot-connect", lambda: self.types(["enter"]))
 
     # ---- what happens to a page
 
@@ -371,9 +340,9 @@ class AtPage:
         does()
         hosts.until(f"web logs {words.decode()}", lambda: count() > before)
 
-    # Keys that are under way when the connection fails are lost.
-    events_in_the_wait = [is_resized, is_loaded_again]
-    events = [*events_in_the_wait, is_cut_off]
+    # Keys that `web` hasn't taken are lost at a reload.
+    events_in_the_wait = [is_resized, is_cut_off]
+    events = [is_resized, is_loaded_again, is_cut_off]
 
 
 # ---- the host
@@ -415,7 +384,7 @@ class Day:
 
     def __init__(self, chance, host, network, terminal):
         self.chance, self.host, self.network, self.terminal = chance, host, network, terminal
-        self.model, self.typist = Terminal(), None
+        self.model, self.typist = Terminal(), Typist(chance, terminal.most_sent)
         self.done, self.last, self.count, self.seen = Counter(), [], 0, 0
 
     # ---- the model follows
@@ -611,14 +580,12 @@ class Day:
             self.network_is_lost: 1,
             self.host_is_restarted: 1,
             **{functools.partial(self.happens, it): 1 for it in self.terminal.events},
-            **({self.types_over_a_cut: 3} if self.terminal.keeps_keys() else {}),
+            **({self.types_over_a_cut: 3} if isinstance(self.terminal, AtPage) else {}),
         }
 
     def goes_on(self, is_over):
         """Each act at least once, in a random order, with keys between; then as it comes."""
         self.is_connected_again()
-        edits = [*EDITS, *["erase"] * 2 * self.terminal.erases()]
-        self.typist = Typist(self.chance, self.terminal.most_sent, edits)
         acts = self.acts()
         for act in self.chance.sample([*acts], len(acts)):
             self.types()
