@@ -23,9 +23,8 @@ SUITES = TOP / "tests/suites"
 RUN = TOP / "tests/run"
 # No part of a suite takes longer, unless the suite says so by `SECONDS`.
 MOST_SECONDS = 900
-# The suite that runs only if it is named, for as long as asked.
+# The suites that run only if they are named, for as long as asked.
 SOAK = "soak"
-# The suite that runs longer if asked.
 DAY = "day"
 # The processes of the parts that run now.
 RUNNING: set[subprocess.Popen[str]] = set()
@@ -417,7 +416,7 @@ def main() -> int:
     for name, value in (("TESTS_MINUTES", given.minutes), ("TESTS_SEED", given.seed)):
         if value is not None:
             os.environ[name] = str(value)
-    suites = given.suites or [it for it in suite_names() if it != SOAK]
+    suites = given.suites or [it for it in suite_names() if it not in (SOAK, DAY)]
     if given.list:
         for suite in suites:
             list_part(Part(suite), words)
