@@ -5,8 +5,8 @@ At each rest the terminal shows, cell by cell, what the model of harness/termina
 same keys and the same bytes of the host, with the cursor and the lock; and the host was sent the
 bytes that the model sends: so no key is lost, and none is done twice. The panels are the bank's.
 
-`tests/run day` types KEYS keys of a fixed seed at each terminal, `tests/run day --minutes N --seed S`
-runs for N minutes, from seed S on. The gate leaves it out."""
+`tests/run day` types KEYS keys of a fixed seed at each terminal, with `--minutes N --seed S` it
+types for N minutes, from seed S on. The gate leaves it out."""
 import contextlib
 import functools
 import os
