@@ -370,6 +370,7 @@ def installs(walk, command):
     install, start = (
         re.sub("(^|[ =])(?=/(usr|etc|run)/)", rf"\1{root}", it) for it in (lines, start)
     )
+    walk.ran("bin/quick --which", patience=COMPILING)
     walk.prints(command, f"set -e\n{install}", [])
     walk.start(command, walk.here(start), HOST, LISTENS)
 
