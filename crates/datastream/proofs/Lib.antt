@@ -25,3 +25,4 @@ pub mod CharacterRuns
 pub mod Keeping
 pub mod Splices
 pub mod Words
+pub mod Replacing

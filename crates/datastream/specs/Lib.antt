@@ -23,5 +23,6 @@ pub mod InboundReturned
 pub mod ByteWords
 pub mod CellBits
 pub mod CellCodes
+pub mod Escapes
 pub mod Wanted
 pub mod Senses

@@ -1,6 +1,7 @@
 //! Laws of commands, inbound data, fields and notes. Each is the contract of a function that does nothing. Proofs of
 //! other crates use them; no program calls them, and the root doesn't export them.
 ghost use Rattle.datastream.specs.InboundFields.{PartsAreFields, SentIsRead};
+ghost use Rattle.datastream.specs.Escapes.{EscapeIsOneCharacter, NoLonger, ReadAsItIs, UnchangedWithout};
 ghost use Rattle.datastream.specs.FieldLaws.{EachCellHasOneField, FieldsAreListed, FieldsAscend, FieldsTakeAll, Unformatted};
 ghost use Rattle.datastream.specs.HeldLaws.{EraseInputHolds, HeldAtFirst, HeldComposes, HeldIsRound};
 ghost use Rattle.datastream.specs.Laws.{OneCommand, OneInbound, OnlyByPlace, TabsByPlace, WrittenIsRead};
@@ -75,4 +76,13 @@ pub fn parts_are_fields()
 /// Law: what a terminal sends in answer to a read is read back as exactly that screen's data.
 pub fn sent_is_read()
     ensures { SentIsRead }
+{}
+
+/// Law: where graphic escapes are replaced, each is one character. Inbound data that can be read, and all data without
+/// escapes, is unchanged, and no data gets longer.
+pub fn escapes_are_replaced()
+    ensures one_character { EscapeIsOneCharacter }
+    ensures as_it_is { ReadAsItIs }
+    ensures unchanged { UnchangedWithout }
+    ensures no_longer { NoLonger }
 {}

@@ -19,21 +19,23 @@
 //! ```
 //!
 //! [`read_inbound`] reads what a terminal sends, in one of three [`Form`]s, and returns it or the first fault in it.
+//! [`WithoutEscapes`] replaces the graphic escapes in it, which are a fault there.
 //!
 //! This crate and those above it store a screen of any size as one [`PackedCell`] per cell, or as [`PackedCells`] with
 //! [`CellBits`] beside them. A [`Ring`] iterates over its cells and wraps round at the end.
 //!
 //! `specs/` has the definitions: `Grammar` says which bytes are commands and which fault others have, `Writing` which
-//! bytes are written, `InboundText` which bytes are inbound data, `Screen`, `Fields` and `Span` what a screen is,
-//! `Meaning` what a command does to it, `Inbound` what a terminal sends of it, `KeptByKeys` which changes operator keys
-//! can make, `Note` which writes replace characters only, and `Laws` and the other files named so how these relate. The
-//! functions in [`laws`] have these laws as their contracts.
+//! bytes are written, `InboundText` which bytes are inbound data, `Escapes` what replaces graphic escapes in them,
+//! `Screen`, `Fields` and `Span` what a screen is, `Meaning` what a command does to it, `Inbound` what a terminal sends
+//! of it, `KeptByKeys` which changes operator keys can make, `Note` which writes replace characters only, and `Laws`
+//! and the other files named so how these relate. The functions in [`laws`] have these laws as their contracts.
 #![tactic(auto)]
 
 mod cell_store;
 mod characters;
 mod command;
 mod command_code;
+mod escapes;
 mod fault;
 mod inbound;
 mod inbound_fields;
@@ -49,6 +51,7 @@ mod writer;
 pub use cell_store::{CellBits, HasCells, PackedCell, PackedCells, Ring};
 pub use command::{Command, read_command};
 pub use command_code::CommandCode;
+pub use escapes::{WithoutEscapes, has_escapes};
 pub use fault::{CommandFault, Sense};
 pub use inbound::{Inbound, read_inbound};
 pub use inbound_fields::{ReturnedField, ReturnedFields};
