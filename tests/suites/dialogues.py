@@ -49,6 +49,10 @@ def happened(event: str) -> str:
         return f"dropped {int(found[1]):02X}"
     if found := re.fullmatch(r'\("RuleBroken", RuleBreak { rule: (\w+), cell: (\d+).* }\)', event):
         return f"broken {found[1]} {found[2]}"
+    if found := re.fullmatch(r'\("ScreenRestored", (\w+)\)', event):
+        return f"restored {found[1]}"
+    if event == '"CharacterReplaced"':
+        return "replaced characters"
     if found := re.fullmatch(r'\("Closed", (\w+)\)', event):
         return f"closed {found[1]}"
     return event.strip('"').lower()
@@ -256,11 +260,13 @@ class Host(Subject):
     lost C [BYTES]        the connection is lost before these were sent
     restart               the host restarts
     event C WHAT          what the host hands out next that happened: rejected [LU] REASON, bound LU,
-                          dropped AID, broken RULE CELL, shown, or closed CAUSE; or none, if there is
-                          no more
+                          dropped AID, broken RULE CELL, replaced characters, restored WHY, shown, or
+                          closed CAUSE; or none, if there is no more
     rejected C WHAT       the same of rejections alone; others are left: [LU] REASON, or none
     dropped C AID         of dropped keys
     broken C WHAT         of the rule that the terminal broke, and the cell
+    replaced C WHAT       that `characters` were replaced in data, or none
+    restored C WHY        of data that can't be believed: Unreadable, NoKey or Contradicts; or none
     phase C PHASE         free, talking, bound LU, or closed CAUSE
     model C M             the client's model, 2 to 5, or none before it asked for its type
     turn C WHOSE          host or terminal
@@ -381,6 +387,12 @@ class Host(Subject):
 
     def do_dropped(self, words: str) -> None:
         self.expect_event(words, "dropped ")
+
+    def do_replaced(self, words: str) -> None:
+        self.expect_event(words, "replaced ")
+
+    def do_restored(self, words: str) -> None:
+        self.expect_event(words, "restored ")
 
     def do_broken(self, words: str) -> None:
         self.expect_event(words, "broken ")

@@ -1,6 +1,7 @@
 -- A byte and bytes, as the code takes them.
 use Rattle.std.proofs.Common.{◌≡◌, ◌≢◌, ℕ, ◌+◌, ◌-◌, ◌<◌, ◌≤◌, List, [], ◌∷◌, ◌++◌, length, map, take, drop, get_or, sym, ◌∙◌, ap, subst, arith, refl, Option, None, Some, Vec}
 use Rattle.std.specs.Prelude.{◌↔◌, IfNone, IfSome}
+use Rattle.std.specs.List.{AllByRecursion}
 use Rattle.std.specs.declared.alloc.Global.{Global}
 use Rattle.std.proofs.Math.Seq.{take-add}
 use Rattle.std.proofs.lemmas.List.{length-drop, take_all, take_more}
@@ -9,7 +10,7 @@ use Rattle.lu_pool.specs.Pool.{Holds}
 use Rattle.lu_pool.specs.declared.entry.Entry.{Entry}
 use Rattle.telnet_wire.proofs.Running.{goes_wrong, delivers_none, delivers_item, none_completed, still_running}
 use Rattle.telnet_wire.specs.DecoderValue.{DecoderValue, Takes, TakesAll, Refuses, step_of}
-use Rattle.telnet_wire.specs.Items.{WireItem, sent_bytes}
+use Rattle.telnet_wire.specs.Items.{IsWithin, WireItem, sent_bytes}
 use Rattle.telnet_wire.specs.declared.wire.Step.TheVariants.{More}
 use Rattle.telnet_wire.specs.declared.wire.WireFault.{WireFault}
 use Rattle.tn3270e_msg.specs.Header.{record_limit}
@@ -60,6 +61,12 @@ pub byte_breaks : (number : ℕ) (pool left : List Entry) (held after : DecoderV
 byte_breaks number pool left held after conn out reports byte fault running refused back =
     TakesByte.breaks held.rest conn fault refl (goes_wrong record_limit held byte fault running refused)
     (ap (λ (p : List Entry). connection_and_pool_of p after conn (Some Wire) out reports) back)
+
+-- a record is within its limit
+pub item_within : (held after : DecoderValue) (byte : ℕ) (item : WireItem) → IsRunning held → Takes held byte after → after.ready ≡ Some item → IsWithin record_limit item
+item_within held after byte item running takes ready =
+    let delivered = delivers_item record_limit held after byte item running takes ready in
+    (subst (AllByRecursion (IsWithin record_limit)) (sym delivered.said) delivered.reads.records).0
 
 pub byte_goes_on : (number : ℕ) (pool : List Entry) (held after : DecoderValue) (conn : Session) (out : Vec ℕ Global) (reports : Reports) (byte : ℕ)
     → IsRunning held → Takes held byte after → More ≡ step_of after.ready

@@ -1,5 +1,5 @@
 -- A number that is settled stays so, and keeps its LU until it ends.
-use Rattle.std.proofs.Common.{◌≡◌, ◌∙◌, ◌&&◌, ℕ, zero, suc, Bool, true, false, List, [], ◌∷◌, Option, Some, None, Result, Ok, Err, drop, map, refl, sym, ap, subst, set, get_or, if◌then◌else◌}
+use Rattle.std.proofs.Common.{◌≡◌, ◌∙◌, ◌&&◌, not, ltb, ℕ, zero, suc, Bool, true, false, List, [], ◌∷◌, Option, Some, None, Result, Ok, Err, drop, map, refl, sym, ap, subst, set, get_or, if◌then◌else◌}
 use Rattle.std.specs.Prelude.{slice_get}
 use Rattle.std.specs.Str.{bytes_eq}
 use Rattle.std.proofs.lemmas.List.{get_or-set_other}
@@ -44,7 +44,7 @@ use Rattle.host_core.specs.declared.question.Ticket.{Ticket}
 use Rattle.host_core.specs.declared.serving.Served.{Served}
 use Rattle.host_core.specs.Bytes.{ConnectionAndPool, TakesByte, TakesBytes, goes_on, completes, breaks, service_after}
 use Rattle.host_core.specs.Feeds.{connection_and_pool_at}
-use Rattle.host_core.specs.Items.{TakesItem, TakesRecord, TakesRecordIf, TakesData, Talks, no_header, dropped, data_is, answered as response_is, hears as data_hears, is_second_key, no_data}
+use Rattle.host_core.specs.Items.{is_other_key, is_replacing, plain_data, with_replaced, TakesAnyData, TakesItem, TakesRecord, TakesRecordIf, TakesData, Talks, no_header, dropped, data_is, answered as response_is, hears as data_hears, is_second_key, no_data}
 use Rattle.host_core.specs.Messages.{Verdict}
 use Rattle.host_core.specs.OneNumber.{KeepsLu, ChangesOne}
 use Rattle.host_core.specs.Rejections.{lu_asked}
@@ -52,7 +52,9 @@ use Rattle.host_core.specs.declared.unheard.Unheard.TheVariants as unheards
 use Rattle.host_core.specs.Session.{Session, Pending, is_agreed}
 use Rattle.host_core.specs.Sound.{OthersHold}
 use Rattle.host_core.specs.State.{Service, Connection, Host, connection_at, session_at, state_at, unused, with_connection, with_reports}
-use Rattle.host_core.specs.Takes.{Answers, HostStep, answered, believed, buffer_came, buffer_heard, clear_came, closed_by, data_came, dropping, freed_if, hears, if_answers, is_read_believed, is_unread, key_came, key_data_came, may_be_read, may_have_changed, once_read, only_read, out_of_turn, paint_answered, paint_verdict_came, quiet, read_verdict_came, response_came, rule_broken_by, second_key, second_key_data, talked, talked_on, unheard_next, unless_broken, verdict_came, write_refused, refused}
+use Rattle.host_core.specs.Takes.{Answers, HostStep, answered, believed, breaking, buffer_came, buffer_heard, clear_came, closed_by, data_came, dropping, freed_if, hears, if_answers, is_read_believed, is_unread, key_came, key_data_came, may_be_read, may_have_changed, most_restored, once_read, only_read, other_key_came, other_key_in, out_of_turn, paint_answered, paint_verdict_came, painted_over, quiet, read_verdict_came, response_came, restoring, rule_broken_by, second_key, second_key_data, sends_wrong, talked, talked_on, unbelieved, unheard_next, unless_broken, verdict_came, write_refused, refused}
+use Rattle.host_core.specs.declared.disbelief.Disbelief.{Disbelief}
+use Rattle.host_core.specs.declared.disbelief.Disbelief.TheVariants.{Contradicts, NoKey, Unreadable}
 use Rattle.host_core.specs.declared.turn.Turn.{Turn}
 use Rattle.host_core.specs.declared.turn.Turn.TheVariants as whose
 use Rattle.host_core.specs.declared.turn_reason.TurnReason.{TurnReason}
@@ -89,13 +91,45 @@ talk_kept rest to old new same = record {
 abbrev TalkStays : Session → HostStep → Type 0
 TalkStays conn step = step.conn.talk ≡ conn.talk
 
+painted_stays : (turn : Turn) (pending : Pending) (conn : Session) → (painted_over turn pending conn).talk ≡ conn.talk
+painted_stays turn (Pending.Writing number command) conn = refl
+painted_stays turn (Pending.Reading number) conn = refl
+painted_stays whose.Terminal Pending.Nothing conn = refl
+painted_stays whose.Terminal (Pending.Noting number command) conn = refl
+painted_stays whose.Host Pending.Nothing conn = refl
+painted_stays whose.Host (Pending.Noting number command) conn = refl
+
+unbelieved_stays : (why : Disbelief) (conn : Session) → TalkStays conn (unbelieved why conn)
+unbelieved_stays why conn = by_tests (may_have_changed conn.unheard) conn.verifies (ltb conn.restored most_restored)
+  where
+    by_tests : (changed verifies few : Bool) → TalkStays conn (if not changed then closed_by BadInbound conn else if verifies then breaking sends_wrong conn
+        else if few then restoring why (painted_over conn.turn conn.pending (record conn { restored = suc conn.restored })) else closed_by BadInbound conn)
+    by_tests false verifies few = refl
+    by_tests true true few = refl
+    by_tests true false true = painted_stays conn.turn conn.pending (record conn { restored = suc conn.restored })
+    by_tests true false false = refl
+
+other_key_in_stays : (turn : Turn) (pending : Pending) (conn : Session) → TalkStays conn (other_key_in turn pending conn)
+other_key_in_stays whose.Terminal Pending.Nothing conn = refl
+other_key_in_stays whose.Terminal (Pending.Writing number command) conn = refl
+other_key_in_stays whose.Terminal (Pending.Reading number) conn = refl
+other_key_in_stays whose.Terminal (Pending.Noting number command) conn = refl
+other_key_in_stays whose.Host pending conn = refl
+
+other_key_stays : (conn : Session) → TalkStays conn (other_key_came conn)
+other_key_stays conn = by_test conn.verifies
+  where
+    by_test : (verifies : Bool) → TalkStays conn (if verifies then breaking sends_wrong conn else other_key_in conn.turn conn.pending conn)
+    by_test true = refl
+    by_test false = other_key_in_stays conn.turn conn.pending conn
+
 believed_stays : (why : TurnReason) (pending : Pending) (cursor : Option ℕ) (conn : Session) (shadow : Result Shadow HeardFault)
     → TalkStays conn (believed why pending cursor conn shadow)
 believed_stays why pending cursor conn (Ok shadow) = refl
-believed_stays why pending cursor conn (Err fault) = refl
+believed_stays why pending cursor conn (Err fault) = unbelieved_stays Contradicts conn
 
 key_stays : (parts : InboundParts) (key : Aid) (conn : Session) → TalkStays conn (key_came parts key conn)
-key_stays parts aid.NoAid conn = refl
+key_stays parts aid.NoAid conn = unbelieved_stays NoKey conn
 key_stays parts aid.Enter conn = believed_stays _ conn.pending parts.cursor conn (hears parts conn)
 key_stays parts aid.Clear conn = believed_stays _ conn.pending parts.cursor conn (hears parts conn)
 key_stays parts (aid.Pf key) conn = believed_stays _ conn.pending parts.cursor conn (hears parts conn)
@@ -109,7 +143,7 @@ clear_stays parts conn = by_test (is_unread conn.turn_reason)
     by_test false = refl
 
 second_key_stays : (parts : InboundParts) (key : Aid) (pending : Pending) (conn : Session) → TalkStays conn (second_key parts key pending conn)
-second_key_stays parts aid.NoAid pending conn = refl
+second_key_stays parts aid.NoAid pending conn = unbelieved_stays NoKey conn
 second_key_stays parts aid.Enter pending conn = refl
 second_key_stays parts aid.Clear Pending.Nothing conn = clear_stays parts conn
 second_key_stays parts aid.Clear (Pending.Writing number command) conn = refl
@@ -199,12 +233,20 @@ step_stays conn step which is same = ap (λ (s : HostStep). s.conn.talk) is ∙ 
 takes_data_stays : (conn : Session) (body : List ℕ) (step : HostStep) → TakesData conn body step → TalkStays conn step
 takes_data_stays conn body step (data_hears parts shape size inbound is) = step_stays conn step _ is (data_stays parts conn.turn conn.pending conn)
 takes_data_stays conn body step (is_second_key fault parts unread may shape size inbound is) = step_stays conn step _ is (second_key_stays parts parts.aid conn.pending conn)
-takes_data_stays conn body step (no_data fault unread second is) = step_stays conn step _ is refl
+takes_data_stays conn body step (no_data fault unread second is) = step_stays conn step _ is (unbelieved_stays Unreadable conn)
+
+any_data_stays : (other : Bool) (conn : Session) (body : List ℕ) (step : HostStep) → TakesAnyData other conn body step → TalkStays conn step
+any_data_stays true conn body step is = step_stays conn step _ is (other_key_stays conn)
+any_data_stays false conn body step takes = step_stays conn step _ takes.2 (replacing_stays (is_replacing conn body) (takes_data_stays conn (plain_data conn body) takes.0 takes.1))
+  where
+    replacing_stays : (replaces : Bool) → TalkStays conn takes.0 → TalkStays conn (with_replaced replaces takes.0)
+    replacing_stays true stays = stays
+    replacing_stays false stays = stays
 
 record_stays : (conn : Session) (bytes : List ℕ) (step : HostStep) → TakesRecord conn bytes step → TalkStays conn step
 record_stays conn bytes step (no_header fault has is) = step_stays conn step _ is refl
 record_stays conn bytes step (dropped header body begins other is) = step_stays conn step _ is refl
-record_stays conn bytes step (data_is header body begins kind takes) = takes_data_stays conn body step takes
+record_stays conn bytes step (data_is header body begins kind takes) = any_data_stays (is_other_key conn body) conn body step takes
 record_stays conn bytes step (response_is header body begins kind is) = step_stays conn step _ is (response_stays header.seq _ conn.pending conn)
 
 record_if_stays : (agreed : Bool) (conn : Session) (bytes : List ℕ) (step : HostStep) → TakesRecordIf agreed conn bytes step → TalkStays conn step

@@ -19,7 +19,7 @@ use Rattle.tn3270e_msg.specs.declared.header.DataType.{DataType}
 use Rattle.tn3270e_msg.specs.declared.header.DataType.TheVariants.{Data3270, Response}
 use Rattle.tn3270e_msg.specs.declared.header.Header.{Header}
 use Rattle.host_core.specs.Bytes.{ConnectionAndPool, TakesByte, TakesBytes, stepped}
-use Rattle.host_core.specs.Items.{IsNoSecondKey, IsOther, TakesData, TakesItem, TakesRecord, TakesRecordIf, Talks, may_be_second_key, second_key_size, verdict_of}
+use Rattle.host_core.specs.Items.{is_other_key, is_replacing, plain_data, IsNoSecondKey, IsOther, TakesAnyData, TakesData, TakesItem, TakesRecord, TakesRecordIf, Talks, may_be_second_key, second_key_size, verdict_of, with_replaced}
 use Rattle.host_core.specs.Machine.{OneOutcome, PiecesCompose, PiecesPart}
 use Rattle.host_core.specs.Session.{Session, is_agreed}
 use Rattle.host_core.specs.State.{Service}
@@ -70,6 +70,11 @@ module _ (one_header : OneHeader) (fault_or_header : FaultIsNoHeader) (one_heari
   one_data conn body step other (TakesData.no_data fault1 wrong1 no_key1 e1) (TakesData.no_data fault2 wrong2 no_key2 e2) =
       e1 ∙ sym e2
 
+  one_any_data : (other_key : Bool) (conn : Session) (body : List ℕ) (step other : HostStep) → TakesAnyData other_key conn body step → TakesAnyData other_key conn body other → step ≡ other
+  one_any_data true conn body step other is1 is2 = is1 ∙ sym is2
+  one_any_data false conn body step other takes1 takes2 =
+      takes1.2 ∙ ap (with_replaced (is_replacing conn body)) (one_data conn (plain_data conn body) takes1.0 takes2.0 takes1.1 takes2.1) ∙ sym takes2.2
+
   one_record : (conn : Session) (bytes : List ℕ) (step other : HostStep) → TakesRecord conn bytes step → TakesRecord conn bytes other → step ≡ other
   one_record conn bytes step other (TakesRecord.no_header fault1 has1 e1) (TakesRecord.no_header fault2 has2 e2) =
       e1 ∙ sym e2
@@ -98,7 +103,8 @@ module _ (one_header : OneHeader) (fault_or_header : FaultIsNoHeader) (one_heari
   one_record conn bytes step other (TakesRecord.data_is header1 body1 begins1 kind1 takes1) (TakesRecord.dropped header2 body2 begins2 kind2 e2) =
       absurd (no_other_data header2.kind kind2 (sym (same_kind bytes header1 header2 body1 body2 begins1 begins2) ∙ kind1))
   one_record conn bytes step other (TakesRecord.data_is header1 body1 begins1 kind1 takes1) (TakesRecord.data_is header2 body2 begins2 kind2 takes2) =
-      one_data conn body1 step other takes1 (subst (λ (b : List ℕ). TakesData conn b other) (sym (same_body bytes header1 header2 body1 body2 begins1 begins2)) takes2)
+      one_any_data (is_other_key conn body1) conn body1 step other takes1
+      (subst (λ (b : List ℕ). TakesAnyData (is_other_key conn b) conn b other) (sym (same_body bytes header1 header2 body1 body2 begins1 begins2)) takes2)
   one_record conn bytes step other (TakesRecord.data_is header1 body1 begins1 kind1 takes1) (TakesRecord.answered header2 body2 begins2 kind2 e2) =
       absurd (data_or_response header1.kind kind1 ((same_kind bytes header1 header2 body1 body2 begins1 begins2) ∙ kind2))
   one_record conn bytes step other (TakesRecord.answered header1 body1 begins1 kind1 e1) (TakesRecord.data_is header2 body2 begins2 kind2 takes2) =

@@ -29,17 +29,19 @@ use Rattle.tn3270e_msg.specs.declared.reply.Reason.{Reason}
 use Rattle.tn3270e_msg.specs.declared.reply.Reply.{Reply}
 use Rattle.tn3270e_msg.specs.declared.reply.Reply.TheVariants as reply
 use Rattle.tn3270e_msg.specs.declared.reply.OwnedMessage.TheVariants as sent
-use Rattle.host_core.specs.Items.{TakesItem, TakesRecord, TakesRecordIf, Talks}
+use Rattle.host_core.specs.Items.{TakesItem, TakesRecord, TakesRecordIf, Talks, with_replaced as step_replaced}
 use Rattle.host_core.specs.Representation.{ItemTaken, step_of}
 use Rattle.host_core.specs.declared.after_record.AfterRecord.{AfterRecord}
-use Rattle.host_core.specs.declared.after_record.AfterRecord.TheVariants.{GoesOn, Closes, Drops, Breaks}
+use Rattle.host_core.specs.declared.after_record.AfterRecord.TheVariants.{GoesOn, Closes, Drops, Breaks, Restores}
 use Rattle.host_core.specs.Sound.{HoldsJust, OthersHold}
 use Rattle.host_core.specs.Parts.{TalkTaken}
 use Rattle.host_core.specs.Messages.{ToTerminal}
 use Rattle.host_core.specs.Rejections.{lu_asked, rejection_by}
 use Rattle.host_core.specs.Says.{item_sent}
 use Rattle.host_core.specs.Session.{Session, agreed_lu, is_agreed}
-use Rattle.host_core.specs.Reports.{Reports, newly_bound, reported, with_bound}
+use Rattle.shadow.specs.declared.rule_break.RuleBreak.{RuleBreak}
+use Rattle.host_core.specs.declared.dropped_key.DroppedKey.{DroppedKey}
+use Rattle.host_core.specs.Reports.{Reports, newly_bound, reported, with_bound, with_replaced, with_restored}
 use Rattle.host_core.specs.Takes.{Answers, HostStep, asked, granted_by, quiet, replied, talked, talked_on, with_talk}
 
 -- ---- the table
@@ -407,7 +409,7 @@ pub talk_taken : (number : ℕ) (pool left : List Entry) (before old new : Sessi
 talk_taken number pool left before old new talk item said out closes other same kept mid keeps taken is was now was_is now_is bound =
     subst (λ (from : Session). ItemTaken number pool from item said out closes left new kept keeps) same
     (record {
-      step = record { conn = with_talk before talk; sends = taken.sends; grants = taken.grants; rejects = taken.rejects; drops = None; breaks = None; closes = closes };
+      step = record { conn = with_talk before talk; sends = taken.sends; grants = taken.grants; rejects = taken.rejects; drops = None; breaks = None; replaces = false; restores = None; closes = closes };
       takes = for_talk (answer_to pool) before item _ other (taken.talks before refl);
       conn = is;
       ends = refl;
@@ -430,45 +432,116 @@ of_record pool conn item bytes step is takes = rw is takes
 none_sent : (bytes : List ℕ) → bytes ≡ bytes ++ sent_bytes []
 none_sent bytes = sym (append-nil bytes)
 
+-- that characters were replaced is an event of its own
+apart : (replaces : Bool) (drops : Option DroppedKey) (breaks : Option RuleBreak) (kept : Reports) → reported None drops breaks (with_replaced replaces kept) ≡ with_replaced replaces (reported None drops breaks kept)
+apart true drops breaks kept = refl
+apart false drops breaks kept = refl
+
 -- a record that is taken
-pub record_taken : (number : ℕ) (pool : List Entry) (old new : Session) (item : WireItem) (bytes : List ℕ) (out : Vec ℕ Global) (after : AfterRecord) (closes : Option Cause) (kept keeps : Reports)
-    → item ≡ Record bytes → is_agreed old.talk.state ≡ true → TakesRecord old bytes (step_of new after) → closes ≡ (step_of new after).closes → keeps ≡ reported None (step_of new after).drops (step_of new after).breaks kept
+pub record_taken : (number : ℕ) (pool : List Entry) (old new : Session) (item : WireItem) (bytes : List ℕ) (out : Vec ℕ Global) (after : AfterRecord) (replaces : Bool) (closes : Option Cause) (kept mid keeps : Reports)
+    → item ≡ Record bytes → is_agreed old.talk.state ≡ true → TakesRecord old bytes (step_replaced replaces (step_of new after)) → closes ≡ (step_of new after).closes
+    → mid ≡ with_replaced replaces kept
+    → keeps ≡ with_restored (step_of new after).restores (reported None (step_of new after).drops (step_of new after).breaks mid)
     → ItemTaken number pool old item out out closes pool new kept keeps
-record_taken number pool old new item bytes out GoesOn closes kept keeps is agreed takes ends reports = record {
-  step = step_of new GoesOn;
-  takes = of_record (answer_to pool) old item bytes (step_of new GoesOn) is (if_agreed old.talk.state bytes old (step_of new GoesOn) agreed takes);
+record_taken number pool old new item bytes out GoesOn true closes kept mid keeps is agreed takes ends replaced reports = record {
+  step = step_replaced true (step_of new GoesOn);
+  takes = of_record (answer_to pool) old item bytes (step_replaced true (step_of new GoesOn)) is (if_agreed old.talk.state bytes old (step_replaced true (step_of new GoesOn)) agreed takes);
   conn = refl;
   ends = ends;
   pool_is = refl;
   sent = none_sent out.items;
-  reports = reports ∙ ap (λ lu. with_bound lu (reported None (step_of new GoesOn).drops (step_of new GoesOn).breaks kept)) (sym (not_anew old.talk.state (agreed_lu new.talk.state) agreed));
+  reports = reports ∙ ap (λ (r : Reports). with_restored None (reported None None None r)) replaced ∙ ap (with_restored None) (apart true None None kept)
+      ∙ ap (λ lu. with_bound lu (with_restored None (with_replaced true (reported None None None kept)))) (sym (not_anew old.talk.state (agreed_lu new.talk.state) agreed));
 }
-record_taken number pool old new item bytes out (Closes cause) closes kept keeps is agreed takes ends reports = record {
-  step = step_of new (Closes cause);
-  takes = of_record (answer_to pool) old item bytes (step_of new (Closes cause)) is (if_agreed old.talk.state bytes old (step_of new (Closes cause)) agreed takes);
+record_taken number pool old new item bytes out (Closes cause) true closes kept mid keeps is agreed takes ends replaced reports = record {
+  step = step_replaced true (step_of new (Closes cause));
+  takes = of_record (answer_to pool) old item bytes (step_replaced true (step_of new (Closes cause))) is (if_agreed old.talk.state bytes old (step_replaced true (step_of new (Closes cause))) agreed takes);
   conn = refl;
   ends = ends;
   pool_is = refl;
   sent = none_sent out.items;
-  reports = reports ∙ ap (λ lu. with_bound lu (reported None (step_of new (Closes cause)).drops (step_of new (Closes cause)).breaks kept)) (sym (not_anew old.talk.state (agreed_lu new.talk.state) agreed));
+  reports = reports ∙ ap (λ (r : Reports). with_restored None (reported None None None r)) replaced ∙ ap (with_restored None) (apart true None None kept)
+      ∙ ap (λ lu. with_bound lu (with_restored None (with_replaced true (reported None None None kept)))) (sym (not_anew old.talk.state (agreed_lu new.talk.state) agreed));
 }
-record_taken number pool old new item bytes out (Drops aid) closes kept keeps is agreed takes ends reports = record {
-  step = step_of new (Drops aid);
-  takes = of_record (answer_to pool) old item bytes (step_of new (Drops aid)) is (if_agreed old.talk.state bytes old (step_of new (Drops aid)) agreed takes);
+record_taken number pool old new item bytes out (Drops aid) true closes kept mid keeps is agreed takes ends replaced reports = record {
+  step = step_replaced true (step_of new (Drops aid));
+  takes = of_record (answer_to pool) old item bytes (step_replaced true (step_of new (Drops aid))) is (if_agreed old.talk.state bytes old (step_replaced true (step_of new (Drops aid))) agreed takes);
   conn = refl;
   ends = ends;
   pool_is = refl;
   sent = none_sent out.items;
-  reports = reports ∙ ap (λ lu. with_bound lu (reported None (step_of new (Drops aid)).drops (step_of new (Drops aid)).breaks kept)) (sym (not_anew old.talk.state (agreed_lu new.talk.state) agreed));
+  reports = reports ∙ ap (λ (r : Reports). with_restored None (reported None (Some (record { aid = aid })) None r)) replaced ∙ ap (with_restored None) (apart true (Some (record { aid = aid })) None kept)
+      ∙ ap (λ lu. with_bound lu (with_restored None (with_replaced true (reported None (Some (record { aid = aid })) None kept)))) (sym (not_anew old.talk.state (agreed_lu new.talk.state) agreed));
 }
-record_taken number pool old new item bytes out (Breaks broken) closes kept keeps is agreed takes ends reports = record {
-  step = step_of new (Breaks broken);
-  takes = of_record (answer_to pool) old item bytes (step_of new (Breaks broken)) is (if_agreed old.talk.state bytes old (step_of new (Breaks broken)) agreed takes);
+record_taken number pool old new item bytes out (Breaks broken) true closes kept mid keeps is agreed takes ends replaced reports = record {
+  step = step_replaced true (step_of new (Breaks broken));
+  takes = of_record (answer_to pool) old item bytes (step_replaced true (step_of new (Breaks broken))) is (if_agreed old.talk.state bytes old (step_replaced true (step_of new (Breaks broken))) agreed takes);
   conn = refl;
   ends = ends;
   pool_is = refl;
   sent = none_sent out.items;
-  reports = reports ∙ ap (λ lu. with_bound lu (reported None (step_of new (Breaks broken)).drops (step_of new (Breaks broken)).breaks kept)) (sym (not_anew old.talk.state (agreed_lu new.talk.state) agreed));
+  reports = reports ∙ ap (λ (r : Reports). with_restored None (reported None None (Some broken) r)) replaced ∙ ap (with_restored None) (apart true None (Some broken) kept)
+      ∙ ap (λ lu. with_bound lu (with_restored None (with_replaced true (reported None None (Some broken) kept)))) (sym (not_anew old.talk.state (agreed_lu new.talk.state) agreed));
+}
+record_taken number pool old new item bytes out (Restores why) true closes kept mid keeps is agreed takes ends replaced reports = record {
+  step = step_replaced true (step_of new (Restores why));
+  takes = of_record (answer_to pool) old item bytes (step_replaced true (step_of new (Restores why))) is (if_agreed old.talk.state bytes old (step_replaced true (step_of new (Restores why))) agreed takes);
+  conn = refl;
+  ends = ends;
+  pool_is = refl;
+  sent = none_sent out.items;
+  reports = reports ∙ ap (λ (r : Reports). with_restored (Some why) (reported None None None r)) replaced ∙ ap (with_restored (Some why)) (apart true None None kept)
+      ∙ ap (λ lu. with_bound lu (with_restored (Some why) (with_replaced true (reported None None None kept)))) (sym (not_anew old.talk.state (agreed_lu new.talk.state) agreed));
+}
+record_taken number pool old new item bytes out GoesOn false closes kept mid keeps is agreed takes ends replaced reports = record {
+  step = step_replaced false (step_of new GoesOn);
+  takes = of_record (answer_to pool) old item bytes (step_replaced false (step_of new GoesOn)) is (if_agreed old.talk.state bytes old (step_replaced false (step_of new GoesOn)) agreed takes);
+  conn = refl;
+  ends = ends;
+  pool_is = refl;
+  sent = none_sent out.items;
+  reports = reports ∙ ap (λ (r : Reports). with_restored None (reported None None None r)) replaced ∙ ap (with_restored None) (apart false None None kept)
+      ∙ ap (λ lu. with_bound lu (with_restored None (with_replaced false (reported None None None kept)))) (sym (not_anew old.talk.state (agreed_lu new.talk.state) agreed));
+}
+record_taken number pool old new item bytes out (Closes cause) false closes kept mid keeps is agreed takes ends replaced reports = record {
+  step = step_replaced false (step_of new (Closes cause));
+  takes = of_record (answer_to pool) old item bytes (step_replaced false (step_of new (Closes cause))) is (if_agreed old.talk.state bytes old (step_replaced false (step_of new (Closes cause))) agreed takes);
+  conn = refl;
+  ends = ends;
+  pool_is = refl;
+  sent = none_sent out.items;
+  reports = reports ∙ ap (λ (r : Reports). with_restored None (reported None None None r)) replaced ∙ ap (with_restored None) (apart false None None kept)
+      ∙ ap (λ lu. with_bound lu (with_restored None (with_replaced false (reported None None None kept)))) (sym (not_anew old.talk.state (agreed_lu new.talk.state) agreed));
+}
+record_taken number pool old new item bytes out (Drops aid) false closes kept mid keeps is agreed takes ends replaced reports = record {
+  step = step_replaced false (step_of new (Drops aid));
+  takes = of_record (answer_to pool) old item bytes (step_replaced false (step_of new (Drops aid))) is (if_agreed old.talk.state bytes old (step_replaced false (step_of new (Drops aid))) agreed takes);
+  conn = refl;
+  ends = ends;
+  pool_is = refl;
+  sent = none_sent out.items;
+  reports = reports ∙ ap (λ (r : Reports). with_restored None (reported None (Some (record { aid = aid })) None r)) replaced ∙ ap (with_restored None) (apart false (Some (record { aid = aid })) None kept)
+      ∙ ap (λ lu. with_bound lu (with_restored None (with_replaced false (reported None (Some (record { aid = aid })) None kept)))) (sym (not_anew old.talk.state (agreed_lu new.talk.state) agreed));
+}
+record_taken number pool old new item bytes out (Breaks broken) false closes kept mid keeps is agreed takes ends replaced reports = record {
+  step = step_replaced false (step_of new (Breaks broken));
+  takes = of_record (answer_to pool) old item bytes (step_replaced false (step_of new (Breaks broken))) is (if_agreed old.talk.state bytes old (step_replaced false (step_of new (Breaks broken))) agreed takes);
+  conn = refl;
+  ends = ends;
+  pool_is = refl;
+  sent = none_sent out.items;
+  reports = reports ∙ ap (λ (r : Reports). with_restored None (reported None None (Some broken) r)) replaced ∙ ap (with_restored None) (apart false None (Some broken) kept)
+      ∙ ap (λ lu. with_bound lu (with_restored None (with_replaced false (reported None None (Some broken) kept)))) (sym (not_anew old.talk.state (agreed_lu new.talk.state) agreed));
+}
+record_taken number pool old new item bytes out (Restores why) false closes kept mid keeps is agreed takes ends replaced reports = record {
+  step = step_replaced false (step_of new (Restores why));
+  takes = of_record (answer_to pool) old item bytes (step_replaced false (step_of new (Restores why))) is (if_agreed old.talk.state bytes old (step_replaced false (step_of new (Restores why))) agreed takes);
+  conn = refl;
+  ends = ends;
+  pool_is = refl;
+  sent = none_sent out.items;
+  reports = reports ∙ ap (λ (r : Reports). with_restored (Some why) (reported None None None r)) replaced ∙ ap (with_restored (Some why)) (apart false None None kept)
+      ∙ ap (λ lu. with_bound lu (with_restored (Some why) (with_replaced false (reported None None None kept)))) (sym (not_anew old.talk.state (agreed_lu new.talk.state) agreed));
 }
 
 -- one that is dropped

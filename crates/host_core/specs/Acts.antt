@@ -1,5 +1,5 @@
 -- What a host does in its turn (our profile).
-use Rattle.std.specs.Prelude.{◌==◌, ◌-◌, ◌&&◌, ◌||◌, not, ℕ, Bool, true, false, List, [], ◌∷◌, Option, Some, None, option_and_then, unwrap_or, if◌then◌else◌}
+use Rattle.std.specs.Prelude.{◌==◌, ◌-◌, ◌&&◌, ◌||◌, not, codes, ℕ, Bool, true, false, List, [], ◌∷◌, Option, Some, None, option_and_then, unwrap_or, if◌then◌else◌}
 use Rattle.std.specs.List.{list_any, list_all}
 use Rattle.std.specs.Option.{option_map_or}
 use Rattle.codes3270.specs.declared.attention.Aid.{Aid}
@@ -14,6 +14,7 @@ use Rattle.shadow.specs.Meets.{told}
 use Rattle.shadow.specs.Paint.{paint}
 pub use Rattle.shadow.specs.Settled.{is_settled_fact}
 use Rattle.panels.specs.declared.panel.Field.{Field}
+use Rattle.panels.specs.MessageText.{message_of}
 use Rattle.panels.specs.declared.message.Message.{Message}
 use Rattle.panels.specs.declared.message.Message.TheVariants.{Fresh, Plain, KeyNotActive, Required, Told}
 use Rattle.panels.specs.declared.next.Next.{Next}
@@ -54,9 +55,10 @@ belief_of shadow field = field_at (field.extent.first - 1) shadow
 abbrev pub is_in_doubt : Shadow → Field → Bool
 is_in_doubt shadow field = not (option_map_or (λ belief. is_settled_fact belief.fact) (belief_of shadow field) false)
 
--- the host must read the screen before it answers this key: after PA, if some field of the panel is in doubt, or if
--- the host verifies that the terminal keeps the rules
+-- the host must read the screen before it answers this key: after PA and keys without a meaning, if some field of the
+-- panel is in doubt, or if the host verifies that the terminal keeps the rules
 abbrev pub is_to_be_read : Application → Session → Aid → Bool
+is_to_be_read app conn NoAid = true
 is_to_be_read app conn (Pa key) = true
 is_to_be_read app conn aid = is_verified conn || list_any (is_in_doubt conn.shadow) (app.fields conn.panel)
 
@@ -122,20 +124,30 @@ repeated KeyNotActive = KeyNotActive
 repeated (Required field) = Required field
 repeated (Told text field) = Told text field
 
+-- the message of a panel that is shown again since the data of a key couldn't be believed
+abbrev pub screen_restored : Message
+screen_restored = Told (record { characters = message_of (codes "SCREEN RESTORED") }) None
+
+-- where a key leads from a panel; one without a meaning leads nowhere
+abbrev pub next_after : Application → ℕ → Aid → Next
+next_after app panel NoAid = Again
+next_after app panel aid = app.next panel aid
+
 -- the decision after a key; the flag says whether the screen was read since
 abbrev pub after_key : Application → Session → Aid → Bool → Decision
 after_key app conn Clear buffered = on_empty conn.panel conn.values (app.next conn.panel Clear)
 after_key app conn aid buffered =
     if is_to_be_read app conn aid && not buffered then Decision.Do Act.Read
-    else on_key app conn (learned conn.shadow (app.fields conn.panel) conn.values) aid (app.next conn.panel aid)
+    else on_key app conn (learned conn.shadow (app.fields conn.panel) conn.values) aid (next_after app conn.panel aid)
 
 -- The decision by the reason for the turn. After agreement the first panel is shown, or the application is asked, if
--- the panel asks it at connect. After a refusal the same panel is shown, whole.
+-- the panel asks it at connect. After a refusal, and to restore the screen, the same panel is shown, whole.
 abbrev pub decision_on : Application → Session → TurnReason → Decision
 decision_on app conn turn_reasons.Agreement =
     on_empty app.start conn.values (app.next (first_panel app conn) NoAid)
 decision_on app conn (turn_reasons.Key aid buffered) = after_key app conn aid buffered
 decision_on app conn turn_reasons.Refusal = Decision.Do (Act.Show conn.panel (repeated conn.message) false conn.values)
+decision_on app conn turn_reasons.Restoration = Decision.Do (Act.Show conn.panel screen_restored false conn.values)
 
 -- ---- what is believed when a panel is shown
 

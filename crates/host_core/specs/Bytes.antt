@@ -11,7 +11,7 @@ use Rattle.tn3270e_msg.specs.Header.{record_limit}
 use Rattle.tn3270e_msg.specs.declared.cause.Cause.{Cause}
 use Rattle.tn3270e_msg.specs.declared.cause.Cause.TheVariants.{Wire}
 use Rattle.host_core.specs.Items.{TakesItem}
-use Rattle.host_core.specs.Reports.{newly_bound, reported, with_bound, with_cause}
+use Rattle.host_core.specs.Reports.{newly_bound, reported, with_bound, with_cause, with_replaced, with_restored}
 use Rattle.host_core.specs.Says.{item_sent}
 use Rattle.host_core.specs.Session.{Session, agreed_lu}
 use Rattle.host_core.specs.State.{Service, Connection}
@@ -42,7 +42,8 @@ stepped number rest step old = record {
     out = old.connection.out ++ sent_bytes (map item_sent step.sends);
     reports = with_cause step.closes
         (with_bound (newly_bound (bound_lu old.connection.service) (agreed_lu step.conn.talk.state))
-        (reported step.rejects step.drops step.breaks old.connection.reports));
+        (with_restored step.restores
+        (with_replaced step.replaces (reported step.rejects step.drops step.breaks old.connection.reports))));
   };
 }
 

@@ -1,5 +1,5 @@
 -- Parts of the host's steps as the code takes them (our profile); only private contracts and proofs need it.
-use Rattle.std.specs.Prelude.{◌≡◌, ⊤, ℕ, List, [], ◌++◌, Option, None, map, Vec}
+use Rattle.std.specs.Prelude.{◌≡◌, ⊤, ℕ, false, List, [], ◌++◌, Option, None, map, Vec}
 use Rattle.std.specs.declared.alloc.Global.{Global}
 use Rattle.codes3270.specs.Size.{model_2}
 use Rattle.datastream.specs.Grammar.{CommandParts}
@@ -58,6 +58,8 @@ pub record TalkTaken (number : ℕ) (pool : List Entry) (old : Talk HostState) (
     rejects = rejects;
     drops = None;
     breaks = None;
+    replaces = false;
+    restores = None;
     closes = closes;
   })
   pub pool_is : left ≡ granted_if number grants pool

@@ -36,6 +36,7 @@ abbrev pub key_of : TurnReason → Aid
 key_of turn_reasons.Agreement = NoAid
 key_of (turn_reasons.Key aid buffered) = aid
 key_of turn_reasons.Refusal = NoAid
+key_of turn_reasons.Restoration = NoAid
 
 -- No panel is on the screen when the application decides on this key: with no AID, at connect, none was shown yet, and
 -- Clear has erased it.
@@ -55,6 +56,7 @@ abbrev pub panel_asked : Application → Session → TurnReason → ℕ
 panel_asked app conn turn_reasons.Agreement = first_panel app conn
 panel_asked app conn (turn_reasons.Key aid buffered) = conn.panel
 panel_asked app conn turn_reasons.Refusal = conn.panel
+panel_asked app conn turn_reasons.Restoration = conn.panel
 
 -- the cursor of a question: the terminal's when it last sent data; 0 while no panel is on the screen, since Clear puts
 -- it there (GA23-0059-07 on keyboard operation)

@@ -1,7 +1,8 @@
 -- The events that a connection keeps until they are reported (our profile).
-use Rattle.std.specs.Prelude.{ℕ, Bool, false, not, ◌&&◌, ◌||◌, List, [], ◌∷◌, ◌++◌, map, Option, Some, None, length, ltb, if◌then◌else◌}
+use Rattle.std.specs.Prelude.{ℕ, Bool, true, false, not, ◌&&◌, ◌||◌, List, [], ◌∷◌, ◌++◌, map, Option, Some, None, length, ltb, if◌then◌else◌}
 use Rattle.std.specs.Option.{option_or}
 use Rattle.shadow.specs.declared.rule_break.RuleBreak.{RuleBreak}
+use Rattle.host_core.specs.declared.disbelief.Disbelief.{Disbelief}
 use Rattle.host_core.specs.declared.dropped_key.DroppedKey.{DroppedKey}
 use Rattle.host_core.specs.declared.event.HostEvent.{HostEvent}
 use Rattle.host_core.specs.declared.event.HostEvent.TheVariants as event
@@ -14,6 +15,8 @@ pub record Reports : Type 0 where
   pub bound : Option (List ℕ)
   pub dropped_keys : List DroppedKey
   pub rule_break : Option RuleBreak
+  pub replaced : Bool
+  pub restorations : List Disbelief
   pub asked : Bool
   pub shown : Bool
   pub closed : Option Cause
@@ -26,6 +29,8 @@ none_left waits = record {
   bound = None;
   dropped_keys = [];
   rule_break = None;
+  replaced = false;
+  restorations = [];
   asked = false;
   shown = false;
   closed = None;
@@ -38,7 +43,8 @@ no_reports = none_left false
 
 -- ---- what is kept
 
--- the most rejections, and the most dropped keys, that are kept; a negotiation sends no more rejections
+-- The most rejections, dropped keys and restorations that are kept. A negotiation sends no more rejections, and no more
+-- screens are restored in a row.
 abbrev pub most_reports : ℕ
 most_reports = 8
 
@@ -54,6 +60,15 @@ reported rejection dropped broken reports = record reports {
   dropped_keys = kept_with dropped reports.dropped_keys;
   rule_break = option_or broken reports.rule_break;
 }
+
+-- the events after data was received in which characters were replaced, if they were
+abbrev pub with_replaced : Bool → Reports → Reports
+with_replaced true reports = record reports { replaced = true }
+with_replaced false reports = reports
+
+-- the events after data that can't be believed for this reason, if there was such data
+abbrev pub with_restored : Option Disbelief → Reports → Reports
+with_restored why reports = record reports { restorations = kept_with why reports.restorations }
 
 -- the LU that both ends agreed on, if they hadn't agreed before
 abbrev pub newly_bound : (before after : Option (List ℕ)) → Option (List ℕ)
@@ -95,9 +110,11 @@ events_of reports =
     ++ (event_if event.Bound reports.bound
     ++ (map event.KeyDropped reports.dropped_keys
     ++ (event_if event.RuleBroken reports.rule_break
+    ++ (event_when event.CharacterReplaced reports.replaced
+    ++ (map event.ScreenRestored reports.restorations
     ++ (event_when event.Asked reports.asked
     ++ (event_when event.Shown reports.shown
-    ++ event_if event.Closed reports.closed)))))
+    ++ event_if event.Closed reports.closed)))))))
 
 -- the first of a list: the event that is handed out next
 abbrev pub oldest : {A : Type 0} → List A → Option A

@@ -24,17 +24,17 @@ use Rattle.host_core.specs.Application.{Application}
 use Rattle.host_core.specs.Does.{Grow, ValuesMayWantMemory, is_paint}
 use Rattle.host_core.specs.Bytes.{ConnectionAndPool, service_after}
 use Rattle.host_core.specs.Items.{TakesItem}
-use Rattle.host_core.specs.Reports.{Reports, newly_bound, reported, with_bound, with_cause, with_sent}
+use Rattle.host_core.specs.Reports.{Reports, newly_bound, reported, with_bound, with_cause, with_replaced, with_restored, with_sent}
 use Rattle.host_core.specs.Rooms.{room_for}
 use Rattle.host_core.specs.Says.{item_sent}
 use Rattle.host_core.specs.Session.{Session, Pending, agreed_lu}
-use Rattle.host_core.specs.Takes.{HostStep, breaking, closed_by, dropping, pool_after, quiet}
+use Rattle.host_core.specs.Takes.{HostStep, breaking, closed_by, dropping, pool_after, quiet, restoring}
 use Rattle.host_core.specs.declared.question.Answer.{Answer}
 use Rattle.host_core.specs.declared.acted.Acted.{Acted}
 use Rattle.host_core.specs.declared.acted.Acted.TheVariants.{Sent as IsSent, Nothing, Memory as NoMemory}
 use Rattle.host_core.specs.declared.pending.Pending.{Pending as PendingKind}
 use Rattle.host_core.specs.declared.after_record.AfterRecord.{AfterRecord}
-use Rattle.host_core.specs.declared.after_record.AfterRecord.TheVariants.{GoesOn, Closes, Drops, Breaks}
+use Rattle.host_core.specs.declared.after_record.AfterRecord.TheVariants.{GoesOn, Closes, Drops, Breaks, Restores}
 use Rattle.host_core.specs.declared.pending.Pending.TheVariants as unanswered
 
 -- ---- a connection
@@ -91,8 +91,7 @@ BelievesTheSize size (unanswered.Noting number) sent shadow = IsOfSize (cells_in
 
 -- a step that sends and grants nothing
 abbrev pub silent : Session → Option Cause → HostStep
-silent conn closes =
-    record { conn = conn; sends = []; grants = None; rejects = None; drops = None; breaks = None; closes = closes }
+silent conn closes = record (quiet conn) { closes = closes }
 
 -- the step of a record
 abbrev pub step_of : Session → AfterRecord → HostStep
@@ -100,6 +99,7 @@ step_of conn GoesOn = quiet conn
 step_of conn (Closes cause) = closed_by cause conn
 step_of conn (Drops aid) = dropping aid conn
 step_of conn (Breaks broken) = breaking broken conn
+step_of conn (Restores why) = restoring why conn
 
 -- An item is taken: what the host says is appended to the output. If the connection closes, its LU is still held.
 pub record ItemTaken (number : ℕ) (pool : List Entry) (old : Session) (item : WireItem) (before after : Vec ℕ Global)
@@ -111,7 +111,7 @@ pub record ItemTaken (number : ℕ) (pool : List Entry) (old : Session) (item : 
   pub pool_is : left ≡ pool_after number (record step { closes = None }) pool
   pub sent : after.items ≡ before.items ++ sent_bytes (map item_sent step.sends)
   pub reports : keeps ≡ with_bound (newly_bound (agreed_lu old.talk.state) (agreed_lu step.conn.talk.state))
-      (reported step.rejects step.drops step.breaks kept)
+      (with_restored step.restores (with_replaced step.replaces (reported step.rejects step.drops step.breaks kept)))
 
 -- the LU that is granted to a connection; none once the connection is closed
 abbrev pub claim : Option Cause → Session → Option (List ℕ)

@@ -44,6 +44,7 @@ pub record Session : Type 0 where
   pub cursor : ℕ  -- where the terminal's cursor was when its last data was sent; 0 before
   pub unheard : Unheard  -- what may have happened to the screen since the host heard of it
   pub verifies : Bool  -- the host reads the screen before it answers a key, to see that the terminal keeps the rules
+  pub restored : ℕ  -- how many times in a row, without a key that was believed, the screen was painted over
 
 -- what may happen to the screens of such terminals, unknown to the host
 abbrev pub unheard_of : Terminals → Unheard
@@ -73,6 +74,7 @@ new_conn terminals app = record {
   cursor = 0;
   unheard = unheard_of terminals;
   verifies = are_verified terminals;
+  restored = 0;
 }
 
 -- the terminal's model; model 2 before it has asked for a device type

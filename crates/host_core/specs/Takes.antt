@@ -1,7 +1,7 @@
 -- How a host takes what a terminal sends: the connection after it, what the host sends, the LU that it grants, the
--- request that it rejects, the key that it drops, the rule that it finds broken, and the cause if it closes the
--- connection (RFC 1647, sections 7, 8.1 and 10.4; turns, beliefs and causes are our profile).
-use Rattle.std.specs.Prelude.{◌==◌, ◌&&◌, ◌||◌, not, ℕ, Bool, true, false, List, [], map, Option, Some, None, Result, Ok, Err, unwrap_or, if◌then◌else◌}
+-- request that it rejects, the key that it drops, the rule that it finds broken, the data that it can't believe, and
+-- the cause if it closes the connection (RFC 1647, sections 7, 8.1 and 10.4; turns, beliefs and causes are our profile).
+use Rattle.std.specs.Prelude.{◌==◌, ◌&&◌, ◌||◌, not, ltb, ℕ, suc, Bool, true, false, List, [], map, Option, Some, None, Result, Ok, Err, unwrap_or, if◌then◌else◌}
 use Rattle.codes3270.specs.declared.attention.Aid.{Aid}
 use Rattle.codes3270.specs.declared.attention.Aid.TheVariants.{NoAid, Enter, Clear, Pf, Pa}
 use Rattle.codes3270.specs.Size.{cells_in}
@@ -13,11 +13,13 @@ use Rattle.datastream.specs.declared.inbound_part.Form.TheVariants.{Modified, Al
 use Rattle.lu_pool.specs.Holders.{granted_if, given_back}
 use Rattle.lu_pool.specs.declared.entry.Entry.{Entry}
 use Rattle.shadow.specs.Belief.{Shadow}
+use Rattle.shadow.specs.Doubt.{doubted}
 use Rattle.shadow.specs.Exactness.{is_erase}
 use Rattle.shadow.specs.Heard.{heard}
 use Rattle.shadow.specs.RuleBreaks.{rule_break}
 use Rattle.shadow.specs.Settled.{is_settled}
 use Rattle.shadow.specs.Taken.{taken}
+use Rattle.shadow.specs.declared.rule_break.Rule.TheVariants.{Sends}
 use Rattle.shadow.specs.declared.rule_break.RuleBreak.{RuleBreak}
 use Rattle.shadow.specs.declared.fault.HeardFault.{HeardFault}
 use Rattle.tn3270e_msg.specs.Talk.{Talk, Comes, follow, says, sayings, closing}
@@ -31,6 +33,8 @@ use Rattle.tn3270e_msg.specs.declared.reply.Reply.{Reply}
 use Rattle.tn3270e_msg.specs.declared.reply.Reply.TheVariants as reply
 use Rattle.host_core.specs.Messages.{ToTerminal, ToHost, Verdict}
 use Rattle.host_core.specs.Rejections.{lu_asked, rejection_by}
+use Rattle.host_core.specs.declared.disbelief.Disbelief.{Disbelief}
+use Rattle.host_core.specs.declared.disbelief.Disbelief.TheVariants.{NoKey, Contradicts}
 use Rattle.host_core.specs.declared.dropped_key.DroppedKey.{DroppedKey}
 use Rattle.host_core.specs.declared.rejection.Rejection.{Rejection}
 use Rattle.host_core.specs.declared.turn.Turn.{Turn}
@@ -49,41 +53,39 @@ pub record HostStep : Type 0 where
   pub rejects : Option Rejection
   pub drops : Option DroppedKey
   pub breaks : Option RuleBreak
+  pub replaces : Bool  -- characters that the client's code page lacks were replaced in the data
+  pub restores : Option Disbelief  -- why the data can't be believed, so that the screen will be restored
   pub closes : Option Cause
 
 -- a step that only changes the connection
 abbrev pub quiet : Session → HostStep
-quiet conn =
-    record { conn = conn; sends = []; grants = None; rejects = None; drops = None; breaks = None; closes = None }
-
--- the connection closes for this cause
-abbrev pub closed_by : Cause → Session → HostStep
-closed_by cause conn =
-    record { conn = conn; sends = []; grants = None; rejects = None; drops = None; breaks = None; closes = Some cause }
-
--- the data of this key is dropped
-abbrev pub dropping : Aid → Session → HostStep
-dropping aid conn = record {
-  conn = conn;
-  sends = [];
-  grants = None;
-  rejects = None;
-  drops = Some (record { aid = aid });
-  breaks = None;
-  closes = None;
-}
-
--- the terminal broke this rule, so the connection closes
-abbrev pub breaking : RuleBreak → Session → HostStep
-breaking broken conn = record {
+quiet conn = record {
   conn = conn;
   sends = [];
   grants = None;
   rejects = None;
   drops = None;
-  breaks = Some broken;
-  closes = Some RuleBroken;
+  breaks = None;
+  replaces = false;
+  restores = None;
+  closes = None;
 }
+
+-- the connection closes for this cause
+abbrev pub closed_by : Cause → Session → HostStep
+closed_by cause conn = record (quiet conn) { closes = Some cause }
+
+-- the data of this key is dropped
+abbrev pub dropping : Aid → Session → HostStep
+dropping aid conn = record (quiet conn) { drops = Some (record { aid = aid }) }
+
+-- the terminal broke this rule, so the connection closes
+abbrev pub breaking : RuleBreak → Session → HostStep
+breaking broken conn = record (quiet conn) { breaks = Some broken; closes = Some RuleBroken }
+
+-- the data is dropped, since it can't be believed for this reason
+abbrev pub restoring : Disbelief → Session → HostStep
+restoring why conn = record (quiet conn) { restores = Some why }
 
 -- ---- the talk
 
@@ -92,13 +94,10 @@ with_talk conn talk = record conn { talk = talk }
 
 -- the negotiation's reply to a message that asks for this LU, if it asks for one
 abbrev pub replied : Session → Option (List ℕ) → Option (List ℕ) → Talk HostState × Reply → HostStep
-replied conn lu grants talked = record {
-  conn = with_talk conn talked.0;
+replied conn lu grants talked = record (quiet (with_talk conn talked.0)) {
   sends = map ToTerminal.TalksDown (sayings talked.1);
   grants = grants;
   rejects = rejection_by lu talked.1;
-  drops = None;
-  breaks = None;
   closes = closing talked.1;
 }
 
@@ -139,6 +138,59 @@ form_awaited (Pending.Writing number command) = Modified
 form_awaited (Pending.Noting number command) = Modified
 form_awaited Pending.Nothing = Modified
 
+-- the operator may have done something unheard: the host doesn't rely on the terminal's wait
+abbrev pub may_have_changed : Unheard → Bool
+may_have_changed unheards.Nothing = false
+may_have_changed unheards.Input = true
+may_have_changed unheards.Clear = true
+
+-- the command is refused: nothing is known of the screen any more, and the turn is the host's
+abbrev pub refused : Session → Session
+refused conn =
+    record conn {
+      shadow = Shadow.NothingKnown;
+      turn = whose.Host;
+      pending = Pending.Nothing;
+      turn_reason = turn_reasons.Refusal;
+    }
+
+-- the rule that data breaks if it has no form, or contradicts the belief
+abbrev pub sends_wrong : RuleBreak
+sends_wrong = record { rule = Sends; cell = 0 }
+
+-- nothing is known of the screen any more, and the turn is the host's, to restore it
+abbrev pub to_be_restored : Session → Session
+to_be_restored conn = record (refused conn) { turn_reason = turn_reasons.Restoration }
+
+-- What can't be believed of the screen is painted over. In the terminal's turn, and in place of the answer to Read
+-- Buffer, the screen is restored; the response to a note is still awaited. At any other time nothing is believed of the
+-- screen when a panel is shown next, as after Clear.
+abbrev pub painted_over : Turn → Pending → Session → Session
+painted_over turn (Pending.Writing number command) conn = record conn { unheard = unheards.Clear }
+painted_over turn (Pending.Reading number) conn = to_be_restored conn
+painted_over whose.Terminal Pending.Nothing conn = to_be_restored conn
+painted_over whose.Terminal (Pending.Noting number command) conn =
+    record (to_be_restored conn) { pending = conn.pending }
+painted_over whose.Host Pending.Nothing conn = record conn { unheard = unheards.Clear }
+painted_over whose.Host (Pending.Noting number command) conn = record conn { unheard = unheards.Clear }
+
+-- the most times in a row, without a key that is believed, that a screen is painted over
+abbrev pub most_restored : ℕ
+most_restored = 8
+
+-- the data is dropped and painted over; after too many times in a row the connection closes
+abbrev pub restored_or_closed : Disbelief → Session → HostStep
+restored_or_closed why conn = if ltb conn.restored most_restored
+    then restoring why (painted_over conn.turn conn.pending (record conn { restored = suc conn.restored }))
+    else closed_by BadInbound conn
+
+-- Data that can't be believed. A host that relies on the wait closes the connection; to one that verifies it is a
+-- broken rule; any other host paints over what it can't believe.
+abbrev pub unbelieved : Disbelief → Session → HostStep
+unbelieved why conn = if not (may_have_changed conn.unheard) then closed_by BadInbound conn
+    else if conn.verifies then breaking sends_wrong conn
+    else restored_or_closed why conn
+
 -- The data is believed, and the turn is the host's for this reason. `pending` is the command that still waits for its
 -- answer; the cursor moves if the data gives its address.
 abbrev pub believed : TurnReason → Pending → Option ℕ → Session → Result Shadow HeardFault → HostStep
@@ -149,24 +201,20 @@ believed turn_reason pending cursor conn (Ok shadow) =
       pending = pending;
       turn_reason = turn_reason;
       cursor = unwrap_or cursor conn.cursor;
+      restored = 0;
     })
-believed turn_reason pending cursor conn (Err fault) = closed_by BadInbound conn
+believed turn_reason pending cursor conn (Err fault) = unbelieved Contradicts conn
 
 -- the reason for the turn after a Read Buffer is answered: the last key's screen was read
 abbrev pub once_read : TurnReason → TurnReason
 once_read (turn_reasons.Key aid buffered) = turn_reasons.Key aid true
 once_read turn_reasons.Agreement = turn_reasons.Agreement
 once_read turn_reasons.Refusal = turn_reasons.Refusal
-
--- the operator may have done something unheard: the host doesn't rely on the terminal's wait
-abbrev pub may_have_changed : Unheard → Bool
-may_have_changed unheards.Nothing = false
-may_have_changed unheards.Input = true
-may_have_changed unheards.Clear = true
+once_read turn_reasons.Restoration = turn_reasons.Restoration
 
 -- a key's data in the terminal's turn; a note still waits for its answer
 abbrev pub key_came : InboundParts → Aid → Session → HostStep
-key_came parts NoAid conn = closed_by BadInbound conn
+key_came parts NoAid conn = unbelieved NoKey conn
 key_came parts Enter conn = believed (turn_reasons.Key Enter false) conn.pending parts.cursor conn (hears parts conn)
 key_came parts Clear conn = believed (turn_reasons.Key Clear false) conn.pending parts.cursor conn (hears parts conn)
 key_came parts (Pf key) conn = believed (turn_reasons.Key (Pf key) false) conn.pending parts.cursor conn
@@ -174,12 +222,14 @@ key_came parts (Pf key) conn = believed (turn_reasons.Key (Pf key) false) conn.p
 key_came parts (Pa key) conn = believed (turn_reasons.Key (Pa key) false) conn.pending parts.cursor conn
     (hears parts conn)
 
--- the last key was PA, which sends no fields, and the screen wasn't read since
+-- the last key was PA, which sends no fields, or one without a meaning, and the screen wasn't read since
 abbrev pub is_unread : TurnReason → Bool
 is_unread turn_reasons.Agreement = false
+is_unread (turn_reasons.Key NoAid buffered) = not buffered
 is_unread (turn_reasons.Key (Pa key) buffered) = not buffered
 is_unread (turn_reasons.Key _ buffered) = false
 is_unread turn_reasons.Refusal = false
+is_unread turn_reasons.Restoration = false
 
 -- Clear is pressed before the last key was answered, and no paint waits for its answer. It is dropped, but nothing is
 -- believed of the screen when a panel is shown next. After PA the texts that the host would read are gone: if it hasn't
@@ -192,7 +242,7 @@ clear_came parts conn = if is_unread conn.turn_reason then key_came parts Clear 
 -- same. Clear was pressed before the terminal carried out a paint that waits for its answer; `paint_answered` says what
 -- that means.
 abbrev pub second_key : InboundParts → Aid → Pending → Session → HostStep
-second_key parts NoAid pending conn = closed_by BadInbound conn
+second_key parts NoAid pending conn = unbelieved NoKey conn
 second_key parts Enter pending conn = dropping Enter conn
 second_key parts Clear Pending.Nothing conn = clear_came parts conn
 second_key parts Clear (Pending.Writing number command) conn = dropping Clear (record conn { unheard = unheards.Clear })
@@ -233,12 +283,14 @@ unless_broken conn (Some broken) step = breaking broken conn
 
 -- Whether the answer to Read Buffer counts. A host that doesn't rely on the wait has learned from the key what there is
 -- to learn, so that nothing counts that is typed in the wait: a read only verifies. It counts after PA, which sends no
--- fields, or if the text of some field isn't known.
+-- fields, after a key without a meaning, or if the text of some field isn't known.
 abbrev pub is_after_pa : TurnReason → Bool
 is_after_pa turn_reasons.Agreement = false
+is_after_pa (turn_reasons.Key NoAid buffered) = true
 is_after_pa (turn_reasons.Key (Pa key) buffered) = true
 is_after_pa (turn_reasons.Key _ buffered) = false
 is_after_pa turn_reasons.Refusal = false
+is_after_pa turn_reasons.Restoration = false
 
 abbrev pub is_read_believed : Session → Bool
 is_read_believed conn =
@@ -277,22 +329,33 @@ data_came parts whose.Host (Pending.Noting number command) conn = out_of_turn pa
 data_came parts whose.Terminal Pending.Nothing conn = key_data_came parts parts.form conn
 data_came parts whose.Terminal (Pending.Noting number command) conn = key_data_came parts parts.form conn
 
+-- A key without a meaning for panels, as a light pen's, a card reader's or SYSREQ's: one that isn't active. `NoAid` is
+-- its AID from then on. The fields of its data, if it has any, aren't believed: the screen is read, as after PA. Out of
+-- turn it is dropped.
+abbrev pub other_key_heard : Session → Session
+other_key_heard conn = record conn {
+  shadow = doubted conn.shadow;
+  turn = whose.Host;
+  turn_reason = turn_reasons.Key NoAid false;
+}
+
+abbrev pub other_key_in : Turn → Pending → Session → HostStep
+other_key_in whose.Terminal Pending.Nothing conn = quiet (other_key_heard conn)
+other_key_in whose.Terminal (Pending.Noting number command) conn = quiet (other_key_heard conn)
+other_key_in whose.Terminal (Pending.Writing number command) conn = dropping NoAid conn
+other_key_in whose.Terminal (Pending.Reading number) conn = dropping NoAid conn
+other_key_in whose.Host pending conn = dropping NoAid conn
+
+-- the data of such a key; to a host that verifies it is a broken rule
+abbrev pub other_key_came : Session → HostStep
+other_key_came conn = if conn.verifies then breaking sends_wrong conn else other_key_in conn.turn conn.pending conn
+
 -- ---- responses
 
 -- the write is accepted: what it wrote is believed now, not when it was sent
 abbrev pub answered : CommandParts → Session → Session
 answered command conn =
     record conn { shadow = taken (cells_in conn.size) command conn.shadow; pending = Pending.Nothing }
-
--- the command is refused: nothing is known of the screen any more, and the turn is the host's
-abbrev pub refused : Session → Session
-refused conn =
-    record conn {
-      shadow = Shadow.NothingKnown;
-      turn = whose.Host;
-      pending = Pending.Nothing;
-      turn_reason = turn_reasons.Refusal;
-    }
 
 -- a write is refused; after an erase the host has nothing left to try
 abbrev pub write_refused : CommandParts → Session → HostStep

@@ -7,7 +7,7 @@ ghost use Rattle.panels.specs.Keys.{IsKey};
 ghost use Rattle.panels.specs.Panel.{Panels};
 ghost use Rattle.panels.specs.declared.message.Message.TheVariants.{Fresh};
 ghost use Rattle.panels.specs.declared.next.Next.TheVariants.{Go};
-ghost use Rattle.host_core.specs.Acts.{Act as ActValue, Decision as DecisionValue, acted, after_key, decision_in, first_panel, is_in_doubt as in_doubt, is_to_be_read, on_empty, on_key, may_act, once_filled_in, repeated, check_required};
+ghost use Rattle.host_core.specs.Acts.{Act as ActValue, Decision as DecisionValue, acted, after_key, decision_in, first_panel, is_in_doubt as in_doubt, is_to_be_read, next_after, on_empty, on_key, may_act, once_filled_in, repeated, screen_restored, check_required};
 ghost use Rattle.shadow.specs.Belief.{IsOfSize};
 ghost use Rattle.host_core.specs.Application.{Application, application_of, panel_at};
 ghost use Rattle.host_core.specs.Choices.{CanBeDone, decision_of, values_with};
@@ -27,7 +27,7 @@ use crate::session::Session;
 use crate::turn::Turn;
 use crate::turn_reason::TurnReason;
 use codes3270::Aid;
-use panels::{Field, Message, Next, PanelSet};
+use panels::{Field, Message, MessageText, Next, PanelSet};
 use shadow::Shadow;
 use telnet_wire::Memory;
 
@@ -78,6 +78,13 @@ fn repeated(message: Message) -> Message
     }
 }
 
+/// The message of a panel that is shown again since the data of a key couldn't be believed.
+fn screen_restored() -> Message
+    ensures { result ≡ screen_restored }
+{
+    Message::Told(MessageText::new(b"SCREEN RESTORED"), None)
+}
+
 /// The decision to show a panel fresh: no field keeps what the operator left in it.
 fn fresh(panel: usize, learn: bool) -> Decision
     ensures decision { (app : Application) (conn : SessionValue) →
@@ -124,16 +131,16 @@ fn next_of(panels: &PanelSet, panel: usize, aid: &Aid) -> Next
 }
 
 impl Session {
-    /// Whether the screen must be read before a key is answered: after PA, if some field of the panel is in doubt, or
-    /// if the host verifies that the terminal keeps the rules.
+    /// Whether the screen must be read before a key is answered: after PA and keys without a meaning, if some field of
+    /// the panel is in doubt, or if the host verifies that the terminal keeps the rules.
     fn is_to_be_read(&self, panels: &PanelSet, aid: &Aid) -> bool
         requires panel { self.now.panel < length panels.now.panels }
         requires fields { HaveFields self.now.shadow (panel_at panels.now self.now.panel).fields }
         ensures { result ≡ is_to_be_read (application_of panels.now) self.now aid.now }
     {
         match aid {
-            Aid::Pa(_) => true,
-            Aid::NoAid | Aid::Enter | Aid::Clear | Aid::Pf(_) => {
+            Aid::NoAid | Aid::Pa(_) => true,
+            Aid::Enter | Aid::Clear | Aid::Pf(_) => {
                 self.is_verified()
                     || is_some_in_doubt(&self.shadow, panel_in(panels, self.panel).fields())
             }
@@ -209,6 +216,18 @@ impl Session {
         }
     }
 
+    /// Where a key leads from the panel that is shown. One without a meaning leads nowhere.
+    fn next_after(&self, panels: &PanelSet, aid: &Aid) -> Next
+        requires { self.now.panel < length panels.now.panels }
+        ensures next { result ≡ next_after (application_of panels.now) self.now.panel aid.now }
+        ensures target { (target : ℕ) → result ≡ Go target → target < length panels.now.panels }
+    {
+        match aid {
+            Aid::NoAid => Next::Again,
+            Aid::Enter | Aid::Clear | Aid::Pf(_) | Aid::Pa(_) => next_of(panels, self.panel, aid),
+        }
+    }
+
     /// The decision while no panel is on the screen, after agreement or Clear: this panel, or the one to which that
     /// leads, is shown fresh; or the application is asked.
     fn on_empty(&self, panels: &PanelSet, panel: usize, next: Next) -> Decision
@@ -250,13 +269,27 @@ impl Session {
                 if self.is_to_be_read(panels, aid) && !buffered {
                     return Decision::Read;
                 }
-                self.on_key(panels, aid, next_of(panels, self.panel, aid))
+                self.on_key(panels, aid, self.next_after(panels, aid))
             }
         }
     }
 
+    /// The decision to show the same panel again, whole, with this message.
+    fn whole(&self, message: Message) -> Decision
+        ensures { result ≡ Show (record { panel = self.now.panel; message = message; keep = false }) false }
+    {
+        Decision::Show {
+            shown: Shown {
+                panel: self.panel,
+                message,
+                keep: false,
+            },
+            learn: false,
+        }
+    }
+
     /// The host's decision now: Nothing unless it may act. After agreement it shows the first panel, or asks, if that
-    /// panel asks at connect; after a refusal it shows the same panel, whole.
+    /// panel asks at connect; after a refusal, or to restore the screen, it shows the same panel, whole.
     pub(crate) fn decide(&self, panels: &PanelSet) -> Decision
         requires { IsShownOn panels.now self.now }
         ensures decision { decision_of (application_of panels.now) self.now result
@@ -272,14 +305,8 @@ impl Session {
                 self.on_empty(panels, panels.start(), next)
             }
             TurnReason::Key(aid, buffered) => self.after_key(panels, &aid, buffered),
-            TurnReason::Refusal => Decision::Show {
-                shown: Shown {
-                    panel: self.panel,
-                    message: repeated(self.message),
-                    keep: false,
-                },
-                learn: false,
-            },
+            TurnReason::Refusal => self.whole(repeated(self.message)),
+            TurnReason::Restoration => self.whole(screen_restored()),
         }
     }
 

@@ -3,6 +3,7 @@ ghost use Rattle.std.specs.Prelude.{◌≡◌};
 ghost use Rattle.host_core.specs.Representation.{silent, step_of};
 ghost use Rattle.host_core.specs.Session.{Session as SessionValue};
 
+use crate::disbelief::Disbelief;
 use codes3270::Aid;
 use shadow::RuleBreak;
 use tn3270e_msg::Cause;
@@ -18,6 +19,8 @@ pub(crate) enum AfterRecord {
     Drops(Aid),
     /// The screen in the record shows that the terminal broke this rule, so the connection closes.
     Breaks(RuleBreak),
+    /// The data was dropped, since it can't be believed for this reason.
+    Restores(Disbelief),
 }
 
 impl AfterRecord {

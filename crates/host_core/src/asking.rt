@@ -31,7 +31,7 @@ pub(crate) fn key_of(turn_reason: TurnReason) -> Aid
     ensures { result ≡ key_of turn_reason }
 {
     match turn_reason {
-        TurnReason::Agreement | TurnReason::Refusal => Aid::NoAid,
+        TurnReason::Agreement | TurnReason::Refusal | TurnReason::Restoration => Aid::NoAid,
         TurnReason::Key(aid, _) => aid,
     }
 }
@@ -136,7 +136,7 @@ impl Session {
     {
         match self.turn_reason {
             TurnReason::Agreement => self.first_panel(panels),
-            TurnReason::Key(_, _) | TurnReason::Refusal => self.panel,
+            TurnReason::Key(_, _) | TurnReason::Refusal | TurnReason::Restoration => self.panel,
         }
     }
 

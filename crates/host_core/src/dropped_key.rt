@@ -3,7 +3,7 @@ use codes3270::Aid;
 /// A key that the operator pressed out of turn, so that the host dropped its data (our profile).
 #[derive(Clone, Copy, Debug, PartialEq, Eq)]
 pub struct DroppedKey {
-    /// The key's attention identifier.
+    /// The key's attention identifier; `NoAid` for a key without a meaning for panels, as a light pen's.
     pub aid: Aid,
 }
 

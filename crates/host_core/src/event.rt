@@ -1,3 +1,4 @@
+use crate::disbelief::Disbelief;
 use crate::dropped_key::DroppedKey;
 use crate::rejection::Rejection;
 use shadow::RuleBreak;
@@ -16,6 +17,12 @@ pub enum HostEvent {
     /// The terminal broke this rule, so the host closes the connection. Only with
     /// [`Terminals::Verified`](crate::Terminals::Verified).
     RuleBroken(RuleBreak),
+    /// The client sent characters that its code page lacks (Graphic Escape); each was replaced by SUB. Not with
+    /// [`Terminals::Waiting`](crate::Terminals::Waiting), where it closes the connection.
+    CharacterReplaced,
+    /// The client's data can't be believed for this reason, so the host paints over what it can't believe of the
+    /// screen. Only with [`Terminals::Any`](crate::Terminals::Any): else it closes the connection.
+    ScreenRestored(Disbelief),
     /// In a turn of serving ([`serve_turn`](crate::serve_turn)) the host began to wait for the answer to a question
     /// ([`Host::question`](crate::Host::question)).
     Asked,

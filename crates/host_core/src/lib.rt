@@ -88,6 +88,7 @@ mod acting;
 mod after_record;
 mod asking;
 mod connection;
+mod disbelief;
 mod dropped_key;
 mod event;
 mod feeding;
@@ -115,6 +116,7 @@ mod unheard;
 
 pub use acted::Acted;
 pub use datastream::Memory;
+pub use disbelief::Disbelief;
 pub use dropped_key::DroppedKey;
 pub use event::HostEvent;
 pub use host::{Host, MOST_CONNECTIONS};

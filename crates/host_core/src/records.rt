@@ -1,7 +1,8 @@
 //! How the host takes a terminal's records: data and responses.
-ghost use Rattle.std.specs.Prelude.{◌≡◌, true, drop, unwrap_or};
+ghost use Rattle.std.specs.Prelude.{◌≡◌, ◌≢◌, ◌≤◌, ◌+◌, ◌++◌, length, true, drop, unwrap_or};
 ghost use Rattle.codes3270.specs.Size.{cells_in};
 ghost use Rattle.codes3270.specs.declared.attention.Aid.TheVariants.{Clear};
+ghost use Rattle.datastream.specs.Escapes.{without_escapes};
 ghost use Rattle.datastream.specs.Grammar.{IsSpelt};
 ghost use Rattle.datastream.specs.InboundText.{IsNoInbound};
 ghost use Rattle.datastream.specs.declared.inbound_part.Form.TheVariants.{Buffer};
@@ -9,25 +10,37 @@ ghost use Rattle.datastream.specs.declared.inbound_part.InboundFault.{InboundFau
 ghost use Rattle.shadow.specs.Belief.{IsOfSize};
 ghost use Rattle.shadow.specs.Exactness.{is_erase};
 ghost use Rattle.shadow.specs.Stores.{is_plain};
-ghost use Rattle.tn3270e_msg.specs.Header.{header_length};
-ghost use Rattle.host_core.specs.Items.{TakesData, TakesRecord, may_be_second_key, second_key_size, verdict_of};
+ghost use Rattle.tn3270e_msg.specs.Header.{header_length, record_limit};
+ghost use Rattle.host_core.specs.Items.{TakesAnyData, TakesData, TakesRecord, begins_with_other_aid, is_other_key, may_be_second_key, second_key_size, verdict_of, with_known_aid, with_replaced};
 ghost use Rattle.host_core.specs.Representation.{IsPlainWrite, command_in, silent, step_of};
 ghost use Rattle.host_core.specs.Parts.{IsNoPaint, IsWrite, write_of};
 ghost use Rattle.host_core.specs.declared.after_record.AfterRecord.TheVariants.{GoesOn};
 ghost use Rattle.host_core.specs.declared.unheard.Unheard.TheVariants as UnheardValue;
-ghost use Rattle.host_core.specs.Takes.{believed, buffer_came, buffer_heard, clear_came, data_came, dropping, form_awaited, hears, is_after_pa, is_read_believed, is_unread, is_verified, once_read, out_of_turn, paint_verdict_came, rule_broken_by, second_key, refused, response_came, verdict_came};
+ghost use Rattle.host_core.specs.Takes.{believed, buffer_came, buffer_heard, clear_came, data_came, dropping, form_awaited, hears, is_after_pa, is_read_believed, is_unread, is_verified, once_read, other_key_came, out_of_turn, paint_verdict_came, painted_over, rule_broken_by, second_key, refused, response_came, unbelieved, verdict_came};
 
 use crate::after_record::AfterRecord;
+use crate::disbelief::Disbelief;
 use crate::pending::Pending;
 use crate::session::Session;
 use crate::turn::Turn;
 use crate::turn_reason::TurnReason;
 use crate::unheard::Unheard;
-use codes3270::{Addr, Aid, Size};
-use datastream::{Command, CommandCode, Form, Inbound, read_command, read_inbound};
-use shadow::laws::{what_is_believed_can_be_stored, what_is_believed_has_a_size};
-use shadow::{RuleBreak, Shadow};
-use tn3270e_msg::{Cause, DataType, HEADER_LENGTH, Header, POSITIVE, read_header};
+use arrayvec::ArrayVec;
+use codes3270::{Addr, Aid, Size, aid_byte, aid_from_byte};
+use datastream::laws::escapes_are_replaced;
+use datastream::{Command, CommandCode, Form, Inbound, WithoutEscapes, has_escapes, read_command, read_inbound};
+use shadow::laws::{what_is_believed_can_be_stored, what_is_believed_has_a_size, what_is_in_doubt_is_allowed};
+use shadow::{Rule, RuleBreak, Shadow};
+use tn3270e_msg::{Cause, DataType, HEADER_LENGTH, Header, POSITIVE, RECORD_LIMIT, read_header};
+
+/// The most times in a row, without a key that is believed, that a screen is painted over.
+const MOST_RESTORED: u8 = 8;
+
+/// The rule that data breaks if it has no form, or contradicts the belief.
+const SENDS_WRONG: RuleBreak = RuleBreak {
+    rule: Rule::Sends,
+    cell: 0,
+};
 
 /// The reason for the turn after a Read Buffer is answered: the last key's screen was read.
 fn once_read(turn_reason: TurnReason) -> TurnReason
@@ -37,21 +50,48 @@ fn once_read(turn_reason: TurnReason) -> TurnReason
         TurnReason::Key(aid, _) => TurnReason::Key(aid, true),
         TurnReason::Agreement => TurnReason::Agreement,
         TurnReason::Refusal => TurnReason::Refusal,
+        TurnReason::Restoration => TurnReason::Restoration,
     }
 }
 
-/// Whether the last key was PA, which sends no fields.
+/// Whether the last key was PA, which sends no fields, or one without a meaning.
 fn is_after_pa(turn_reason: TurnReason) -> bool
     ensures { result ≡ is_after_pa turn_reason }
 {
-    matches!(turn_reason, TurnReason::Key(Aid::Pa(_), _))
+    matches!(turn_reason, TurnReason::Key(Aid::NoAid | Aid::Pa(_), _))
 }
 
-/// Whether the last key was PA, and the screen wasn't read since.
+/// Whether the last key was PA, or one without a meaning, and the screen wasn't read since.
 fn is_unread(turn_reason: TurnReason) -> bool
     ensures { result ≡ is_unread turn_reason }
 {
-    matches!(turn_reason, TurnReason::Key(Aid::Pa(_), false))
+    matches!(turn_reason, TurnReason::Key(Aid::NoAid | Aid::Pa(_), false))
+}
+
+/// Whether the first byte of data isn't an AID that this host knows.
+fn begins_with_other_aid(body: &[u8]) -> bool
+    ensures { result ≡ begins_with_other_aid body.now }
+{
+    match body {
+        [] => false,
+        [first, ..] => aid_from_byte(*first).is_none(),
+    }
+}
+
+/// Data as it is read: SUB for each character that comes by Graphic Escape, and `NoAid` for an AID without a meaning.
+fn plain_data(body: &[u8]) -> ArrayVec<u8, RECORD_LIMIT>
+    requires { length body.now ≤ record_limit }
+    ensures { result.items ≡ with_known_aid (without_escapes body.now) }
+{
+    escapes_are_replaced();
+    let mut plain = ArrayVec::new();
+    for byte in WithoutEscapes::new(body) {
+        plain.push(byte);
+    }
+    if begins_with_other_aid(plain.as_slice()) {
+        plain[0] = aid_byte(Aid::NoAid);
+    }
+    plain
 }
 
 /// The cursor's buffer address after data: the one in the data, or the previous one if the data has none.
@@ -83,23 +123,85 @@ fn is_erase(code: CommandCode) -> bool
 }
 
 impl Session {
-    /// Takes a record, after the ends agreed.
-    pub(crate) fn take_record(&mut self, bytes: &[u8]) -> AfterRecord
-        ensures taken { TakesRecord self.old bytes.now (step_of self.new result) }
+    /// Takes a record, after the ends agreed; also answers whether characters were replaced in its data.
+    pub(crate) fn take_record(&mut self, bytes: &[u8]) -> (AfterRecord, bool)
+        requires { length bytes.now ≤ record_limit }
+        ensures taken { TakesRecord self.old bytes.now (with_replaced result.1 (step_of self.new result.0)) }
         ensures talk { self.new.talk ≡ self.old.talk }
         ensures panel { self.new.panel ≡ self.old.panel }
         ensures size { self.new.size ≡ self.old.size }
     {
         let Ok((header, body)) = read_header(bytes) else {
-            return AfterRecord::Closes(Cause::BadRecord);
+            return (AfterRecord::Closes(Cause::BadRecord), false);
         };
         match header.kind {
-            DataType::Data3270 => match read_inbound(body, self.form_awaited(), self.size) {
-                Ok(inbound) => self.hear(&inbound),
-                Err(_) => self.take_second_key(body),
-            },
-            DataType::Response => AfterRecord::of(self.take_response(&header)),
-            _ => AfterRecord::GoesOn,
+            DataType::Data3270 => self.take_any_data(body),
+            DataType::Response => (AfterRecord::of(self.take_response(&header)), false),
+            _ => (AfterRecord::GoesOn, false),
+        }
+    }
+
+    /// Takes data, also that of a key without a meaning; also answers whether characters were replaced in it.
+    fn take_any_data(&mut self, body: &[u8]) -> (AfterRecord, bool)
+        requires { length body.now ≤ record_limit }
+        ensures taken { TakesAnyData (is_other_key self.old body.now) self.old body.now
+            (with_replaced result.1 (step_of self.new result.0)) }
+        ensures talk { self.new.talk ≡ self.old.talk }
+        ensures panel { self.new.panel ≡ self.old.panel }
+        ensures size { self.new.size ≡ self.old.size }
+    {
+        if self.is_other_key(body) {
+            return (self.take_other_key(), false);
+        }
+        if self.unheard.may_have_changed() {
+            let plain = plain_data(body);
+            (self.take_data(plain.as_slice()), has_escapes(body))
+        } else {
+            (self.take_data(body), false)
+        }
+    }
+
+    /// Whether data is that of a key without a meaning.
+    fn is_other_key(&self, body: &[u8]) -> bool
+        ensures { result ≡ is_other_key self.now body.now }
+    {
+        self.unheard.may_have_changed()
+            && !matches!(self.pending, Pending::Reading(_))
+            && begins_with_other_aid(body)
+    }
+
+    /// Takes a key without a meaning: in the terminal's turn the host has the turn, as after PA. Else it is dropped.
+    fn take_other_key(&mut self) -> AfterRecord
+        ensures came { step_of self.new result ≡ other_key_came self.old }
+        ensures talk { self.new.talk ≡ self.old.talk }
+        ensures panel { self.new.panel ≡ self.old.panel }
+        ensures size { self.new.size ≡ self.old.size }
+    {
+        if self.verifies {
+            return AfterRecord::Breaks(SENDS_WRONG);
+        }
+        match (self.turn, self.pending) {
+            (Turn::Terminal, Pending::Nothing | Pending::Noting(_)) => {
+                what_is_in_doubt_is_allowed();
+                self.shadow.doubt();
+                self.turn = Turn::Host;
+                self.turn_reason = TurnReason::Key(Aid::NoAid, false);
+                AfterRecord::GoesOn
+            }
+            _ => AfterRecord::Drops(Aid::NoAid),
+        }
+    }
+
+    /// Takes data: it is heard, if it has the awaited form, or else may be a second key's.
+    fn take_data(&mut self, body: &[u8]) -> AfterRecord
+        ensures taken { TakesData self.old body.now (step_of self.new result) }
+        ensures talk { self.new.talk ≡ self.old.talk }
+        ensures panel { self.new.panel ≡ self.old.panel }
+        ensures size { self.new.size ≡ self.old.size }
+    {
+        match read_inbound(body, self.form_awaited(), self.size) {
+            Ok(inbound) => self.hear(&inbound),
+            Err(_) => self.take_second_key(body),
         }
     }
 
@@ -110,7 +212,7 @@ impl Session {
         self.unheard.may_have_changed() && self.pending.is_paint_or_read()
     }
 
-    /// Takes data that isn't in the awaited form: a second key's is dropped, any other closes the connection.
+    /// Takes data that isn't in the awaited form: a second key's is dropped, any other can't be believed.
     fn take_second_key(&mut self, body: &[u8]) -> AfterRecord
         requires { (fault : InboundFault) × IsNoInbound self.old.size (form_awaited self.old.pending) fault body.now }
         ensures taken { TakesData self.old body.now (step_of self.new result) }
@@ -119,11 +221,11 @@ impl Session {
         ensures size { self.new.size ≡ self.old.size }
     {
         if !self.may_be_second_key() {
-            return AfterRecord::Closes(Cause::BadInbound);
+            return self.drop_unbelieved(Disbelief::Unreadable);
         }
         match read_inbound(body, Form::Modified, self.second_key_size()) {
             Ok(inbound) => self.drop_key(&inbound),
-            Err(_) => AfterRecord::Closes(Cause::BadInbound),
+            Err(_) => self.drop_unbelieved(Disbelief::Unreadable),
         }
     }
 
@@ -167,7 +269,7 @@ impl Session {
                 Turn::Host => self.hear_out_of_turn(inbound),
                 Turn::Terminal => match inbound.form() {
                     Form::Modified => match inbound.aid() {
-                        Aid::NoAid => AfterRecord::Closes(Cause::BadInbound),
+                        Aid::NoAid => self.drop_unbelieved(Disbelief::NoKey),
                         aid => self.believe(inbound, TurnReason::Key(aid, false)),
                     },
                     Form::All | Form::Buffer => AfterRecord::Closes(Cause::BadInbound),
@@ -194,7 +296,7 @@ impl Session {
         }
     }
 
-    /// Drops the data of a second key. Data without a key closes the connection.
+    /// Drops the data of a second key. Data without a key can't be believed.
     fn drop_key(&mut self, inbound: &Inbound<'_>) -> AfterRecord
         requires size { IsNoPaint self.old.pending → inbound.now.size ≡ self.old.size }
         ensures came { step_of self.new result ≡ second_key inbound.now inbound.now.aid self.old.pending self.old }
@@ -204,7 +306,7 @@ impl Session {
     {
         let aid = inbound.aid();
         match aid {
-            Aid::NoAid => AfterRecord::Closes(Cause::BadInbound),
+            Aid::NoAid => self.drop_unbelieved(Disbelief::NoKey),
             Aid::Enter => AfterRecord::Drops(aid),
             Aid::Pf(_) => AfterRecord::Drops(aid),
             Aid::Pa(_) => AfterRecord::Drops(aid),
@@ -335,12 +437,57 @@ impl Session {
         // For the contract: the data has a form that terminals send.
         let _is_sent = inbound.form();
         if self.shadow.heard(inbound).is_err() {
-            return AfterRecord::Closes(Cause::BadInbound);
+            return self.drop_unbelieved(Disbelief::Contradicts);
         }
         self.turn = Turn::Host;
         self.turn_reason = turn_reason;
         self.cursor = cursor;
+        self.restored = 0;
         AfterRecord::GoesOn
+    }
+
+    /// Drops data that can't be believed, and sees to it that what can't be believed of the screen is painted over. A
+    /// host that relies on the terminal's wait closes the connection; so does one that verifies, for the broken rule;
+    /// and so does any after too many times in a row.
+    fn drop_unbelieved(&mut self, why: Disbelief) -> AfterRecord
+        ensures came { step_of self.new result ≡ unbelieved why self.old }
+        ensures talk { self.new.talk ≡ self.old.talk }
+        ensures panel { self.new.panel ≡ self.old.panel }
+        ensures size { self.new.size ≡ self.old.size }
+        ensures dropped { result ≢ GoesOn }
+    {
+        if !self.unheard.may_have_changed() {
+            return AfterRecord::Closes(Cause::BadInbound);
+        }
+        if self.verifies {
+            return AfterRecord::Breaks(SENDS_WRONG);
+        }
+        if self.restored >= MOST_RESTORED {
+            return AfterRecord::Closes(Cause::BadInbound);
+        }
+        self.restored += 1;
+        self.paint_over();
+        AfterRecord::Restores(why)
+    }
+
+    /// Sees to it that what can't be believed of the screen is painted over.
+    fn paint_over(&mut self)
+        ensures { self.new ≡ painted_over self.old.turn self.old.pending self.old }
+    {
+        match (self.turn, self.pending) {
+            (_, Pending::Reading(_)) | (Turn::Terminal, Pending::Nothing) => {
+                self.refuse();
+                self.turn_reason = TurnReason::Restoration;
+            }
+            (Turn::Terminal, Pending::Noting(_)) => {
+                self.shadow = Shadow::blank();
+                self.turn = Turn::Host;
+                self.turn_reason = TurnReason::Restoration;
+            }
+            (_, Pending::Writing(_)) | (Turn::Host, Pending::Nothing | Pending::Noting(_)) => {
+                self.unheard = Unheard::Clear;
+            }
+        }
     }
 
     // ---- responses

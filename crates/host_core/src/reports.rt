@@ -1,7 +1,8 @@
 //! The events that a connection keeps until they are reported.
 ghost use Rattle.std.specs.Prelude.{◌≡◌, None, Some, false};
-ghost use Rattle.host_core.specs.Reports.{events_of, kept_with, newly_bound, no_reports, oldest, reported, with_bound, with_cause, with_question, with_sent, without_oldest};
+ghost use Rattle.host_core.specs.Reports.{events_of, kept_with, newly_bound, no_reports, oldest, reported, with_bound, with_cause, with_question, with_replaced, with_restored, with_sent, without_oldest};
 
+use crate::disbelief::Disbelief;
 use crate::dropped_key::DroppedKey;
 use crate::event::HostEvent;
 use crate::rejection::Rejection;
@@ -11,18 +12,22 @@ use shadow::RuleBreak;
 use std::marker::Model;
 use tn3270e_msg::{Cause, Lu, Reason};
 
-/// The most rejections, and the most dropped keys, that are kept. A negotiation sends no more rejections.
+/// The most rejections, dropped keys and restorations that are kept. A negotiation sends no more rejections, and no
+/// more screens are restored in a row.
 const MOST_REPORTS: usize = 8;
 
-/// The unreported events of a connection: rejected requests for an LU and dropped keys, each the oldest first; the LU
-/// that the terminal was bound to, the rule that it broke, whether a question was asked and a screen shown, and why the
-/// connection was closed. Beside these, whether a question waits for its answer, so that it is asked once.
+/// The unreported events of a connection: rejected requests for an LU, dropped keys and restored screens, each the
+/// oldest first; the LU that the terminal was bound to, the rule that it broke, whether characters were replaced in its
+/// data, a question was asked and a screen shown, and why the connection was closed. Beside these, whether a question
+/// waits for its answer, so that it is asked once.
 #[derive(Drop)]
 pub(crate) struct Reports {
     rejections: ArrayVec<Rejection, MOST_REPORTS>,
     bound: Option<Lu>,
     dropped_keys: ArrayVec<DroppedKey, MOST_REPORTS>,
     rule_break: Option<RuleBreak>,
+    replaced: bool,
+    restorations: ArrayVec<Disbelief, MOST_REPORTS>,
     asked: bool,
     shown: bool,
     closed: Option<Cause>,
@@ -39,6 +44,8 @@ impl Model for Reports {
       bound = reports.bound;
       dropped_keys = reports.dropped_keys.items;
       rule_break = reports.rule_break;
+      replaced = reports.replaced;
+      restorations = reports.restorations.items;
       asked = reports.asked;
       shown = reports.shown;
       closed = reports.closed;
@@ -64,6 +71,15 @@ fn add_dropped_key(dropped_keys: &mut ArrayVec<DroppedKey, MOST_REPORTS>, aid: A
     }
 }
 
+/// Adds a restoration at the end, unless there are 8.
+fn add_restoration(restorations: &mut ArrayVec<Disbelief, MOST_REPORTS>, why: Disbelief)
+    ensures { restorations.new.items ≡ kept_with (Some why) restorations.old.items }
+{
+    if restorations.len() < MOST_REPORTS {
+        restorations.push(why);
+    }
+}
+
 impl Reports {
     /// No events.
     pub(crate) fn new() -> Reports
@@ -74,6 +90,8 @@ impl Reports {
             bound: None,
             dropped_keys: ArrayVec::new(),
             rule_break: None,
+            replaced: false,
+            restorations: ArrayVec::new(),
             asked: false,
             shown: false,
             closed: None,
@@ -100,6 +118,22 @@ impl Reports {
         ensures { self.new ≡ reported None None (Some broken) self.old }
     {
         self.rule_break = Some(broken);
+    }
+
+    /// Keeps that characters were replaced in data, if they were.
+    pub(crate) fn keep_replaced(&mut self, replaced: bool)
+        ensures { self.new ≡ with_replaced replaced self.old }
+    {
+        if replaced {
+            self.replaced = true;
+        }
+    }
+
+    /// Keeps that data can't be believed for this reason.
+    pub(crate) fn keep_restored(&mut self, why: Disbelief)
+        ensures { self.new ≡ with_restored (Some why) self.old }
+    {
+        add_restoration(&mut self.restorations, why);
     }
 
     /// Keeps the LU that both ends agreed on, if they hadn't agreed before.
@@ -166,6 +200,22 @@ impl Reports {
         std::mem::replace(&mut self.rule_break, None)
     }
 
+    /// Forgets that characters were replaced, and answers whether they were.
+    fn next_replaced(&mut self) -> bool
+        ensures next { result ≡ self.old.replaced }
+        ensures removed { self.new ≡ record self.old { replaced = false } }
+    {
+        std::mem::replace(&mut self.replaced, false)
+    }
+
+    /// Removes and returns why the oldest data that can't be believed can't.
+    fn next_restoration(&mut self) -> Option<Disbelief>
+        ensures next { result ≡ oldest self.old.restorations }
+        ensures removed { self.new ≡ record self.old { restorations = without_oldest self.old.restorations } }
+    {
+        self.restorations.pop_at(0)
+    }
+
     /// Forgets that a question was asked, and answers whether one was.
     fn next_asked(&mut self) -> bool
         ensures next { result ≡ self.old.asked }
@@ -208,6 +258,12 @@ impl Reports {
         if let Some(broken) = self.next_rule_break() {
             return Some(HostEvent::RuleBroken(broken));
         }
+        if self.next_replaced() {
+            return Some(HostEvent::CharacterReplaced);
+        }
+        if let Some(why) = self.next_restoration() {
+            return Some(HostEvent::ScreenRestored(why));
+        }
         if self.next_asked() {
             return Some(HostEvent::Asked);
         }
@@ -228,6 +284,8 @@ impl Reports {
         self.bound = None;
         self.dropped_keys.clear();
         self.rule_break = None;
+        self.replaced = false;
+        self.restorations.clear();
         self.asked = false;
         self.shown = false;
         self.closed = None;

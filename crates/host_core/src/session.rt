@@ -42,6 +42,8 @@ pub(crate) struct Session {
     pub(crate) unheard: Unheard,
     // Whether the screen is read before a key is answered, to see that the terminal keeps the rules.
     pub(crate) verifies: bool,
+    // How many times in a row, without a key that was believed, the screen was painted over.
+    pub(crate) restored: u8,
     // The record that was sent last, with its header; its capacity is that of the largest record.
     pub(crate) sent: Vec<u8>,
 }
@@ -69,6 +71,7 @@ impl Model for Session {
       cursor = s.cursor;
       unheard = s.unheard;
       verifies = s.verifies;
+      restored = s.restored;
     } };
 
     ghost invariant = { λ s. IsKept s.size s.pending s.sent.items × (record_room ≤ vec_capacity s.sent)
@@ -102,6 +105,7 @@ impl Session {
             cursor: Addr::first(),
             unheard: terminals.unheard(),
             verifies: terminals.are_verified(),
+            restored: 0,
             sent,
         })
     }

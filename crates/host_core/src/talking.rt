@@ -4,12 +4,13 @@ ghost use Rattle.std.specs.Vec.{vec_capacity};
 ghost use Rattle.lu_pool.specs.Asking.{answer_to};
 ghost use Rattle.lu_pool.specs.Holders.{granted_if};
 ghost use Rattle.lu_pool.specs.Pool.{HoldsNone};
-ghost use Rattle.telnet_wire.specs.Items.{item_of};
+ghost use Rattle.telnet_wire.specs.Items.{IsWithin, item_of};
+ghost use Rattle.tn3270e_msg.specs.Header.{record_limit};
 ghost use Rattle.tn3270e_msg.specs.HostTable.{granted};
 ghost use Rattle.tn3270e_msg.specs.Writing.{HasRoomForReply};
 ghost use Rattle.host_core.specs.Representation.{ItemTaken, step_of};
 ghost use Rattle.host_core.specs.Parts.{TalkTaken};
-ghost use Rattle.host_core.specs.Reports.{reported};
+ghost use Rattle.host_core.specs.Reports.{reported, with_restored};
 ghost use Rattle.host_core.specs.Session.{Session as SessionValue};
 ghost use Rattle.host_core.specs.Sound.{HoldsJust, OthersHold};
 ghost use Rattle.host_core.specs.Takes.{granted_by};
@@ -34,6 +35,7 @@ pub(crate) fn take_item(
 ) -> Option<Cause>
     requires room { HasRoomForReply out.old }
     requires holder { HoldsJust conn pool.old (granted session.old.talk.state) }
+    requires few { IsWithin record_limit (item_of item.now) }
     ensures taken { ItemTaken conn pool.old session.old
         (item_of item.now) out.old out.new result pool.new session.new reports.old reports.new }
     ensures holds { IfNone result (HoldsJust conn pool.new (granted session.new.talk.state)) }
@@ -49,18 +51,21 @@ pub(crate) fn take_item(
         return closes;
     };
     if session.talk.is_agreed() {
-        let after = session.take_record(bytes);
+        let (after, replaces) = session.take_record(bytes);
+        reports.keep_replaced(replaces);
         keep_report(reports, after)
     } else {
         None
     }
 }
 
-/// Records a dropped key or a broken rule for a report, and answers the cause if the record closes the connection.
+/// Records a dropped key, a broken rule or a restored screen for a report, and answers the cause if the record closes
+/// the connection.
 fn keep_report(reports: &mut Reports, after: AfterRecord) -> Option<Cause>
     ensures closes { (conn : SessionValue) → result ≡ (step_of conn after).closes }
     ensures kept { (conn : SessionValue)
-        → reports.new ≡ reported None (step_of conn after).drops (step_of conn after).breaks reports.old }
+        → reports.new ≡ with_restored (step_of conn after).restores
+        (reported None (step_of conn after).drops (step_of conn after).breaks reports.old) }
 {
     match after {
         AfterRecord::GoesOn => None,
@@ -72,6 +77,10 @@ fn keep_report(reports: &mut Reports, after: AfterRecord) -> Option<Cause>
         AfterRecord::Breaks(broken) => {
             reports.keep_rule_break(broken);
             Some(Cause::RuleBroken)
+        }
+        AfterRecord::Restores(why) => {
+            reports.keep_restored(why);
+            None
         }
     }
 }

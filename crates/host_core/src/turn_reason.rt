@@ -5,8 +5,11 @@ use codes3270::Aid;
 pub enum TurnReason {
     /// The ends agreed on a session.
     Agreement,
-    /// A key was pressed; the flag says whether its screen was read since, by Read Buffer.
+    /// A key was pressed; the flag says whether its screen was read since, by Read Buffer. `NoAid` stands for a key
+    /// without a meaning for panels, as a light pen's.
     Key(Aid, bool),
     /// The terminal refused the last command, by a negative response.
     Refusal,
+    /// The data of a key couldn't be believed ([`Disbelief`](crate::Disbelief)), so that the screen is restored.
+    Restoration,
 }

@@ -40,9 +40,9 @@ pub fewer : {A : Type 0} (items others : List A) (one : A) → Some one ≡ olde
 fewer [] others one first rest = cc
 fewer (head ∷ tail) others one first rest = let same : length others ≡ length tail = ap length rest in omega (arith, same)
 
-abbrev all_of : List Rejection → Option (List ℕ) → List DroppedKey → Option RuleBreak → (asked shown : Bool) → Option Cause → (waits : Bool) → Reports
-all_of rejections lu keys broken asked shown closed waits =
-    record { rejections = rejections; bound = lu; dropped_keys = keys; rule_break = broken; asked = asked; shown = shown; closed = closed; waits = waits }
+abbrev all_of : List Rejection → Option (List ℕ) → List DroppedKey → Option RuleBreak → (replaced : Bool) → List Disbelief → (asked shown : Bool) → Option Cause → (waits : Bool) → Reports
+all_of rejections lu keys broken replaced restored asked shown closed waits =
+    record { rejections = rejections; bound = lu; dropped_keys = keys; rule_break = broken; replaced = replaced; restorations = restored; asked = asked; shown = shown; closed = closed; waits = waits }
 
 -- nothing is left, or the end
 abbrev is_end : List HostEvent → Bool
@@ -51,36 +51,40 @@ is_end (event.Closed cause ∷ events) = true
 is_end _ = false
 
 -- behind a screen that was shown only the end is told
-shown_late : (rejections : List Rejection) (lu : Option (List ℕ)) (keys : List DroppedKey) (broken : Option RuleBreak) (asked shown : Bool) (closed : Option Cause) (waits : Bool)
-    → Some event.Shown ≡ oldest (events_of (all_of rejections lu keys broken asked shown closed waits)) → is_end (without_oldest (events_of (all_of rejections lu keys broken asked shown closed waits))) ≡ true
-shown_late (one ∷ rejections) lu keys broken asked shown closed waits e = cc
-shown_late [] (Some lu) keys broken asked shown closed waits e = cc
-shown_late [] None (key ∷ keys) broken asked shown closed waits e = cc
-shown_late [] None [] (Some broken) asked shown closed waits e = cc
-shown_late [] None [] None true shown closed waits e = cc
-shown_late [] None [] None false true None waits e = refl
-shown_late [] None [] None false true (Some cause) waits e = refl
-shown_late [] None [] None false false None waits e = cc
-shown_late [] None [] None false false (Some cause) waits e = cc
+shown_late : (rejections : List Rejection) (lu : Option (List ℕ)) (keys : List DroppedKey) (broken : Option RuleBreak) (replaced : Bool) (restored : List Disbelief) (asked shown : Bool) (closed : Option Cause) (waits : Bool)
+    → Some event.Shown ≡ oldest (events_of (all_of rejections lu keys broken replaced restored asked shown closed waits)) → is_end (without_oldest (events_of (all_of rejections lu keys broken replaced restored asked shown closed waits))) ≡ true
+shown_late (one ∷ rejections) lu keys broken replaced restored asked shown closed waits e = cc
+shown_late [] (Some lu) keys broken replaced restored asked shown closed waits e = cc
+shown_late [] None (key ∷ keys) broken replaced restored asked shown closed waits e = cc
+shown_late [] None [] (Some broken) replaced restored asked shown closed waits e = cc
+shown_late [] None [] None true restored asked shown closed waits e = cc
+shown_late [] None [] None false (one ∷ restored) asked shown closed waits e = cc
+shown_late [] None [] None false [] true shown closed waits e = cc
+shown_late [] None [] None false [] false true None waits e = refl
+shown_late [] None [] None false [] false true (Some cause) waits e = refl
+shown_late [] None [] None false [] false false None waits e = cc
+shown_late [] None [] None false [] false false (Some cause) waits e = cc
 
-end_kept : (rejections : List Rejection) (lu : Option (List ℕ)) (keys : List DroppedKey) (broken : Option RuleBreak) (asked shown : Bool) (closed : Option Cause) (waits : Bool)
-    → is_end (events_of (all_of rejections lu keys broken asked shown closed waits)) ≡ true
-    → all_of rejections lu keys broken asked shown closed waits ≡ left_by (events_of (all_of rejections lu keys broken asked shown closed waits)) waits
-end_kept (one ∷ rejections) lu keys broken asked shown closed waits e = cc
-end_kept [] (Some lu) keys broken asked shown closed waits e = cc
-end_kept [] None (key ∷ keys) broken asked shown closed waits e = cc
-end_kept [] None [] (Some broken) asked shown closed waits e = cc
-end_kept [] None [] None true shown closed waits e = cc
-end_kept [] None [] None false true closed waits e = cc
-end_kept [] None [] None false false None waits e = refl
-end_kept [] None [] None false false (Some cause) waits e = refl
+end_kept : (rejections : List Rejection) (lu : Option (List ℕ)) (keys : List DroppedKey) (broken : Option RuleBreak) (replaced : Bool) (restored : List Disbelief) (asked shown : Bool) (closed : Option Cause) (waits : Bool)
+    → is_end (events_of (all_of rejections lu keys broken replaced restored asked shown closed waits)) ≡ true
+    → all_of rejections lu keys broken replaced restored asked shown closed waits ≡ left_by (events_of (all_of rejections lu keys broken replaced restored asked shown closed waits)) waits
+end_kept (one ∷ rejections) lu keys broken replaced restored asked shown closed waits e = cc
+end_kept [] (Some lu) keys broken replaced restored asked shown closed waits e = cc
+end_kept [] None (key ∷ keys) broken replaced restored asked shown closed waits e = cc
+end_kept [] None [] (Some broken) replaced restored asked shown closed waits e = cc
+end_kept [] None [] None true restored asked shown closed waits e = cc
+end_kept [] None [] None false (one ∷ restored) asked shown closed waits e = cc
+end_kept [] None [] None false [] true shown closed waits e = cc
+end_kept [] None [] None false [] false true closed waits e = cc
+end_kept [] None [] None false [] false false None waits e = refl
+end_kept [] None [] None false [] false false (Some cause) waits e = refl
 
 only_the_end : (reports : Reports) → Some event.Shown ≡ oldest (events_of reports) → is_end (without_oldest (events_of reports)) ≡ true
-only_the_end reports e = shown_late reports.rejections reports.bound reports.dropped_keys reports.rule_break reports.asked reports.shown reports.closed reports.waits e
+only_the_end reports e = shown_late reports.rejections reports.bound reports.dropped_keys reports.rule_break reports.replaced reports.restorations reports.asked reports.shown reports.closed reports.waits e
 
 -- the reports of which nothing is left but the end
 just_the_end : (reports : Reports) → is_end (events_of reports) ≡ true → reports ≡ left_by (events_of reports) reports.waits
-just_the_end reports e = end_kept reports.rejections reports.bound reports.dropped_keys reports.rule_break reports.asked reports.shown reports.closed reports.waits e
+just_the_end reports e = end_kept reports.rejections reports.bound reports.dropped_keys reports.rule_break reports.replaced reports.restorations reports.asked reports.shown reports.closed reports.waits e
 
 -- all but a screen that was shown is told of a connection whatever the watcher sees of the host
 told_same : (client : Client) (conn : ℕ) (one other : Host) (happened : HostEvent) → (happened ≡ event.Shown → one ≡ other)
@@ -89,6 +93,7 @@ told_same client conn one other (event.Rejected rejection) same = refl
 told_same client conn one other (event.Bound lu) same = refl
 told_same client conn one other (event.KeyDropped key) same = refl
 told_same client conn one other (event.RuleBroken broken) same = refl
+told_same client conn one other event.CharacterReplaced same = refl
 told_same client conn one other event.Asked same = refl
 told_same client conn one other event.Shown same = ap (λ (host : Host). Showed host conn ∷ []) (same refl)
 told_same client conn one other (event.Closed cause) same = refl

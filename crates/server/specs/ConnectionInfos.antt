@@ -30,6 +30,8 @@ with_event (event.Rejected rejection) info = info
 with_event (event.Bound lu) info = record info { lu = Some lu }
 with_event (event.KeyDropped key) info = info
 with_event (event.RuleBroken broken) info = info
+with_event event.CharacterReplaced info = info
+with_event (event.ScreenRestored why) info = info
 with_event event.Asked info = record info { asked = true }
 with_event event.Shown info = record info { screens = raised info.screens 1 }
 with_event (event.Closed cause) info = record info { ending = Some (ending.Closed cause) }

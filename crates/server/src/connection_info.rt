@@ -68,6 +68,8 @@ impl ConnectionInfo {
             HostEvent::Rejected(_) => {}
             HostEvent::KeyDropped(_) => {}
             HostEvent::RuleBroken(_) => {}
+            HostEvent::CharacterReplaced => {}
+            HostEvent::ScreenRestored(_) => {}
         }
     }
 

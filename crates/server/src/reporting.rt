@@ -29,6 +29,8 @@ fn tell<W: Watcher>(
         HostEvent::Bound(lu) => watcher.notice(&Notice::Bound(*client, lu)),
         HostEvent::KeyDropped(key) => watcher.notice(&Notice::KeyDropped(*client, key)),
         HostEvent::RuleBroken(broken) => watcher.notice(&Notice::RuleBroken(*client, broken)),
+        HostEvent::CharacterReplaced => watcher.notice(&Notice::CharacterReplaced(*client)),
+        HostEvent::ScreenRestored(why) => watcher.notice(&Notice::ScreenRestored(*client, why)),
         HostEvent::Shown => watcher.shown(host, conn),
         HostEvent::Asked | HostEvent::Closed(_) => Ok(()),
     }

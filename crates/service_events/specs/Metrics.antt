@@ -28,6 +28,7 @@ nothing_counted = record {
   rejected = replicate 5 0;
   dropped_keys = 0;
   rule_breaks = 0;
+  restored_screens = 0;
   turns = 0;
   paints = 0;
   received = 0;
@@ -120,6 +121,8 @@ counted (notice.Rejected client rejection) counts =
 counted (notice.Bound client lu) counts = counts
 counted (notice.KeyDropped client dropped) counts = record counts { dropped_keys = raised counts.dropped_keys 1 }
 counted (notice.RuleBroken client broken) counts = record counts { rule_breaks = raised counts.rule_breaks 1 }
+counted (notice.CharacterReplaced client) counts = counts
+counted (notice.ScreenRestored client why) counts = record counts { restored_screens = raised counts.restored_screens 1 }
 counted (notice.Ended client how usage) counts = with_usage usage.turns usage.received usage.sent (with_end how counts)
 counted notice.Asked counts = record counts { asked = raised counts.asked 1 }
 counted (notice.Commanded commanded) counts = counts

@@ -40,6 +40,8 @@ pub struct Metrics {
     pub dropped_keys: u64,
     /// Terminals that broke a rule, if the host verifies them.
     pub rule_breaks: u64,
+    /// Screens that were painted over, since a client's data couldn't be believed.
+    pub restored_screens: u64,
     /// Screens sent after the first one of a connection.
     pub turns: u64,
     /// Screens sent.
@@ -131,6 +133,7 @@ impl Metrics {
             rejected: [0; 5],
             dropped_keys: 0,
             rule_breaks: 0,
+            restored_screens: 0,
             turns: 0,
             paints: 0,
             received: 0,
@@ -173,6 +176,7 @@ impl Metrics {
             }
             Notice::KeyDropped(_, _) => raise(&mut self.dropped_keys, 1),
             Notice::RuleBroken(_, _) => raise(&mut self.rule_breaks, 1),
+            Notice::ScreenRestored(_, _) => raise(&mut self.restored_screens, 1),
             Notice::Ended(_, ending, usage) => {
                 self.end(*ending);
                 self.count_usage(usage.turns, usage.received, usage.sent);
@@ -185,6 +189,7 @@ impl Metrics {
             Notice::Listening(_)
             | Notice::BadProxyHeader(_, _)
             | Notice::Bound(_, _)
+            | Notice::CharacterReplaced(_)
             | Notice::Commanded(_)
             | Notice::Reloaded(_) => {}
         }

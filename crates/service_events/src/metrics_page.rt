@@ -100,6 +100,7 @@ panel3270_turned_away_total {turned_away}
     /// Adds the metrics of keys, screens and bytes.
     fn put_traffic<W: fmt::Write>(&self, f: &mut fmt::Formatter<W>) -> fmt::Result {
         let (dropped_keys, rule_breaks) = (self.dropped_keys, self.rule_breaks);
+        let restored_screens = self.restored_screens;
         let (turns, paints) = (self.turns, self.paints);
         let (received, sent) = (self.received, self.sent);
         write!(
@@ -110,6 +111,9 @@ panel3270_dropped_keys_total {dropped_keys}
 # HELP panel3270_rule_breaks_total Terminals that broke a rule that the host verifies.
 # TYPE panel3270_rule_breaks_total counter
 panel3270_rule_breaks_total {rule_breaks}
+# HELP panel3270_restored_screens_total Screens that were painted over because a client's data couldn't be believed.
+# TYPE panel3270_restored_screens_total counter
+panel3270_restored_screens_total {restored_screens}
 # HELP panel3270_turns_total Screens sent after the first one of a connection.
 # TYPE panel3270_turns_total counter
 panel3270_turns_total {turns}

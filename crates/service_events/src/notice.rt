@@ -4,7 +4,8 @@ ghost use Rattle.service_events.specs.Notices.{ending_of, ending_word};
 
 use crate::limits::Overdue;
 use applications::{KeyName, SessionName};
-use host_core::{DroppedKey, Rejection, Rule, RuleBreak, Served};
+use codes3270::Aid;
+use host_core::{Disbelief, DroppedKey, Rejection, Rule, RuleBreak, Served};
 use service_wire::HeaderFault;
 use std::fmt;
 use std::net::SocketAddr;
@@ -131,6 +132,10 @@ pub enum Notice {
     KeyDropped(Client, DroppedKey),
     /// The terminal broke a rule, and the host closed the connection for that.
     RuleBroken(Client, RuleBreak),
+    /// The client sent characters that its code page lacks; each was replaced.
+    CharacterReplaced(Client),
+    /// The client's data couldn't be believed, and the host painted over what it couldn't believe of the screen.
+    ScreenRestored(Client, Disbelief),
     /// The connection is over.
     Ended(Client, Ending, Usage),
     /// The application was asked a question.
@@ -205,9 +210,10 @@ impl fmt::Display for Notice {
                 None => write!(f, "{client} event=rejected reason={reason}"),
             },
             Notice::Bound(client, lu) => write!(f, "{client} event=bound lu={lu}"),
-            Notice::KeyDropped(client, dropped) => {
-                write!(f, "{client} event=key-dropped key={}", KeyName(dropped.aid))
-            }
+            Notice::KeyDropped(client, dropped) => match dropped.aid {
+                Aid::NoAid => write!(f, "{client} event=key-dropped key=other"),
+                aid => write!(f, "{client} event=key-dropped key={}", KeyName(aid)),
+            },
             Notice::RuleBroken(client, RuleBreak { rule, cell }) => {
                 let rule = match rule {
                     Rule::Applies => "applies",
@@ -215,6 +221,17 @@ impl fmt::Display for Notice {
                     Rule::Sends => "sends",
                 };
                 write!(f, "{client} event=rule-broken rule={rule} cell={cell}")
+            }
+            Notice::CharacterReplaced(client) => {
+                write!(f, "{client} event=character-replaced")
+            }
+            Notice::ScreenRestored(client, why) => {
+                let reason = match why {
+                    Disbelief::Unreadable => "unreadable",
+                    Disbelief::NoKey => "no-key",
+                    Disbelief::Contradicts => "contradicts",
+                };
+                write!(f, "{client} event=screen-restored reason={reason}")
             }
             Notice::Ended(client, ending, usage) => write!(f, "{client} event={ending}{usage}"),
             Notice::Asked => f.write_str("event=asked"),

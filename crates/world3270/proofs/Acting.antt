@@ -200,6 +200,7 @@ reads_uncleared : (app : Application) (conn : Session) (turn_reason : TurnReason
 reads_uncleared app conn turn_reasons.Agreement aid is e clear = empty_unread app.start conn.values (app.next (first_panel app conn) NoAid) e
 reads_uncleared app conn (turn_reasons.Key pressed buffered) aid is e clear = key_uncleared app conn pressed buffered e (is.0 ∙ clear)
 reads_uncleared app conn turn_reasons.Refusal aid is e clear = absurd is
+reads_uncleared app conn turn_reasons.Restoration aid is e clear = absurd is
 
 -- and nothing before a panel was shown
 pub reads_later : (app : Application) (conn : Session) → decision_on app conn conn.turn_reason ≡ Decision.Do Act.Read → conn.turn_reason ≡ turn_reasons.Agreement → ⊥
@@ -224,6 +225,7 @@ decided_closed : (app : Application) (conn : Session) (turn_reason : TurnReason)
 decided_closed app conn turn_reasons.Agreement shadow unread o = o
 decided_closed app conn (turn_reasons.Key pressed buffered) shadow unread o = key_closed app conn pressed buffered shadow unread o
 decided_closed app conn turn_reasons.Refusal shadow unread o = absurd o
+decided_closed app conn turn_reasons.Restoration shadow unread o = absurd o
 
 shows_unread : (decision : Decision) (panel : ℕ) (message : Message) (keep : Bool) (values : Values) → decision ≡ Decision.Do (Act.Show panel message keep values) → NotRead decision
 unfolding NotRead
@@ -252,6 +254,7 @@ pub same_asked : (app : Application) (conn : Session) (reason : TurnReason) → 
 same_asked app conn turn_reasons.Agreement shown_now = absurd (cc)
 same_asked app conn (turn_reasons.Key aid buffered) shown_now = refl
 same_asked app conn turn_reasons.Refusal shown_now = refl
+same_asked app conn turn_reasons.Restoration shown_now = refl
 
 abbrev command_of : Application → Session → ℕ → Message → Bool → Values → CommandParts
 command_of app conn panel message keep values =

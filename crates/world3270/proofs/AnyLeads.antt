@@ -271,6 +271,7 @@ decided_asked app conn true turn_reasons.Agreement is = by_next (app.next (first
     by_next (Go target) = λ reads e. modified_only reads
     by_next Ask = tt
 decided_asked app conn true turn_reasons.Refusal is = λ reads e. modified_only reads
+decided_asked app conn true turn_reasons.Restoration is = λ reads e. modified_only reads
 decided_asked app conn true (turn_reasons.Key aid buffered) is = by_decision (decision_on app conn (turn_reasons.Key aid buffered))
   where
     by_decision : (decision : Decision) → IfSome (decided app conn decision) (λ sending. IsAsked sending.conn)

@@ -218,6 +218,7 @@ pub asked_sure : (app : Application) (conn : Session) (reason : TurnReason) → 
     → (list_any (is_in_doubt conn.shadow) (app.fields conn.panel) ≡ false) ⊎ IsSettled conn.shadow
 asked_sure app conn turn_reasons.Agreement shown_now settled asks = absurd (cc)
 asked_sure app conn turn_reasons.Refusal shown_now settled asks = absurd (cc)
+asked_sure app conn turn_reasons.Restoration shown_now settled asks = absurd (cc)
 asked_sure app conn (turn_reasons.Key aid true) shown_now settled asks = inr settled
 asked_sure app conn (turn_reasons.Key aid false) shown_now settled asks = inl (by_aid aid shown_now asks)
   where
@@ -281,6 +282,7 @@ asked_key : (reason : TurnReason) (aid : Aid) → IsOccasion reason aid → key_
 asked_key turn_reasons.Agreement aid occasion = sym occasion
 asked_key (turn_reasons.Key pressed buffered) aid occasion = occasion.0
 asked_key turn_reasons.Refusal aid occasion = absurd occasion
+asked_key turn_reasons.Restoration aid occasion = absurd occasion
 
 bound_for : (aid : Aid) (bound : Option (List ℕ)) (lu : List ℕ) → bound ≡ Some lu → IsBoundFor aid bound lu
 bound_for NoAid bound lu is = inr is
@@ -296,6 +298,7 @@ asked_cursor : (app : Application) (conn : Session) (reason : TurnReason) (aid :
     → is_ask (decision_on app conn reason) ≡ true → (if is_screen_empty (key_of reason) then 0 else conn.cursor) ≡ place
 asked_cursor app conn turn_reasons.Agreement aid place occasion cursor asks = sym cursor
 asked_cursor app conn turn_reasons.Refusal aid place occasion cursor asks = absurd occasion
+asked_cursor app conn turn_reasons.Restoration aid place occasion cursor asks = absurd occasion
 asked_cursor app conn (turn_reasons.Key NoAid buffered) aid place occasion cursor asks = absurd (occasion.1 (sym occasion.0))
 asked_cursor app conn (turn_reasons.Key Enter true) aid place occasion cursor asks = cursor.0
 asked_cursor app conn (turn_reasons.Key Enter false) aid place occasion cursor asks = cursor.0 refl
@@ -313,6 +316,7 @@ texts_seen : (app : Application) (conn : Session) (screen : Screen) (reason : Tu
     → value_of (if is_screen_empty (key_of reason) then [] else learned conn.shadow (app.fields conn.panel) []) number ≡ Some text → IsPanelText (app.fields (panel_asked app conn reason)) number text screen
 texts_seen app conn screen turn_reasons.Agreement number text meets value = absurd (cc)
 texts_seen app conn screen turn_reasons.Refusal number text meets value = absurd (cc)
+texts_seen app conn screen turn_reasons.Restoration number text meets value = absurd (cc)
 texts_seen app conn screen (turn_reasons.Key NoAid buffered) number text meets value = absurd (cc)
 texts_seen app conn screen (turn_reasons.Key Clear buffered) number text meets value = absurd (cc)
 texts_seen app conn screen (turn_reasons.Key Enter buffered) number text meets value = stands_in conn.shadow screen (app.fields conn.panel) number text meets value
@@ -330,6 +334,7 @@ unformatted_for : (reason : TurnReason) (aid : Aid) (cells : List Cell) → IsOc
     → (aid ≡ Clear → IsUnformatted cells) → IsUnformatted cells
 unformatted_for turn_reasons.Agreement aid cells occasion empty first cleared = first refl
 unformatted_for turn_reasons.Refusal aid cells occasion empty first cleared = absurd occasion
+unformatted_for turn_reasons.Restoration aid cells occasion empty first cleared = absurd occasion
 unformatted_for (turn_reasons.Key NoAid buffered) aid cells occasion empty first cleared = absurd (occasion.1 (sym occasion.0))
 unformatted_for (turn_reasons.Key Clear buffered) aid cells occasion empty first cleared = cleared (sym occasion.0)
 unformatted_for (turn_reasons.Key Enter buffered) aid cells occasion empty first cleared = absurd (cc)

@@ -400,6 +400,7 @@ pub open_for : (turn_reason : TurnReason) (old new : Shadow) → (NothingIsOpen 
 open_for turn_reasons.Agreement old new f o = f o
 open_for (turn_reasons.Key aid buffered) old new f o = open_by aid buffered old new f o
 open_for turn_reasons.Refusal old new f o = absurd o
+open_for turn_reasons.Restoration old new f o = absurd o
 
 -- the host will see the screen with the note on it
 pub sees_noted : LowerLaws → (unheard : Unheard) (shape : ScreenSize) (command : CommandParts) (screen : Screen) (shadow : Shadow) → IsNoteOf shape command → length screen.cells ≡ cells_in shape → Noted command screen → Sees unheard shape screen shadow

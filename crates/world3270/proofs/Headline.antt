@@ -203,6 +203,7 @@ no_refusal : (reason : TurnReason) (aid : Aid) → IsOccasion reason aid → rea
 no_refusal turn_reasons.Agreement aid is e = absurd (cc)
 no_refusal (turn_reasons.Key pressed buffered) aid is e = absurd (cc)
 no_refusal turn_reasons.Refusal aid is e = is
+no_refusal turn_reasons.Restoration aid is e = is
 
 heard_by : (wanted : Option (List ℕ)) (v : View) (moment : LinkPhase) → Fact wanted (local_state_of v) moment → turn_at moment ≡ whose.Host → v.host.turn_reason ≡ turn_reasons.Refusal → ⊥
 heard_by wanted v (LinkPhase.Negotiating talking) f t e = absurd (let first = sym f.0.turn_reason ∙ e in cc)
@@ -263,6 +264,7 @@ closed_by_key : (turn_reason : TurnReason) (aid : Aid) (s : Shadow) → IsOccasi
 closed_by_key turn_reasons.Agreement aid s is sent o = o
 closed_by_key (turn_reasons.Key pressed buffered) aid s is sent o = sent_closed pressed buffered s (subst SentFields (sym is.0) sent) o
 closed_by_key turn_reasons.Refusal aid s is sent o = absurd is
+closed_by_key turn_reasons.Restoration aid s is sent o = absurd is
 
 pub leaves_nothing_open : LowerLaws → Always LeavesNothingOpen
 leaves_nothing_open given app serves pool models events is lists few are =

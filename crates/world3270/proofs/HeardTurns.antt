@@ -83,6 +83,7 @@ read_later : (reason : TurnReason) → (reason ≡ turn_reasons.Agreement → �
 read_later turn_reasons.Agreement later first = later refl
 read_later (turn_reasons.Key aid buffered) later first = absurd (cc)
 read_later turn_reasons.Refusal later first = absurd (cc)
+read_later turn_reasons.Restoration later first = absurd (cc)
 
 buffer_goes : (P : Shadow → Type 0) (pool : Answers) (conn : Session) (size : ScreenSize) (screen : Screen) (number : ℕ) → is_agreed conn.talk.state ≡ true → conn.pending ≡ Pending.Reading number
     → rule_break conn.shadow screen.cells ≡ None → (conn.turn_reason ≡ turn_reasons.Agreement → ⊥) → IsOkAnd (hears (buffer_data size screen) conn) P → GoesOn pool conn (ToHost.Data (buffer_data size screen))

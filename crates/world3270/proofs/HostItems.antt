@@ -1,10 +1,11 @@
 -- What a host makes of an item is what it makes of the message as which it reads the item.
-use Rattle.std.proofs.Common.{◌≡◌, ◌<◌, ◌≤◌, ◌/◌, ◌%◌, ◌^◌, ◌&&◌, inl, inr, ℕ, Bool, true, false, List, [], ◌∷◌, ◌++◌, length, Option, Some, None, Ok, refl, ap, sym, subst, ◌∙◌, arith, if◌then◌else◌}
+use Rattle.std.proofs.Common.{◌≡◌, ◌<◌, ◌≤◌, ◌/◌, ◌%◌, ◌^◌, ◌&&◌, inl, inr, ℕ, Bool, true, false, List, [], ◌∷◌, ◌++◌, length, Option, Some, None, Ok, refl, ap, sym, subst, ◌∙◌, arith, if◌then◌else◌, not, is_some, ◌==◌, ◌-◌}
 use Rattle.codes3270.specs.Size.{ScreenSize, cells_in}
-use Rattle.codes3270.specs.Aid.{aid_of}
+use Rattle.codes3270.specs.Aid.{aid_of, byte_of_aid}
 use Rattle.codes3270.specs.Storable.{is_storable}
 use Rattle.codes3270.specs.declared.attention.Aid.{Aid}
 use Rattle.codes3270.specs.declared.attention.Aid.TheVariants.{NoAid, Enter, Clear, Pf, Pa}
+use Rattle.datastream.specs.Escapes.{has_escapes, without_escapes}
 use Rattle.datastream.specs.Grammar.{set_buffer_address, start_field}
 use Rattle.datastream.specs.InboundText.{AreParts, InboundParts, IsCellPart, IsInbound, IsNoInbound, IsWhole, stands_alone}
 use Rattle.datastream.specs.InboundText.IsInbound.{alone, long}
@@ -15,6 +16,7 @@ use Rattle.datastream.specs.declared.inbound_part.Part.{Part}
 use Rattle.datastream.specs.declared.inbound_part.Part.TheVariants.{At, Char, Attr}
 use Rattle.datastream.specs.Laws.{OneInbound}
 use Rattle.datastream.proofs.InboundData.{first_inbound_fault}
+use Rattle.datastream.proofs.Replacing.{read_as_it_is}
 use Rattle.shadow.specs.Belief.{Shadow}
 use Rattle.shadow.specs.Heard.{heard, heard_form, heard_short}
 use Rattle.telnet_wire.specs.Items.{WireItem}
@@ -28,7 +30,7 @@ use Rattle.tn3270e_msg.proofs.Hearings.{sent_is_heard}
 use Rattle.term_core.specs.Says.{outcome_flag, outcome_code, response_header, data_header}
 use Rattle.term_core.specs.declared.outcome.Outcome.{Outcome}
 use Rattle.term_core.specs.declared.outcome.Outcome.TheVariants.{DeviceEnd, Refused}
-use Rattle.host_core.specs.Items.{TakesData, IsNoSecondKey, IsOther, TakesRecord, TakesRecordIf, Talks, TakesItem, is_paint_or_read, second_key_size, verdict_of}
+use Rattle.host_core.specs.Items.{TakesData, IsNoSecondKey, IsOther, TakesRecord, TakesRecordIf, Talks, TakesItem, is_paint_or_read, second_key_size, verdict_of, TakesAnyData, begins_with_other_aid, is_other_key, is_reading, is_replacing, plain_data, with_known_aid, with_replaced}
 use Rattle.host_core.specs.Messages.{ToHost, Verdict}
 use Rattle.host_core.specs.Session.{Session, Pending, is_agreed}
 use Rattle.host_core.specs.declared.turn.Turn.{Turn}
@@ -224,6 +226,50 @@ heard_as_awaited conn body parts read Pending.Nothing pends second is form size 
 heard_as_awaited conn body parts read (Pending.Writing number command) pends second is form size is_read = form ∙ ap form_awaited pends
 heard_as_awaited conn body parts read (Pending.Noting number command) pends second is form size is_read = form ∙ ap form_awaited pends
 
+-- ---- data that can be read is read as it is
+
+has_an_aid : (parts : InboundParts) (body : List ℕ) → IsInbound parts body → begins_with_other_aid body ≡ false
+has_an_aid parts body (alone byte is_alone aid none nothing encoded) =
+    ap begins_with_other_aid encoded ∙ ap (λ (a : Option Aid). not (is_some a)) aid
+has_an_aid parts body (long byte high low cursor text is_long aid at address are whole encoded) =
+    ap begins_with_other_aid encoded ∙ ap (λ (a : Option Aid). not (is_some a)) aid
+
+no_other_key : (conn : Session) (parts : InboundParts) (body : List ℕ) → IsInbound parts body → is_other_key conn body ≡ false
+no_other_key conn parts body is = by_tests (may_have_changed conn.unheard) (not (is_reading conn.pending)) (has_an_aid parts body is)
+  where
+    by_tests : (changed unread : Bool) → begins_with_other_aid body ≡ false → (changed && (unread && begins_with_other_aid body)) ≡ false
+    by_tests false unread none = refl
+    by_tests true false none = refl
+    by_tests true true none = none
+
+known_aid : (body : List ℕ) → begins_with_other_aid body ≡ false → with_known_aid body ≡ body
+known_aid [] none = refl
+known_aid (byte ∷ rest) none = by_aid (is_some (aid_of byte)) none
+  where
+    by_aid : (known : Bool) → not known ≡ false → ((if known then byte else byte_of_aid NoAid) ∷ rest) ≡ (byte ∷ rest)
+    by_aid true none = refl
+    by_aid false none = absurd (cc)
+
+as_it_is : (conn : Session) (parts : InboundParts) (body : List ℕ) → IsInbound parts body → plain_data conn body ≡ body
+as_it_is conn parts body is = by_test (may_have_changed conn.unheard)
+  where
+    by_test : (changed : Bool) → (if changed then with_known_aid (without_escapes body) else body) ≡ body
+    by_test false = refl
+    by_test true = ap with_known_aid (read_as_it_is parts body is) ∙ known_aid body (has_an_aid parts body is)
+
+all_gone : (n : ℕ) → n - n ≡ 0
+all_gone n = omega arith
+
+none_replaced : (conn : Session) (parts : InboundParts) (body : List ℕ) → IsInbound parts body → is_replacing conn body ≡ false
+none_replaced conn parts body is = by_test (may_have_changed conn.unheard)
+  where
+    none : has_escapes body ≡ false
+    none = ap (λ (b : List ℕ). not ((length body - length b) == 0)) (read_as_it_is parts body is) ∙ ap (λ (n : ℕ). not (n == 0)) (all_gone (length body))
+
+    by_test : (changed : Bool) → (changed && has_escapes body) ≡ false
+    by_test false = refl
+    by_test true = none
+
 -- ---- records
 
 module _ (one_header : OneHeader) (fault_or_header : FaultIsNoHeader) (one_inbound : OneInbound) where
@@ -255,6 +301,14 @@ module _ (one_header : OneHeader) (fault_or_header : FaultIsNoHeader) (one_inbou
   data_is_taken conn body parts step (inl awaited) is takes = awaited_is_taken conn body parts step awaited is takes
   data_is_taken conn body parts step (inr second) is takes = second_is_taken conn body parts step second is takes
 
+  -- no byte of it is replaced
+  any_data_is_taken : (conn : Session) (body : List ℕ) (parts : InboundParts) (step : HostStep) → MayBeSent conn (ToHost.Data parts) → IsInbound parts body → TakesAnyData (is_other_key conn body) conn body step
+      → step ≡ data_came parts conn.turn conn.pending conn
+  any_data_is_taken conn body parts step awaited is takes =
+      let plain = subst (λ (other : Bool). TakesAnyData other conn body step) (no_other_key conn parts body is) takes in
+      plain.2 ∙ ap (λ (b : Bool). with_replaced b plain.0) (none_replaced conn parts body is)
+      ∙ data_is_taken conn body parts plain.0 awaited is (subst (λ (b : List ℕ). TakesData conn b plain.0) (as_it_is conn parts body is) plain.1)
+
   data_taken : (conn : Session) (bytes body : List ℕ) (header : Header) (parts : InboundParts) (step : HostStep) → header.kind ≡ Data3270 → Begins bytes header body
       → MayBeSent conn (ToHost.Data parts) → IsInbound parts body → TakesRecord conn bytes step → step ≡ data_came parts conn.turn conn.pending conn
   data_taken conn bytes body header parts step kind begins awaited is (TakesRecord.no_header fault has e) = absurd (fault_or_header bytes fault header body has begins)
@@ -262,7 +316,7 @@ module _ (one_header : OneHeader) (fault_or_header : FaultIsNoHeader) (one_inbou
       let same = (one_header bytes other header rest body begins' begins).0 in
       absurd (subst IsOther (ap (λ (h : Header). h.kind) same ∙ kind) drops)
   data_taken conn bytes body header parts step kind begins awaited is (TakesRecord.data_is other rest begins' kind' takes) =
-      data_is_taken conn body parts step awaited is (subst (λ (b : List ℕ). TakesData conn b step) (one_header bytes other header rest body begins' begins).1 takes)
+      any_data_is_taken conn body parts step awaited is (subst (λ (b : List ℕ). TakesAnyData (is_other_key conn b) conn b step) (one_header bytes other header rest body begins' begins).1 takes)
   data_taken conn bytes body header parts step kind begins awaited is (TakesRecord.answered other rest begins' kind' e) =
       let same = ap (λ (h : Header). h.kind) (one_header bytes other header rest body begins' begins).0 in
       let both : Response ≡ Data3270 = sym kind' ∙ same ∙ kind in

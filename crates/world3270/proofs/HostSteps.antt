@@ -1,5 +1,5 @@
 -- What a host makes of a message leaves its number and its values as they are, and its turn; it says nothing but talk.
-use Rattle.std.proofs.Common.{◌≡◌, ◌⊎◌, inl, inr, ◌==◌, ℕ, Bool, true, false, Option, None, Result, Ok, Err, List, [], map, refl, sym, ◌∙◌, if◌then◌else◌, Some}
+use Rattle.std.proofs.Common.{◌≡◌, ◌⊎◌, inl, inr, ◌==◌, ℕ, Bool, true, false, Option, None, Result, Ok, Err, List, [], map, refl, sym, ◌∙◌, if◌then◌else◌, Some, not, ltb, suc}
 use Rattle.codes3270.specs.declared.attention.Aid.{Aid}
 use Rattle.codes3270.specs.declared.attention.Aid.TheVariants.{NoAid, Enter, Clear, Pf, Pa}
 use Rattle.datastream.specs.Grammar.{CommandParts}
@@ -21,6 +21,8 @@ use Rattle.tn3270e_msg.specs.declared.reply.Reply.TheVariants as reply
 use Rattle.host_core.specs.Acts.{Act, done}
 use Rattle.host_core.specs.Application.{Application}
 use Rattle.host_core.specs.Messages.{ToTerminal, ToHost, Verdict}
+use Rattle.host_core.specs.declared.disbelief.Disbelief.{Disbelief}
+use Rattle.host_core.specs.declared.disbelief.Disbelief.TheVariants.{Contradicts, NoKey}
 use Rattle.host_core.specs.declared.turn.Turn.{Turn}
 use Rattle.host_core.specs.declared.turn.Turn.TheVariants as whose
 use Rattle.host_core.specs.declared.turn_reason.TurnReason.{TurnReason}
@@ -30,7 +32,7 @@ use Rattle.host_core.specs.declared.unheard.Unheard.TheVariants as unheards
 use Rattle.host_core.specs.Session.{Session, Pending, is_agreed}
 use Rattle.host_core.specs.Rejections.{lu_asked}
 use Rattle.shadow.specs.declared.rule_break.RuleBreak.{RuleBreak}
-use Rattle.host_core.specs.Takes.{buffer_heard, clear_came, is_read_believed, is_unread, may_be_read, only_read, paint_answered, paint_verdict_came, unheard_next, rule_broken_by, unless_broken, Answers, HostStep, quiet, closed_by, replied, granted_by, asked, talked_on, hears, believed, once_read, buffer_came, key_came, key_data_came, data_came, answered, refused, write_refused, if_answers, verdict_came, read_verdict_came, response_came, once_agreed, dropping, second_key, second_key_data, out_of_turn, may_have_changed, took}
+use Rattle.host_core.specs.Takes.{buffer_heard, clear_came, is_read_believed, is_unread, may_be_read, only_read, paint_answered, paint_verdict_came, unheard_next, rule_broken_by, unless_broken, Answers, HostStep, quiet, closed_by, replied, granted_by, asked, talked_on, hears, believed, once_read, buffer_came, key_came, key_data_came, data_came, answered, refused, write_refused, if_answers, verdict_came, read_verdict_came, response_came, once_agreed, dropping, second_key, second_key_data, out_of_turn, may_have_changed, took, breaking, most_restored, painted_over, restoring, sends_wrong, unbelieved}
 
 -- its command still waits for its answer, or nothing does
 pub record JustTalks (old : Session) (step : HostStep) : Type 0 where
@@ -82,16 +84,45 @@ talks pool conn lu talk (reply.Close cause) = replies conn lu None (talk, reply.
 
 -- ---- data
 
+-- data that can't be believed
+paints_over : (why : Disbelief) (turn : Turn) (pending : Pending) (conn : Session) → may_have_changed conn.unheard ≡ true
+    → JustTalks conn (restoring why (painted_over turn pending (record conn { restored = suc conn.restored })))
+paints_over why turn (Pending.Writing number command) conn any =
+    record { number = refl; size = refl; panel = refl; values = refl; message = refl; turn = λ is. is; pending = inl refl; unheard = sym any; reason = inl refl; talk = []; says = refl }
+paints_over why turn (Pending.Reading number) conn any =
+    record { number = refl; size = refl; panel = refl; values = refl; message = refl; turn = λ is. refl; pending = inr refl; unheard = refl; reason = inr (λ e. cc); talk = []; says = refl }
+paints_over why whose.Terminal Pending.Nothing conn any =
+    record { number = refl; size = refl; panel = refl; values = refl; message = refl; turn = λ is. refl; pending = inr refl; unheard = refl; reason = inr (λ e. cc); talk = []; says = refl }
+paints_over why whose.Terminal (Pending.Noting number command) conn any =
+    record { number = refl; size = refl; panel = refl; values = refl; message = refl; turn = λ is. refl; pending = inl refl; unheard = refl; reason = inr (λ e. cc); talk = []; says = refl }
+paints_over why whose.Host Pending.Nothing conn any =
+    record { number = refl; size = refl; panel = refl; values = refl; message = refl; turn = λ is. is; pending = inl refl; unheard = sym any; reason = inl refl; talk = []; says = refl }
+paints_over why whose.Host (Pending.Noting number command) conn any =
+    record { number = refl; size = refl; panel = refl; values = refl; message = refl; turn = λ is. is; pending = inl refl; unheard = sym any; reason = inl refl; talk = []; says = refl }
+
+breaks : (conn : Session) (broken : RuleBreak) → JustTalks conn (breaking broken conn)
+breaks conn broken = record { size = refl; number = refl; panel = refl; values = refl; message = refl; turn = λ is. is; pending = inl refl; unheard = refl; reason = inl refl; talk = []; says = refl }
+
+disbelieves : (why : Disbelief) (conn : Session) → JustTalks conn (unbelieved why conn)
+disbelieves why conn = by_tests (may_have_changed conn.unheard) conn.verifies (ltb conn.restored most_restored) refl
+  where
+    by_tests : (changed verifies few : Bool) → may_have_changed conn.unheard ≡ changed → JustTalks conn (if not changed then closed_by BadInbound conn else if verifies then breaking sends_wrong conn
+        else if few then restoring why (painted_over conn.turn conn.pending (record conn { restored = suc conn.restored })) else closed_by BadInbound conn)
+    by_tests false verifies few any = closes conn BadInbound
+    by_tests true true few any = breaks conn sends_wrong
+    by_tests true false true any = paints_over why conn.turn conn.pending conn any
+    by_tests true false false any = closes conn BadInbound
+
 -- what waits for an answer still does, or nothing does
 believes : (turn_reason : TurnReason) (pending : Pending) (cursor : Option ℕ) (conn : Session) (result : Result Shadow HeardFault) → (pending ≡ conn.pending) ⊎ (pending ≡ Pending.Nothing)
     → (turn_reason ≡ conn.turn_reason) ⊎ (turn_reason ≡ turn_reasons.Agreement → ⊥)
     → JustTalks conn (believed turn_reason pending cursor conn result)
 believes turn_reason pending cursor conn (Ok shadow) waits reason =
     record { number = refl; size = refl; panel = refl; values = refl; message = refl; turn = λ is. refl; pending = waits; unheard = refl; reason = reason; talk = []; says = refl }
-believes turn_reason pending cursor conn (Err fault) waits reason = closes conn _
+believes turn_reason pending cursor conn (Err fault) waits reason = disbelieves Contradicts conn
 
 hears_key : (parts : InboundParts) (aid : Aid) (conn : Session) → JustTalks conn (key_came parts aid conn)
-hears_key parts NoAid conn = closes conn _
+hears_key parts NoAid conn = disbelieves NoKey conn
 hears_key parts Enter conn = believes (turn_reasons.Key Enter false) conn.pending parts.cursor conn (hears parts conn) (inl refl) (inr (λ e. cc))
 hears_key parts Clear conn = believes (turn_reasons.Key Clear false) conn.pending parts.cursor conn (hears parts conn) (inl refl) (inr (λ e. cc))
 hears_key parts (Pf key) conn = believes (turn_reasons.Key (Pf key) false) conn.pending parts.cursor conn (hears parts conn) (inl refl) (inr (λ e. cc))
@@ -118,7 +149,7 @@ hears_clear parts conn any = by_test (is_unread conn.turn_reason)
     by_test false = drops_clear conn any
 
 drops_key : (parts : InboundParts) (aid : Aid) (pending : Pending) (conn : Session) → may_have_changed conn.unheard ≡ true → JustTalks conn (second_key parts aid pending conn)
-drops_key parts NoAid pending conn any = closes conn _
+drops_key parts NoAid pending conn any = disbelieves NoKey conn
 drops_key parts Enter pending conn any = drops conn conn Enter refl refl refl refl refl refl refl refl refl
 drops_key parts Clear Pending.Nothing conn any = hears_clear parts conn any
 drops_key parts Clear (Pending.Writing number command) conn any = drops_clear conn any
@@ -142,6 +173,7 @@ comes_out_of_turn parts conn = by_test (may_have_changed conn.unheard) refl
 read_reason : (reason : TurnReason) → (once_read reason ≡ reason) ⊎ (once_read reason ≡ turn_reasons.Agreement → ⊥)
 read_reason turn_reasons.Agreement = inl refl
 read_reason turn_reasons.Refusal = inl refl
+read_reason turn_reasons.Restoration = inl refl
 read_reason (turn_reasons.Key aid buffered) = inr (λ e. cc)
 
 hears_buffer : (parts : InboundParts) (form : Form) (conn : Session) → JustTalks conn (buffer_came parts form conn)
@@ -153,7 +185,7 @@ hears_buffer parts Buffer conn = by_break (rule_broken_by parts conn)
         by_count : (b : Bool) → JustTalks conn (if b then believed (once_read conn.turn_reason) Pending.Nothing parts.cursor conn (hears parts conn) else quiet (only_read conn))
         by_count true = believes (once_read conn.turn_reason) Pending.Nothing parts.cursor conn (hears parts conn) (inr refl) (read_reason conn.turn_reason)
         by_count false = settles conn (only_read conn) refl refl refl refl refl (λ is. refl) refl refl (read_reason conn.turn_reason)
-    by_break (Some broken) = record { size = refl; number = refl; panel = refl; values = refl; message = refl; turn = λ is. is; pending = inl refl; unheard = refl; reason = inl refl; talk = []; says = refl }
+    by_break (Some broken) = breaks conn broken
 hears_buffer parts Modified conn = comes_out_of_turn parts conn
 hears_buffer parts AllModified conn = comes_out_of_turn parts conn
 

@@ -163,6 +163,7 @@ module _ (app : Application) (conn : Session) (screen : Screen) where
 names_it : (app : Application) (conn : Session) (reason : TurnReason) (aid : Aid) → IsOccasion reason aid → panel_asked app conn reason ≡ panel_with_keys app conn aid
 names_it app conn turn_reasons.Agreement aid occasion = sym (ap (panel_with_keys app conn) occasion)
 names_it app conn turn_reasons.Refusal aid occasion = absurd occasion
+names_it app conn turn_reasons.Restoration aid occasion = absurd occasion
 names_it app conn (turn_reasons.Key pressed buffered) aid occasion = by_aid pressed occasion.0
   where
     by_aid : (key : Aid) → key ≡ aid → conn.panel ≡ panel_with_keys app conn aid
@@ -220,6 +221,7 @@ module _ (given : LowerLaws) (app : Application) (is : IsApplication app) (shows
       → ShownIn app link.term.waits conn link.term.display.before_restored link.term.display.last_restored screen SessionPhase.Deciding → LeadsFrom (panel_asked app conn reason) reason
   by_reason turn_reasons.Agreement reason_is occasion f showing = first_leads occasion
   by_reason turn_reasons.Refusal reason_is occasion f showing = absurd occasion
+  by_reason turn_reasons.Restoration reason_is occasion f showing = absurd occasion
   by_reason (turn_reasons.Key aid buffered) reason_is occasion f showing =
       pressed_leads f showing (λ first. absurd (let both = sym first ∙ reason_is in cc)) aid buffered (sym occasion.0) (λ none. occasion.1 (sym occasion.0 ∙ none))
       (subst (λ (r : TurnReason). IsKnownIfRead r conn.shadow) reason_is showing.1)

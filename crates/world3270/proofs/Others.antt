@@ -1,5 +1,5 @@
 -- What an event leaves as it is.
-use Rattle.std.proofs.Common.{◌≡◌, ◌↔◌, ◌==◌, ℕ, Bool, true, false, Option, None, Some, Result, Ok, Err, List, [], ◌∷◌, refl, ap, sym, subst, ◌∙◌, if◌then◌else◌}
+use Rattle.std.proofs.Common.{◌≡◌, ◌↔◌, ◌==◌, ℕ, Bool, true, false, Option, None, Some, Result, Ok, Err, List, [], ◌∷◌, refl, ap, sym, subst, ◌∙◌, if◌then◌else◌, not, ltb, suc}
 use Rattle.codes3270.specs.declared.size.Model.{Model}
 use Rattle.std.proofs.lemmas.Bool.{and_parts}
 use Rattle.std.proofs.lemmas.Slice.Eq.{bytes_eq-Decides}
@@ -31,6 +31,8 @@ use Rattle.host_core.specs.Acts.{acted}
 use Rattle.host_core.specs.Application.{Application}
 use Rattle.host_core.specs.Messages.{ToTerminal, ToHost, Verdict}
 use Rattle.host_core.specs.Notes.{noted}
+use Rattle.host_core.specs.declared.disbelief.Disbelief.{Disbelief}
+use Rattle.host_core.specs.declared.disbelief.Disbelief.TheVariants.{Contradicts, NoKey}
 use Rattle.host_core.specs.declared.turn.Turn.{Turn}
 use Rattle.host_core.specs.declared.turn.Turn.TheVariants as whose
 use Rattle.host_core.specs.declared.turn_reason.TurnReason.{TurnReason}
@@ -39,7 +41,7 @@ use Rattle.host_core.specs.declared.unheard.Unheard.TheVariants as unheards
 use Rattle.host_core.specs.Session.{Session, Pending, is_agreed}
 use Rattle.host_core.specs.Rejections.{lu_asked}
 use Rattle.shadow.specs.declared.rule_break.RuleBreak.{RuleBreak}
-use Rattle.host_core.specs.Takes.{buffer_heard, clear_came, dropping, is_read_believed, is_unread, only_read, paint_verdict_came, rule_broken_by, unless_broken, Answers, HostStep, quiet, closed_by, asked, talked_on, hears, believed, once_read, buffer_came, key_came, key_data_came, data_came, refused, write_refused, if_answers, verdict_came, read_verdict_came, response_came, once_agreed, second_key, second_key_data, out_of_turn, may_have_changed, took as host_took}
+use Rattle.host_core.specs.Takes.{buffer_heard, clear_came, dropping, is_read_believed, is_unread, only_read, paint_verdict_came, rule_broken_by, unless_broken, Answers, HostStep, quiet, closed_by, asked, talked_on, hears, believed, once_read, buffer_came, key_came, key_data_came, data_came, refused, write_refused, if_answers, verdict_came, read_verdict_came, response_came, once_agreed, second_key, second_key_data, out_of_turn, may_have_changed, took as host_took, breaking, most_restored, painted_over, restoring, sends_wrong, unbelieved}
 use Rattle.host_core.specs.Questions.{answered_on}
 use Rattle.world3270.specs.statement.Always.{Always}
 use Rattle.world3270.specs.refinement.LowerLaws.{LowerLaws}
@@ -150,12 +152,22 @@ talked_grants pool conn sought talk (reply.Refused reason) lu e = absurd (cc)
 talked_grants pool conn sought talk (reply.Close cause) lu e = absurd (cc)
 
 -- records grant nothing
+unbelieved_grants : (why : Disbelief) (conn : Session) → (unbelieved why conn).grants ≡ None
+unbelieved_grants why conn = by_tests (may_have_changed conn.unheard) conn.verifies (ltb conn.restored most_restored)
+  where
+    by_tests : (changed verifies few : Bool) → HostStep.grants (if not changed then closed_by BadInbound conn else if verifies then breaking sends_wrong conn
+        else if few then restoring why (painted_over conn.turn conn.pending (record conn { restored = suc conn.restored })) else closed_by BadInbound conn) ≡ None
+    by_tests false verifies few = refl
+    by_tests true true few = refl
+    by_tests true false true = refl
+    by_tests true false false = refl
+
 believed_grants : (turn_reason : TurnReason) (pending : Pending) (cursor : Option ℕ) (conn : Session) (result : Result Shadow HeardFault) → (believed turn_reason pending cursor conn result).grants ≡ None
 believed_grants turn_reason pending cursor conn (Ok shadow) = refl
-believed_grants turn_reason pending cursor conn (Err fault) = refl
+believed_grants turn_reason pending cursor conn (Err fault) = unbelieved_grants Contradicts conn
 
 key_grants : (parts : InboundParts) (aid : Aid) (conn : Session) → (key_came parts aid conn).grants ≡ None
-key_grants parts NoAid conn = refl
+key_grants parts NoAid conn = unbelieved_grants NoKey conn
 key_grants parts Enter conn = believed_grants (turn_reasons.Key Enter false) conn.pending parts.cursor conn (hears parts conn)
 key_grants parts Clear conn = believed_grants (turn_reasons.Key Clear false) conn.pending parts.cursor conn (hears parts conn)
 key_grants parts (Pf key) conn = believed_grants (turn_reasons.Key (Pf key) false) conn.pending parts.cursor conn (hears parts conn)
@@ -174,7 +186,7 @@ clear_grants parts conn = by_test (is_unread conn.turn_reason)
     by_test false = refl
 
 second_key_grants : (parts : InboundParts) (aid : Aid) (pending : Pending) (conn : Session) → (second_key parts aid pending conn).grants ≡ None
-second_key_grants parts NoAid pending conn = refl
+second_key_grants parts NoAid pending conn = unbelieved_grants NoKey conn
 second_key_grants parts Enter pending conn = refl
 second_key_grants parts Clear Pending.Nothing conn = clear_grants parts conn
 second_key_grants parts Clear (Pending.Writing number command) conn = refl

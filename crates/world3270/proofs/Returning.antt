@@ -331,8 +331,9 @@ pa_counts (turn_reasons.Key (Pa key) buffered) aid is = ap is_pa is.0
 pa_counts (turn_reasons.Key Enter buffered) aid is = ap is_pa is.0
 pa_counts (turn_reasons.Key (Pf key) buffered) aid is = ap is_pa is.0
 pa_counts (turn_reasons.Key Clear buffered) aid is = ap is_pa is.0
-pa_counts (turn_reasons.Key NoAid buffered) aid is = ap is_pa is.0
+pa_counts (turn_reasons.Key NoAid buffered) aid is = absurd (is.1 (sym is.0))
 pa_counts turn_reasons.Refusal aid is = absurd is
+pa_counts turn_reasons.Restoration aid is = absurd is
 
 unread_pa : (reason : TurnReason) → is_after_pa reason ≡ false → is_unread reason ≡ false
 unread_pa turn_reasons.Agreement no_pa = refl
@@ -340,8 +341,9 @@ unread_pa (turn_reasons.Key (Pa key) buffered) no_pa = absurd (cc)
 unread_pa (turn_reasons.Key Enter buffered) no_pa = refl
 unread_pa (turn_reasons.Key (Pf key) buffered) no_pa = refl
 unread_pa (turn_reasons.Key Clear buffered) no_pa = refl
-unread_pa (turn_reasons.Key NoAid buffered) no_pa = refl
+unread_pa (turn_reasons.Key NoAid buffered) no_pa = absurd (cc)
 unread_pa turn_reasons.Refusal no_pa = refl
+unread_pa turn_reasons.Restoration no_pa = refl
 
 -- The answer to a Read Buffer counts after PA alone.
 pub read_skipped : LowerLaws → (conn : Session) (number : ℕ) → conn.turn ≡ whose.Host → conn.pending ≡ Pending.Reading number → may_have_changed conn.unheard ≡ true → is_after_pa conn.turn_reason ≡ false → HostReturns conn → is_read_believed conn ≡ false

@@ -301,6 +301,7 @@ decision_texts : (app : Application) (conn : Session) (turn_reason : TurnReason)
 decision_texts app conn turn_reasons.Agreement texts known = empty_texts app.start conn.values (app.next (first_panel app conn) NoAid) texts
 decision_texts app conn (turn_reasons.Key aid buffered) texts known = key_texts app conn aid buffered texts known
 decision_texts app conn turn_reasons.Refusal texts known = texts
+decision_texts app conn turn_reasons.Restoration texts known = texts
 
 -- so does an answer
 without_texts : (panel : List PanelField) (values : Values) → AreTexts values → AreTexts (without_fields panel values)

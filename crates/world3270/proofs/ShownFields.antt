@@ -108,6 +108,7 @@ again_decided : (app : Application) (conn : Session) (reason : TurnReason) → i
 again_decided app conn turn_reasons.Agreement = again_empty app.start conn.values (app.next (first_panel app conn) NoAid)
 again_decided app conn (turn_reasons.Key aid buffered) = again_key app conn aid buffered
 again_decided app conn turn_reasons.Refusal = refl
+again_decided app conn turn_reasons.Restoration = refl
 
 again_answered : (app : Application) (conn : Session) (said : ApplicationAnswer) (panel : Option ℕ) → is_again_by (act_by app conn said panel) ≡ true
 again_answered app conn said None = by_value (has_value_of (app.fields conn.panel) said.values)
@@ -245,6 +246,7 @@ module _ (app : Application) (conn : Session) where
   decided_keeps turn_reasons.Agreement read = empty_keeps app.start conn.values (app.next (first_panel app conn) NoAid)
   decided_keeps (turn_reasons.Key aid buffered) read = key_keeps aid buffered read
   decided_keeps turn_reasons.Refusal read = λ keeps. absurd (cc)
+  decided_keeps turn_reasons.Restoration read = λ keeps. absurd (cc)
 
 -- which numbers are equal
 is_some_if : (b : Bool) → cond {A = Option (List ℕ)} b (Some []) None ≡ Some [] → b ≡ true

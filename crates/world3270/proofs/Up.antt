@@ -322,29 +322,34 @@ open_read : (turn_reason : TurnReason) (s old : Shadow) → NothingIsOpen s → 
 open_read turn_reasons.Agreement s old o was = o
 open_read (turn_reasons.Key aid buffered) s old o was = all_open aid true s o
 open_read turn_reasons.Refusal s old o was = absurd was
+open_read turn_reasons.Restoration s old o was = absurd was
 
 -- the key that was pressed is still the reason, once its screen was read
 read_occasion : (turn_reason : TurnReason) (aid : Aid) → IsOccasion turn_reason aid → IsOccasion (once_read turn_reason) aid
 read_occasion turn_reasons.Agreement aid is = is
 read_occasion (turn_reasons.Key pressed buffered) aid is = is
 read_occasion turn_reasons.Refusal aid is = absurd is
+read_occasion turn_reasons.Restoration aid is = absurd is
 
 settled_read : (turn_reason : TurnReason) (shadow : Shadow) → IsSettled shadow → IsKnownIfRead (once_read turn_reason) shadow
 settled_read turn_reasons.Agreement shadow settled = tt
 settled_read (turn_reasons.Key aid buffered) shadow settled = settled
 settled_read turn_reasons.Refusal shadow settled = tt
+settled_read turn_reasons.Restoration shadow settled = tt
 
 unread_settled : (turn_reason : TurnReason) (shadow : Shadow) → IsUnread turn_reason → IsKnownIfRead turn_reason shadow
 unread_settled turn_reasons.Agreement shadow unread = absurd unread
 unread_settled (turn_reasons.Key aid true) shadow unread = absurd unread
 unread_settled (turn_reasons.Key aid false) shadow unread = tt
 unread_settled turn_reasons.Refusal shadow unread = tt
+unread_settled turn_reasons.Restoration shadow unread = tt
 
 -- once the screen was read the host knows where the cursor is
 read_cursor : (turn_reason : TurnReason) (aid : Aid) (place : ℕ) → (turn_reason ≡ turn_reasons.Agreement → ⊥) → IsOccasion turn_reason aid → (aid ≡ Clear → ⊥) → IsCursorFor (once_read turn_reason) place place
 read_cursor turn_reasons.Agreement aid place later occasion uncleared = absurd (later refl)
 read_cursor (turn_reasons.Key pressed buffered) aid place later occasion uncleared = (refl, λ clear. absurd (uncleared (sym occasion.0 ∙ clear)))
 read_cursor turn_reasons.Refusal aid place later occasion uncleared = tt
+read_cursor turn_reasons.Restoration aid place later occasion uncleared = tt
 
 -- and it knew that where the answer doesn't count, since Enter and PF keys send the cursor address
 known_cursor : (turn_reason : TurnReason) (aid : Aid) (known place : ℕ) → is_after_pa turn_reason ≡ false → IsOccasion turn_reason aid → (aid ≡ Clear → ⊥) → IsCursorFor turn_reason known place → IsCursorFor (once_read turn_reason) known place
@@ -357,12 +362,14 @@ known_cursor (turn_reasons.Key (Pa key) buffered) aid known place no_pa occasion
 known_cursor (turn_reasons.Key Clear buffered) aid known place no_pa occasion uncleared on = absurd (uncleared (sym occasion.0))
 known_cursor (turn_reasons.Key NoAid buffered) aid known place no_pa occasion uncleared on = absurd (occasion.1 (sym occasion.0))
 known_cursor turn_reasons.Refusal aid known place no_pa occasion uncleared on = tt
+known_cursor turn_reasons.Restoration aid known place no_pa occasion uncleared on = tt
 
 -- reading isn't the first that happens
 read_later : (turn_reason : TurnReason) → (turn_reason ≡ turn_reasons.Agreement → ⊥) → once_read turn_reason ≡ turn_reasons.Agreement → ⊥
 read_later turn_reasons.Agreement later is = later refl
 read_later (turn_reasons.Key pressed buffered) later is = absurd (cc)
 read_later turn_reasons.Refusal later is = absurd (cc)
+read_later turn_reasons.Restoration later is = absurd (cc)
 
 module _ (given : LowerLaws) (app : Application) (pool : List Entry) (link : Link) (rest : List ToHost) (k : ConnectionInvariant app (view_of link)) (same : link.term.display.size ≡ link.host.size) where
   abbrev screen : Screen

@@ -3,13 +3,15 @@
 //! ```text
 //! read NOW ALTERNATE BYTES    a command for a screen of the size of NOW, whose own model is ALTERNATE
 //! inbound FORM MODEL BYTES    data of a form (modified, all, buffer)
+//! replace BYTES               appends inbound data with its graphic escapes replaced: whether there were any
 //! begin CODE WCC; sba ADDR; sf BYTE; chars BYTES; ra ADDR BYTE; ic    a writer appends it
 //! ```
 use crate::subjects::cells::{are_storable, at, character, form};
 use crate::talk::{Answer, Fault, Hex, Put, Subject, Words};
 use codes3270::{Attr, Size, Wcc, aid_byte};
 use datastream::{
-    Cells, Command, CommandCode, CommandWriter, Form, Inbound, read_command, read_inbound,
+    Cells, Command, CommandCode, CommandWriter, Form, Inbound, WithoutEscapes, has_escapes,
+    read_command, read_inbound,
 };
 use std::fmt::{Debug, Display};
 
@@ -89,6 +91,20 @@ fn read_data(answer: &mut Answer, form: Form, size: Size, bytes: &[u8]) {
     }
 }
 
+fn put_plain(out: &mut Vec<u8>, bytes: &[u8]) -> Put {
+    for byte in WithoutEscapes::new(bytes) {
+        out.push(byte)?;
+    }
+    Ok(())
+}
+
+fn replace(answer: &mut Answer, bytes: &[u8]) {
+    let replaced = put_plain(&mut answer.out, bytes);
+    let escapes = has_escapes(bytes);
+    answer.done(replaced);
+    writeln!(answer, "escapes {escapes}")
+}
+
 fn put_text(words: &mut Words<'_>, to: &mut CommandWriter<'_>) -> Put {
     let text = words.bytes();
     if are_storable(text) {
@@ -124,6 +140,7 @@ impl Subject for Commands {
         match word {
             "read" => read(answer, words.size(), words.size(), words.bytes()),
             "inbound" => read_data(answer, form(words), words.size(), words.bytes()),
+            "replace" => replace(answer, words.bytes()),
             _ => write(words, answer, word),
         }
     }

@@ -114,6 +114,8 @@ fn put_event(answer: &mut Answer, event: HostEvent) {
         HostEvent::Bound(lu) => answer.line(&("Bound", lu)),
         HostEvent::KeyDropped(it) => answer.line(&("KeyDropped", aid_byte(it.aid))),
         HostEvent::RuleBroken(it) => answer.line(&("RuleBroken", it)),
+        HostEvent::CharacterReplaced => answer.line(&"CharacterReplaced"),
+        HostEvent::ScreenRestored(why) => answer.line(&("ScreenRestored", why)),
         HostEvent::Asked => answer.line(&"Asked"),
         HostEvent::Shown => answer.line(&"Shown"),
         HostEvent::Closed(cause) => answer.line(&("Closed", cause)),

@@ -263,6 +263,7 @@ IsUnread turn_reasons.Agreement = ⊥
 IsUnread (turn_reasons.Key aid true) = ⊥
 IsUnread (turn_reasons.Key aid false) = ⊤
 IsUnread turn_reasons.Refusal = ⊤
+IsUnread turn_reasons.Restoration = ⊤
 
 -- `left`: the screen that the host's last restoring write left; `before`: the one that it found; `now`: the present one
 abbrev pub ShownIn : Application → Bool → Session → (before left now : Screen) → SessionPhase → Type 0

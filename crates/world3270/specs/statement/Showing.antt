@@ -33,6 +33,7 @@ IsKnownIfRead turn_reasons.Agreement shadow = ⊤
 IsKnownIfRead (turn_reasons.Key aid true) shadow = IsSettled shadow
 IsKnownIfRead (turn_reasons.Key aid false) shadow = ⊤
 IsKnownIfRead turn_reasons.Refusal shadow = ⊤
+IsKnownIfRead turn_reasons.Restoration shadow = ⊤
 
 -- Holds if the connection has a panel in the form for its terminal's model, and the host, if it read the screen, knows
 -- the text of each field.

@@ -17,11 +17,12 @@ use Rattle.world3270.specs.statement.Observation.{seen_link}
 use Rattle.world3270.specs.model.World.{World}
 
 -- Holds if the reason of the turn fits the screen's AID: no key was pressed since both ends agreed, or it is the key
--- with this AID. A refusal is never the reason.
+-- with this AID. No refusal is ever the reason, nor data that couldn't be believed: no screen is restored.
 abbrev pub IsOccasion : TurnReason → Aid → Type 0
 IsOccasion turn_reasons.Agreement aid = aid ≡ NoAid
 IsOccasion (turn_reasons.Key pressed buffered) aid = (pressed ≡ aid) × (aid ≡ NoAid → ⊥)
 IsOccasion turn_reasons.Refusal aid = ⊥
+IsOccasion turn_reasons.Restoration aid = ⊥
 
 -- When the host decides, it does so for the key whose AID the screen has.
 abbrev pub ActsOnTheKey : World → Type 0
@@ -42,6 +43,7 @@ abbrev pub IsOpenFor : TurnReason → Shadow → Type 0
 IsOpenFor turn_reasons.Agreement shadow = NothingIsOpen shadow
 IsOpenFor (turn_reasons.Key aid buffered) shadow = IsOpenBy aid buffered shadow
 IsOpenFor turn_reasons.Refusal shadow = ⊥
+IsOpenFor turn_reasons.Restoration shadow = ⊥
 
 -- Holds if the cursor is at 0 after Clear.
 abbrev pub IsHome : Aid → (place : ℕ) → Type 0
@@ -54,6 +56,7 @@ IsCursorFor turn_reasons.Agreement known place = place ≡ 0
 IsCursorFor (turn_reasons.Key aid true) known place = (known ≡ place) × IsHome aid place
 IsCursorFor (turn_reasons.Key aid false) known place = (is_short_aid aid ≡ false → known ≡ place) × IsHome aid place
 IsCursorFor turn_reasons.Refusal known place = ⊤
+IsCursorFor turn_reasons.Restoration known place = ⊤
 
 -- After Enter or a PF key a host that relies on the terminal's wait knows each unprotected field's text, or knows that
 -- it is either that text or all nulls. (A host that doesn't may have fields in doubt; then it reads the screen.)

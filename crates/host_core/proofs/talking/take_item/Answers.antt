@@ -20,9 +20,9 @@ returns-in_default-clause-panel c = ap (λ (conn : Session). conn.panel) c.sessi
 
 pub returns-then-is_agreed-clause-taken : goal.returns-then-is_agreed-clause-taken
 returns-then-is_agreed-clause-taken c =
-    record_taken _ _ _ c.take_record-after.new.self _ c.in-Record.bytes.now _ c.take_record-after.result _ _ _ (ap item_of c.in-Record.is)
+    record_taken _ _ _ c.take_record-after.new.self _ c.in-Record.bytes.now _ c.take_record-after.result.0 c.take_record-after.result.1 _ _ c.keep_replaced.new.self _ (ap item_of c.in-Record.is)
     (ap (λ (conn : Session). is_agreed conn.talk.state) (sym c.session.view_is) ∙ sym c.is_agreed.ensures ∙ c.if-is_agreed.true) c.take_record-after.ensures.taken
-    (c.keep_report.ensures.closes c.take_record-after.new.self) (c.keep_report.ensures.kept c.take_record-after.new.self)
+    (c.keep_report.ensures.closes c.take_record-after.new.self) c.keep_replaced.ensures (c.keep_report.ensures.kept c.take_record-after.new.self)
 
 pub returns-then-is_agreed-clause-holds : goal.returns-then-is_agreed-clause-holds
 returns-then-is_agreed-clause-holds c =

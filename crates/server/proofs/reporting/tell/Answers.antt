@@ -19,6 +19,14 @@ pub returns-in-RuleBroken : goal.returns-in-RuleBroken
 returns-in-RuleBroken g c =
     rw c.in-RuleBroken.is (told_once g.W.Watcher.noticed g.W.Watcher.showed (Noticed (notice.RuleBroken c.args.client.now c.in-RuleBroken.broken)) c.args.watcher.now c.notice-in-RuleBroken.new.self c.notice-in-RuleBroken.result c.notice-in-RuleBroken.ensures)
 
+pub returns-in-CharacterReplaced : goal.returns-in-CharacterReplaced
+returns-in-CharacterReplaced g c =
+    rw c.in-CharacterReplaced.is (told_once g.W.Watcher.noticed g.W.Watcher.showed (Noticed (notice.CharacterReplaced c.args.client.now)) c.args.watcher.now c.notice-in-CharacterReplaced.new.self c.notice-in-CharacterReplaced.result c.notice-in-CharacterReplaced.ensures)
+
+pub returns-in-ScreenRestored : goal.returns-in-ScreenRestored
+returns-in-ScreenRestored g c =
+    rw c.in-ScreenRestored.is (told_once g.W.Watcher.noticed g.W.Watcher.showed (Noticed (notice.ScreenRestored c.args.client.now c.in-ScreenRestored.why)) c.args.watcher.now c.notice-in-ScreenRestored.new.self c.notice-in-ScreenRestored.result c.notice-in-ScreenRestored.ensures)
+
 pub returns-in-Shown : goal.returns-in-Shown
 returns-in-Shown g c =
     rw c.in-Shown.is (told_once g.W.Watcher.noticed g.W.Watcher.showed (Showed c.args.host.now c.args.conn) c.args.watcher.now c.shown.new.self c.shown.result c.shown.ensures)

@@ -1,7 +1,7 @@
 use Rattle.std.proofs.Common.{[], take, sym, ◌∙◌, None}
 use Rattle.telnet_wire.proofs.Running.{all_running}
 use Rattle.tn3270e_msg.specs.Header.{record_limit}
-use Rattle.host_core.proofs.ByteSteps.{byte_behind, byte_breaks, byte_completes, byte_goes_on, claimed, data_taken, just_freed, left_running, others_compose, others_left}
+use Rattle.host_core.proofs.ByteSteps.{item_within, byte_behind, byte_breaks, byte_completes, byte_goes_on, claimed, data_taken, just_freed, left_running, others_compose, others_left}
 use Rattle.host_core.proofs.TalkSteps.{same_others}
 use Rattle.host_core.proofs.connection.HostEnd.take_some.Goals as goal
 
@@ -42,6 +42,12 @@ returns-in-Ok-More-clause-others c = same_others c.args.conn c.args.pool.now
 
 pub returns-in-Ok-More-clause-left : goal.returns-in-Ok-More-clause-left
 returns-in-Ok-More-clause-left c = left_running None _ _ c.in-Some.byte.now (all_running record_limit (take c.push_data-count.result c.args.bytes.now) [] c.args.self.now.decoder c.push_data-count.new.self c.requires.running c.push_data-count.ensures.taken) c.in-Ok-More.ensures.taken.0
+
+pub take_item-closes-requires-clause-few : goal.take_item-closes-requires-clause-few
+take_item-closes-requires-clause-few c =
+    item_within c.push_data-count.new.self c.push.new.self c.in-Some.byte.now _
+    (all_running record_limit (take c.push_data-count.result c.args.bytes.now) [] c.args.self.now.decoder c.push_data-count.new.self c.requires.running c.push_data-count.ensures.taken)
+    c.in-Ok-Ready.ensures.taken.0 c.item-item.ensures
 
 pub returns-in-Ok-Ready-clause-taken : goal.returns-in-Ok-Ready-clause-taken
 returns-in-Ok-Ready-clause-taken c =

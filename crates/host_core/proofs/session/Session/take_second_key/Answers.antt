@@ -7,7 +7,7 @@ use Rattle.host_core.proofs.session.Session.take_second_key.Goals as goal
 
 pub returns-then-not-may_be_second_key-clause-taken : goal.returns-then-not-may_be_second_key-clause-taken
 returns-then-not-may_be_second_key-clause-taken c =
-    of_no_key c.args.self.now c.args.body.now c.requires.0 c.requires.1 (sym c.may_be_second_key.ensures ∙ c.if-not-may_be_second_key.true)
+    of_no_key c.args.self.now c.drop_unbelieved.new.self c.drop_unbelieved.result c.args.body.now c.requires.0 c.requires.1 (sym c.may_be_second_key.ensures ∙ c.if-not-may_be_second_key.true) c.drop_unbelieved.ensures.came
 
 pub returns-in-Ok-clause-taken : goal.returns-in-Ok-clause-taken
 returns-in-Ok-clause-taken c =
@@ -21,5 +21,6 @@ drop_key-requires c = record { size = λ none. no_paint_sized c.args.self.now c.
 
 pub returns-in-Err-clause-taken : goal.returns-in-Err-clause-taken
 returns-in-Err-clause-taken c =
-    of_no_data c.args.self.now c.args.body.now c.requires.0 c.in-Err.field-0 c.requires.1
+    of_no_data c.args.self.now c.drop_unbelieved-in-Err.new.self c.drop_unbelieved-in-Err.result c.args.body.now c.requires.0 c.in-Err.field-0 c.requires.1
     (subst (λ (size : ScreenSize). IsNoInbound size Modified c.in-Err.field-0 c.args.body.now) c.second_key_size.ensures c.in-Err.ensures.found)
+    c.drop_unbelieved-in-Err.ensures.came
