@@ -15,7 +15,7 @@ with --characters some that the code page lacks; --all is all three.
 
 A line for each example and model has the keys pressed, the turns of the host, the bytes and the
 Read Buffers a turn, the Resets in the wait, the keys that the host dropped, the rules that were
-broken, and how the connections ended: `lost`, if s3270 ended them, `ended-by-application`, or the
+broken, the screens that were restored, and how the connections ended: `lost`, if s3270 ended them, `ended-by-application`, or the
 host's cause, and after it which key of the last records it was: a light pen's, a character that
 the code page lacks, Clear or another. A last line sums these up. Of each close by another key than
 the first two kinds it prints the rule or the cause, the last keys, and the last records up to what
@@ -313,14 +313,21 @@ def spelt(record):
 def row(name, model, play):
     """The line of a play."""
     ends = " ".join(f"{it}:{count}" for it, count in sorted(play.ends.items()))
-    turns, dropped, breaks, up, down = (
+    turns, dropped, breaks, restored, up, down = (
         int(play.counted.get(f"{it}_total", 0))
-        for it in ("turns", "dropped_keys", "rule_breaks", "received_bytes", "sent_bytes")
+        for it in (
+            "turns",
+            "dropped_keys",
+            "rule_breaks",
+            "restored_screens",
+            "received_bytes",
+            "sent_bytes",
+        )
     )
     a_turn = [it / max(turns, 1) for it in (down, up, play.reads)]
     return (
         f"{name:10} {model:1} {play.keys:6} {turns:6} {a_turn[0]:6.0f} {a_turn[1]:6.0f} "
-        f"{a_turn[2]:6.3f} {play.resets:6} {dropped:7} {breaks:6}  {ends}"
+        f"{a_turn[2]:6.3f} {play.resets:6} {dropped:7} {breaks:6} {restored:8}  {ends}"
     )
 
 
@@ -367,7 +374,7 @@ def main():
     plays = [(name, model) for name in names for model in SIZES]
     print(f"seed {given.seed}")
     print(
-        "example    M   keys  turns   down     up  reads resets dropped breaks  ends", flush=True
+        "example    M   keys  turns   down     up  reads resets dropped breaks restored  ends", flush=True
     )
     with concurrent.futures.ThreadPoolExecutor(given.jobs) as pool:
         running = [pool.submit(played, given, *it) for it in plays]

@@ -106,6 +106,7 @@ closed_despite unheards.Clear shadow closed = λ relies. absurd (cc)
 pub record Sends (link : Link) (sending : SentValue) : Type 0 where
   pub talk : sending.conn.talk ≡ link.host.talk
   pub exact : FactsAreExact sending.conn.shadow
+  pub restored : sending.conn.restored ≡ link.host.restored
 
 -- what is under way then
 pub sent_at : (link : Link) (sending : SentValue) (wanted : Option (List ℕ)) (from to : LinkPhase) → Sends link sending → IsAt (view_of link) wanted from
@@ -131,6 +132,7 @@ kept_sent app link sending k to same size steady at fact shown = record {
   unreturned = k.unreturned;
   as_left = k.as_left;
   exact = same.exact;
+  unrestored = same.restored ∙ k.unrestored;
   wanted = k.wanted;
   moment = to;
   sizes = record { host = size; screen = k.sizes.screen; same = steady };
@@ -281,7 +283,7 @@ pub data MayAct (app : Application) (link : Link) (wanted : Option (List ℕ)) :
 module _ (given : LowerLaws) (app : Application) (is : IsApplication app) (link : Link) (k : ConnectionInvariant app (view_of link)) where
   -- the host's end once a panel is shown
   sends_shown : (panel : ℕ) (message : Message) (keep : Bool) (values : Values) → Sends link (shown app link.host panel message keep values)
-  sends_shown panel message keep values = record { talk = refl; exact = exact_despite given link.host.unheard link.host.shadow k.exact }
+  sends_shown panel message keep values = record { talk = refl; exact = exact_despite given link.host.unheard link.host.shadow k.exact; restored = refl }
 
   -- before the terminal knows that both agreed
   paints_first : (lu : List ℕ) (panel : ℕ) (message : Message) (keep : Bool) (values : Values) → IsAt (view_of link) k.wanted (LinkPhase.Negotiating (NegotiationPhase.Agreeing lu)) → IsNew (local_state_of (view_of link))
@@ -353,7 +355,7 @@ module _ (given : LowerLaws) (app : Application) (is : IsApplication app) (link 
       → ShownIn app link.term.waits link.host link.term.display.before_restored link.term.display.last_restored link.term.display.screen SessionPhase.Deciding → ConnectionInvariant app (view_of (sent_view (done app link.host Act.Read) link))
   asks lu steady not_cleared not_first at f showing =
       let sending : SentValue = done app link.host Act.Read in
-      let same : Sends link sending = record { talk = refl; exact = k.exact } in
+      let same : Sends link sending = record { talk = refl; exact = k.exact; restored = refl } in
       let to : LinkPhase = LinkPhase.InSession lu (SessionPhase.Reading link.host.next_seq) in
       kept_sent app link sending k to same k.sizes.host (λ s. steady)
       (sent_at link sending k.wanted (LinkPhase.InSession lu SessionPhase.Deciding) to same at (λ talk is. is) (λ is. is) at.turn refl refl refl)
@@ -503,6 +505,7 @@ loses app v k = record {
   unreturned = k.unreturned;
   as_left = k.as_left;
   exact = k.exact;
+  unrestored = k.unrestored;
   wanted = k.wanted;
   moment = k.moment;
   sizes = record { host = k.sizes.host; screen = k.sizes.screen; same = k.sizes.same };

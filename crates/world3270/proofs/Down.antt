@@ -139,6 +139,7 @@ talks app link rest k from to term next saying sends message same at talk is tra
         unreturned = k.unreturned;
         as_left = k.as_left;
         exact = k.exact;
+        unrestored = k.unrestored;
         wanted = k.wanted;
         moment = to;
         sizes = record { host = k.sizes.host; screen = k.sizes.screen; same = same };
@@ -247,6 +248,7 @@ paints_on given app is link rest k lu number command wants over at f asked left 
       unreturned = λ _. all_kept new.cells;
       as_left = λ _. all_as_left (message_place wants.size) new.cells;
       exact = k.exact;
+      unrestored = k.unrestored;
       wanted = k.wanted;
       moment = LinkPhase.InSession lu (SessionPhase.AwaitingWriteResponse Kind.APaint number command);
       sizes = record {
@@ -307,6 +309,7 @@ reads_on app link rest k same lu number at f shown left screen erased whole on u
       unreturned = λ uncleared. unreturned;
       as_left = λ uncleared. as_left;
       exact = k.exact;
+      unrestored = k.unrestored;
       wanted = k.wanted;
       moment = LinkPhase.InSession lu (SessionPhase.BufferReturning number parts);
       sizes = record { host = k.sizes.host; screen = k.sizes.screen; same = λ steady. same };
@@ -467,6 +470,7 @@ module _ (given : LowerLaws) (app : Application) (is : IsApplication app) (link 
               (subst (λ (s : ScreenSize). All (λ (at : ℕ). message_place s < at) (places_noted (length screen.cells) command)) (sym same) (behind_row shape command screen is_shape note whole_here))
               (k.as_left (λ clear. uncleared (noted.aid ∙ clear)));
           exact = k.exact;
+          unrestored = k.unrestored;
           wanted = k.wanted;
           moment = LinkPhase.InSession lu to;
           sizes = record { host = k.sizes.host; screen = k.sizes.screen; same = λ steady. same };

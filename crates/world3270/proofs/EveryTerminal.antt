@@ -88,6 +88,7 @@ module _ (given : LowerLaws) (app : Application) (is : IsApplication app) (lu : 
     unreturned = λ _. all_kept (replicate (cells_in app.begins) (Char 0));
     as_left = λ _. all_as_left (message_place app.begins) (replicate (cells_in app.begins) (Char 0));
     exact = nothing_known;
+    unrestored = refl;
     wanted = None;
     moment = moment;
     sizes = record { host = inl refl; screen = inl refl; same = λ steady. refl };

@@ -315,6 +315,7 @@ module _ (given : LowerLaws) (app : Application) (link : Link) (k : ConnectionIn
     unreturned = λ _. kept_of given.notes.still_protected erased (message_place v.host.size) v.last_restored.cells f.shown.cells screen.cells held f.noted;
     as_left = λ _. as_left_of erased (message_place v.size) v.last_restored.cells f.shown.cells screen.cells held noted_here;
     exact = k.exact;
+    unrestored = k.unrestored;
     wanted = k.wanted;
     moment = LinkPhase.InSession lu from;
     sizes = record { host = k.sizes.host; screen = k.sizes.screen; same = λ steady. same };
@@ -336,6 +337,7 @@ module _ (given : LowerLaws) (app : Application) (link : Link) (k : ConnectionIn
         unreturned = λ uncleared. kept_of given.notes.still_protected erased (message_place v.host.size) v.last_restored.cells f.shown.cells screen.cells (still uncleared) f.noted;
         as_left = λ uncleared. as_left_of erased (message_place v.size) v.last_restored.cells f.shown.cells screen.cells (still uncleared) noted_here;
         exact = k.exact;
+        unrestored = k.unrestored;
         wanted = k.wanted;
         moment = LinkPhase.InSession lu (typing.to parts);
         sizes = record { host = k.sizes.host; screen = k.sizes.screen; same = λ steady. same };

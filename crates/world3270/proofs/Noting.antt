@@ -23,7 +23,7 @@ module _ (app : Application) (text : List ℕ) (is : IsNoteText text) (link : Li
   command = note_command link.host.size text
 
   same_end : Sends link noting
-  same_end = record { talk = refl; exact = k.exact }
+  same_end = record { talk = refl; exact = k.exact; restored = refl }
 
   is_note : IsNoteOf link.host.size command
   is_note = record { text = text; is_text = is; is = refl }

@@ -96,7 +96,7 @@ leads link step rest wanted from to at l talk turn pending left = record {
 -- ---- the talk
 
 abbrev talk_step : Link → Talk HostState → List ToTerminal → Option (List ℕ) → Option Rejection → HostStep
-talk_step link next sends grants rejects = record { conn = with_talk link.host next; sends = sends; grants = grants; rejects = rejects; drops = None; breaks = None; closes = None }
+talk_step link next sends grants rejects = record { conn = with_talk link.host next; sends = sends; grants = grants; rejects = rejects; drops = None; breaks = None; replaces = false; restores = None; closes = None }
 
 -- the talk moves on, by a step that is known
 talks : (app : Application) (pool : List Entry) (link : Link) (rest : List ToHost) (k : ConnectionInvariant app (view_of link)) (from to : NegotiationPhase) (saying : NegotiationMessage) (sends : List ToTerminal) (grants : Option (List ℕ)) (rejects : Option Rejection) (message : ToHost)
@@ -116,6 +116,7 @@ talks app pool link rest k from to saying sends grants rejects message same at t
         unreturned = k.unreturned;
         as_left = k.as_left;
         exact = k.exact;
+        unrestored = k.unrestored;
         wanted = k.wanted;
         moment = LinkPhase.Negotiating to;
         sizes = record { host = k.sizes.host; screen = k.sizes.screen; same = λ steady. same };
@@ -181,17 +182,18 @@ module _ (app : Application) (pool : List Entry) (link : Link) (rest : List ToHo
   agreed_at : (lu : List ℕ) (serving : SessionPhase) → IsAt (view_of link) k.wanted (LinkPhase.InSession lu serving) → is_agreed link.host.talk.state ≡ true
   agreed_at lu serving at = is_agreed_on link.host.talk at.host_talk
 
-  serves : (lu : List ℕ) (from to : SessionPhase) (conn : Session) → link.term.display.size ≡ link.host.size → IsAt (view_of link) k.wanted (LinkPhase.InSession lu from) → conn.talk ≡ link.host.talk → conn.size ≡ link.host.size → FactsAreExact conn.shadow
+  serves : (lu : List ℕ) (from to : SessionPhase) (conn : Session) → link.term.display.size ≡ link.host.size → IsAt (view_of link) k.wanted (LinkPhase.InSession lu from) → conn.talk ≡ link.host.talk → conn.size ≡ link.host.size → FactsAreExact conn.shadow → conn.restored ≡ 0
       → conn.turn ≡ turn_at (LinkPhase.InSession lu to) → conn.pending ≡ pending_at (LinkPhase.InSession lu to) → served_down from ++ [] ≡ served_down to → IsInFlight link.lost rest (served_up to)
       → Fact k.wanted (local_state_of (view_of (host_view (quiet conn) rest link))) (LinkPhase.InSession lu to) → ShownAt app link.term.waits conn link.term.display.before_restored link.term.display.last_restored link.term.display.screen (LinkPhase.InSession lu to)
       → Answered app pool link rest (quiet conn)
-  serves lu from to conn same at talk shape exact turn pending down left fact shown = record {
+  serves lu from to conn same at talk shape exact none turn pending down left fact shown = record {
     kept = record {
       whole = k.whole;
       cursor = k.cursor;
       unreturned = k.unreturned;
       as_left = k.as_left;
       exact = exact;
+      unrestored = none;
       wanted = k.wanted;
       moment = LinkPhase.InSession lu to;
       sizes = record {
@@ -381,7 +383,7 @@ module _ (given : LowerLaws) (app : Application) (pool : List Entry) (link : Lin
   -- the host's end once it heard this
   abbrev heard_conn : TurnReason → Pending → Option ℕ → Shadow → Session
   heard_conn turn_reason pending cursor shadow =
-      record link.host { shadow = shadow; turn = whose.Host; pending = pending; turn_reason = turn_reason; cursor = unwrap_or cursor link.host.cursor }
+      record link.host { shadow = shadow; turn = whose.Host; pending = pending; turn_reason = turn_reason; cursor = unwrap_or cursor link.host.cursor; restored = 0 }
 
   -- what is heard is believed, and it is the host's turn
   believes : (lu : List ℕ) (from to : SessionPhase) (parts : InboundParts) (turn_reason : TurnReason) (pending : Pending) (cursor : Option ℕ) (Then : Shadow → Type 0) (r : Result Shadow HeardFault)
@@ -392,7 +394,7 @@ module _ (given : LowerLaws) (app : Application) (pool : List Entry) (link : Lin
       → ((shadow : Shadow) → Then shadow → ShownAt app link.term.waits (heard_conn turn_reason pending cursor shadow) link.term.display.before_restored link.term.display.last_restored link.term.display.screen (LinkPhase.InSession lu to))
       → Answered app pool link rest (believed turn_reason pending cursor link.host r)
   believes lu from to parts turn_reason pending cursor Then (Ok shadow) at knows protects ok turn pends down left fact shown =
-      serves app pool link rest k lu from to (heard_conn turn_reason pending cursor shadow) same at refl refl (record { known = knows; protected = protects }) turn pends down left (fact shadow ok) (shown shadow ok)
+      serves app pool link rest k lu from to (heard_conn turn_reason pending cursor shadow) same at refl refl (record { known = knows; protected = protects }) refl turn pends down left (fact shadow ok) (shown shadow ok)
   believes lu from to parts turn_reason pending cursor Then (Err fault) at knows protects ok turn pends down left fact shown = absurd ok
 
   -- a key's data
@@ -419,7 +421,7 @@ module _ (given : LowerLaws) (app : Application) (pool : List Entry) (link : Lin
   hears_response lu from to kind number command message at e waits may exact turn pends down left fact shown =
       as_step app pool link rest k (ToHost.Response number Verdict.Positive) message (quiet (answered command link.host)) e
       (response_took (answer_to pool) link.host kind number command (agreed_at app pool link rest k lu from at) (at.pending ∙ waits) may)
-      (serves app pool link rest k lu from to (answered command link.host) same at refl refl exact (at.turn ∙ turn) pends down left fact shown)
+      (serves app pool link rest k lu from to (answered command link.host) same at refl refl exact k.unrestored (at.turn ∙ turn) pends down left fact shown)
 
   -- the whole screen, as it was asked for
   hears_buffer : (lu : List ℕ) (number : ℕ) (parts : InboundParts) (message : ToHost) → IsAt (view_of link) k.wanted (LinkPhase.InSession lu (SessionPhase.BufferReturning number parts)) → IsReported (local_state_of (view_of link)) parts
@@ -458,7 +460,7 @@ module _ (given : LowerLaws) (app : Application) (pool : List Entry) (link : Lin
       skipped_now is =
           let when : DoesNotCount link.host.unheard link.host.turn_reason link.host.shadow = skipped_when link.host.unheard link.host.turn_reason link.host.shadow is in
           let knew : Decides (local_state_of (view_of link)) link.host.shadow = f.known is in
-          serves app pool link rest k lu (SessionPhase.BufferReturning number parts) SessionPhase.Deciding (only_read link.host) same at refl refl k.exact refl refl refl left
+          serves app pool link rest k lu (SessionPhase.BufferReturning number parts) SessionPhase.Deciding (only_read link.host) same at refl refl k.exact k.unrestored refl refl refl left
           (record {
             lock = f.lock;
             turn_reason = read_occasion link.host.turn_reason screen.aid f.turn_reason;

@@ -236,6 +236,7 @@ unused_kept given app is serves = record {
   unreturned = λ _. all_kept (replicate (cells_in app.begins) (Char 0));
   as_left = λ _. all_as_left (message_place app.begins) (replicate (cells_in app.begins) (Char 0));
   exact = record { known = given.belief.nothing_exact.0; protected = given.belief.nothing_exact.1 };
+  unrestored = refl;
   wanted = None;
   moment = LinkPhase.Negotiating NegotiationPhase.Offering;
   sizes = record { host = inl refl; screen = inl refl; same = λ steady. refl };
@@ -258,6 +259,7 @@ begun_kept given app is serves model terminal wanted lu = record {
   unreturned = λ _. all_kept (replicate (cells_in app.begins) (Char 0));
   as_left = λ _. all_as_left (message_place app.begins) (replicate (cells_in app.begins) (Char 0));
   exact = record { known = given.belief.nothing_exact.0; protected = given.belief.nothing_exact.1 };
+  unrestored = refl;
   wanted = wanted;
   moment = LinkPhase.Negotiating NegotiationPhase.Offering;
   sizes = record { host = inl refl; screen = inl refl; same = λ steady. refl };

@@ -316,6 +316,7 @@ pub record ConnectionInvariant (app : Application) (v : View) : Type 0 where
   pub as_left : (v.screen.aid ≡ Clear → ⊥)
       → ProtectedIsAsLeft (message_place v.size) v.last_restored.cells v.screen.cells
   pub exact : FactsAreExact v.host.shadow
+  pub unrestored : v.host.restored ≡ 0
   pub wanted : Option (List ℕ)
   pub moment : LinkPhase
   pub sizes : Sizes app v moment
