@@ -1,5 +1,5 @@
 -- Whatever happens over bytes on a connection with a terminal that keeps the rules is over messages what moves do that keep the rules.
-use Rattle.std.proofs.Common.{◌≡◌, ◌<◌, ℕ, Bool, true, false, Option, None, List, [], ◌∷◌, ◌++◌, drop, take, append_assoc, refl, ap, sym, subst, ◌∙◌, if◌then◌else◌}
+use Rattle.std.proofs.Common.{◌≡◌, ◌<◌, ℕ, Bool, true, false, Option, None, Some, List, [], ◌∷◌, ◌++◌, drop, take, append_assoc, refl, ap, sym, subst, ◌∙◌, if◌then◌else◌}
 use Rattle.std.proofs.lemmas.List.{take-append-drop}
 use Rattle.lu_pool.specs.HolderLaws.{IsSound as IsSoundPool}
 use Rattle.host_core.specs.Acts.{Sent, acted}
@@ -9,16 +9,17 @@ use Rattle.host_core.specs.Feeds.{IsOpen}
 use Rattle.host_core.specs.KeepAlive.{kept_alive}
 use Rattle.host_core.specs.Notes.{noted}
 use Rattle.host_core.specs.Questions.{answered_by, answered_in, answered_on, is_ticket, ticket_of}
-use Rattle.host_core.specs.Session.{Session}
-use Rattle.host_core.specs.State.{Connection, Service, connection_at, most_connections, state_at, session_at}
+use Rattle.host_core.specs.Session.{Session, agreed_lu}
+use Rattle.host_core.specs.State.{Connection, Service, connection_at, most_connections, state_at, session_at, with_reports}
 use Rattle.host_core.specs.declared.acted.Acted.{Acted}
 use Rattle.host_core.specs.declared.question.Answer.{Answer as ApplicationAnswer}
 use Rattle.host_core.specs.declared.question.Ticket.{Ticket}
 use Rattle.world3270.specs.statement.EveryTerminal.{Move, LinkWithReport, after_moves}
-use Rattle.world3270.specs.statement.EveryTerminalBytes.{AreMoves, AreMovesOf, IsHost, LeadTo, Moves, OverBytes, Represents, if_sent, on_connection, with_host}
+use Rattle.world3270.specs.statement.EveryTerminalBytes.{AreMoves, AreMovesOf, LeadTo, Moves, OverBytes, Represents, if_sent, on_connection, with_host}
 use Rattle.world3270.specs.refinement.Representation.{conn_of}
 use Rattle.world3270.proofs.Answered.{IsDone, by_act, by_answer}
-use Rattle.world3270.proofs.AnyHost.{HearsLaws, fed_by, IsServed, conn_there, does_goes, elsewhere_goes, hands_over_goes, hears_bytes, keeps_alive_goes, unchanged}
+use Rattle.world3270.proofs.AnyHost.{HearsLaws, fed_by, IsServed, conn_there, does_goes, elsewhere_goes, hands_over_goes, hears_bytes, keeps_alive_goes, reports_goes, unchanged}
+use Rattle.world3270.proofs.AnyHosts.{IsAlone, leaves, lu_there, still_alone, still_below}
 use Rattle.world3270.proofs.AnyTerminal.{Goes, GoesBy, IsKept, TakesLaws, commands_goes, goes_after, goes_as, operates_goes, stays, takes_goes}
 
 -- what the host does at a connection that is open
@@ -45,9 +46,10 @@ record GoesWith (app : Application) (Good : LinkWithReport → Type 0) (number :
   pool : IsSoundPool new.host.pool
 
 -- moves, one after another
-pub record GoesThrough (app : Application) (Good : LinkWithReport → Type 0) (number : ℕ) (states : List OverBytes) (old new : OverBytes) (t : LinkWithReport) (lead : LeadTo app number states old new) : Type 0 where
+pub record GoesThrough (app : Application) (Good : LinkWithReport → Type 0) (number : ℕ) (lu : List ℕ) (states : List OverBytes) (old new : OverBytes) (t : LinkWithReport) (lead : LeadTo app number states old new) : Type 0 where
   pub goes : Goes app Good number new t
   pub are : AreMoves app number states old new lead goes.moves
+  pub alone : IsAlone number lu new.host
 
 module _ (takes : TakesLaws) (hears : HearsLaws) (app : Application) (Good : LinkWithReport → Type 0) (kept : IsKept app Good) (number : ℕ) where
   -- an answer to another question isn't taken
@@ -115,6 +117,13 @@ module _ (takes : TakesLaws) (hears : HearsLaws) (app : Application) (Good : Lin
         are = alive.are;
         pool = subst (λ (b : OverBytes). IsSoundPool b.host.pool) (sym same) served.pool;
       }
+  one_move old new t good is served (Moves.reports events same) =
+      let none = reports_goes hears app Good kept number old t good is served events in
+      record {
+        goes = goes_as app Good number (with_host (with_reports number events old.host) old) new t same none.goes;
+        are = none.are;
+        pool = subst (λ (b : OverBytes). IsSoundPool b.host.pool) (sym same) served.pool;
+      }
   one_move old new t good is served (Moves.elsewhere host other same) =
       let none = elsewhere_goes hears app Good kept number old t good is served host other.stays in
       record {
@@ -136,21 +145,25 @@ module _ (takes : TakesLaws) (hears : HearsLaws) (app : Application) (Good : Lin
         pool = subst (λ (b : OverBytes). IsSoundPool b.host.pool) (sym same) served.pool;
       }
 
-  -- The bytes represent the connection over messages after moves that keep the rules, whatever led to them.
-  pub all_moves : (states : List OverBytes) (old new : OverBytes) (t : LinkWithReport) → number < most_connections → Good t → Represents number old t → IsServed number old.host
-      → (lead : LeadTo app number states old new) → GoesThrough app Good number states old new t lead
-  all_moves [] old new t below good is served same =
-      record { goes = stays app Good number new t good (subst (λ (b : OverBytes). Represents number b t) (sym same) is); are = refl }
-  all_moves (next ∷ states) old new t below good is served lead =
+  -- The bytes represent the connection over messages after moves that keep the rules, whatever led to them. Nobody else has its LU.
+  pub all_moves : (lu : List ℕ) → ((t : LinkWithReport) → Good t → agreed_lu t.link.host.talk.state ≡ Some lu)
+      → (states : List OverBytes) (old new : OverBytes) (t : LinkWithReport) → number < most_connections → Good t → Represents number old t → IsServed number old.host → IsAlone number lu old.host
+      → (lead : LeadTo app number states old new) → GoesThrough app Good number lu states old new t lead
+  all_moves lu agreed [] old new t below good is served alone same =
+      record {
+        goes = stays app Good number new t good (subst (λ (b : OverBytes). Represents number b t) (sym same) is);
+        are = refl;
+        alone = subst (λ (b : OverBytes). IsAlone number lu b.host) (sym same) alone;
+      }
+  all_moves lu agreed (next ∷ states) old new t below good is served alone lead =
       let one = one_move old next t good is served lead.0 in
-      let still : IsServed number next.host = record { below = subst (λ (n : ℕ). number < n) (sym lead.1.sound.connections) below; pool = one.pool } in
-      let more = all_moves states next new (after_moves app one.goes.moves t) below one.goes.good one.goes.represents still lead.2 in
+      let left = leaves app number old next lead.0 in
+      let now : LinkWithReport = after_moves app one.goes.moves t in
+      let still : IsServed number next.host = record { below = still_below number old.host next.host left below served.below; pool = one.pool } in
+      let mine = lu_there (state_at number next.host) now.link.host lu one.goes.represents.is_open (conn_there hears app Good kept number next now one.goes.good one.goes.represents still) (agreed now one.goes.good) in
+      let more = all_moves lu agreed states next new now below one.goes.good one.goes.represents still (still_alone number lu old.host next.host left mine alone) lead.1 in
       record {
         goes = goes_after app Good number next new t one.goes more.goes;
         are = (one.goes.moves, more.goes.moves, one.are, more.are, refl);
+        alone = more.alone;
       }
-
--- the last host is one, too
-pub last_host : (app : Application) (number : ℕ) (states : List OverBytes) (old new : OverBytes) → IsHost old.host → LeadTo app number states old new → IsHost new.host
-last_host app number [] old new is same = subst (λ (b : OverBytes). IsHost b.host) (sym same) is
-last_host app number (next ∷ states) old new is lead = last_host app number states next new lead.1 lead.2

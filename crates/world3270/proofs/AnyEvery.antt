@@ -7,16 +7,12 @@ use Rattle.datastream.specs.InboundFields.{IsSendable, SentIsRead}
 use Rattle.host_core.specs.Application.{Application, AreTexts, WantsProperScreens, IsApplication}
 use Rattle.host_core.specs.Messages.{ToHost, ToTerminal}
 use Rattle.host_core.specs.Session.{Session, agreed_lu, is_agreed}
-use Rattle.host_core.specs.State.{Service, lu_of, state_at}
-use Rattle.host_core.specs.Feeds.{IsOpen}
+use Rattle.host_core.specs.State.{lu_of, state_at}
 use Rattle.panels.specs.Characters.{AreCharacters}
 use Rattle.shadow.specs.PaintedFields.{KeptStaysThere, WrittenIsThere}
 use Rattle.telnet_wire.specs.Laws.{ItemsAreRead}
 use Rattle.tn3270e_msg.specs.Device.{model_of}
-use Rattle.tn3270e_msg.specs.HostTable.{granted}
 use Rattle.tn3270e_msg.specs.Talk.{NegotiationMessage}
-use Rattle.tn3270e_msg.specs.declared.host_talk.HostState.{HostState}
-use Rattle.tn3270e_msg.specs.declared.host_talk.HostState.TheVariants.{Offered, Asked, Asking, Named, Countered, Agreed, Closed}
 use Rattle.tn3270e_msg.specs.declared.reply.OwnedMessage.TheVariants.{FunIs}
 use Rattle.world3270.specs.statement.EveryTerminal.{FirstPaint, IsByTheRules, Move, LinkWithReport, moved}
 use Rattle.world3270.specs.statement.EveryTerminalBytes.{BeginsOverBytes, LeadTo, OverBytes, RightOverBytes}
@@ -24,13 +20,13 @@ use Rattle.world3270.specs.refinement.LowerLaws.{LowerLaws}
 use Rattle.world3270.specs.refinement.MessageLaws.{MessageLaws}
 use Rattle.world3270.specs.refinement.Readings.{IsReadAs, MayBeSent}
 use Rattle.world3270.specs.statement.Rules.{Binds}
-use Rattle.world3270.specs.refinement.Representation.{conn_of}
 use Rattle.world3270.specs.refinement.Represents.{RepresentsDown, without_commands, without_nops}
 use Rattle.world3270.specs.refinement.RepresentsEnds.{NopHasNoEffect, TakesKeepSendable, TermTakes, WritesAreMarked}
 use Rattle.world3270.specs.refinement.RepresentsLinks.{HasTheSizes, RepresentsCompose, RepresentsGoOn}
 use Rattle.world3270.specs.model.Terminal.{Display}
-use Rattle.world3270.proofs.AnyBytes.{all_moves, last_host}
+use Rattle.world3270.proofs.AnyBytes.{all_moves}
 use Rattle.world3270.proofs.AnyHost.{HearsLaws}
+use Rattle.world3270.proofs.AnyHosts.{lu_there}
 use Rattle.world3270.proofs.AnyReady.{all_may_now, hears_now, same_now}
 use Rattle.world3270.proofs.AnySpelt.{HasSendableContent, acts_encodable, answers_spelt, move_texts, notes_spelt}
 use Rattle.world3270.proofs.AnyTerminal.{IsKept, IsWellFormedMove, Ready, TakesLaws}
@@ -112,22 +108,6 @@ begins_texts app is lu t b =
       now = blank;
     }
 
--- ---- the host's connection
-
-lu_there : (service : Service) (conn : Session) (lu : List ℕ) → IsOpen service → conn_of service ≡ conn → agreed_lu conn.talk.state ≡ Some lu → lu_of service ≡ Some lu
-lu_there Service.Free conn lu is same agreed = absurd is
-lu_there (Service.Open rest held) conn lu is same agreed = by_state held.talk.state (ap (λ (c : Session). agreed_lu c.talk.state) same ∙ agreed)
-  where
-    by_state : (state : HostState) → agreed_lu state ≡ Some lu → granted state ≡ Some lu
-    by_state (Agreed device mine) e = e
-    by_state Offered e = absurd (cc)
-    by_state Asked e = absurd (cc)
-    by_state (Asking device) e = absurd (cc)
-    by_state (Named device mine) e = absurd (cc)
-    by_state (Countered device mine) e = absurd (cc)
-    by_state (Closed cause) e = absurd (cc)
-lu_there (Service.Closed cause) conn lu is same agreed = absurd is
-
 -- ---- the theorem
 
 module _ (laws : AnyLaws) (app : Application) (is : IsApplication app) (asks : WantsProperScreens app) (sizes : HasTheSizes app) (lu : List ℕ) (Queued : LinkWithReport → Type 0) (queue : QueueIsKept app lu Queued) where
@@ -173,17 +153,19 @@ module _ (laws : AnyLaws) (app : Application) (is : IsApplication app) (asks : W
         queued = queue.begins b.begin b.begins (sym b.represents.stands.lost);
       } in
       let below : number < length old.host.connections = subst (λ (n : ℕ). number < n) (sym b.is_host.sound.connections) b.below in
-      let through = all_moves laws.takes laws.hears app Good good_is_kept number states old new b.begin b.below good b.represents (record { below = below; pool = b.pool }) lead in
+      let agreed : agreed_lu b.begin.link.host.talk.state ≡ Some lu = ap agreed_lu b.begins.agreed in
+      let mine : lu_of (state_at number old.host) ≡ Some lu =
+      lu_there (state_at number old.host) b.begin.link.host lu b.represents.is_open (b.represents.stands.host b.begins.host_here).host agreed in
+      let through =
+      all_moves laws.takes laws.hears app Good good_is_kept number lu (λ t good. ap (λ (c : Session). agreed_lu c.talk.state) good.simulated.simulates.host ∙ good.simulated.agreed)
+      states old new b.begin b.below good b.represents (record { below = below; pool = b.pool }) (λ other shares. b.is_host.unshared other number lu shares mine) lead in
       let goes = through.goes in
       let right = right_of laws.given laws.written laws.kept app is lu _ goes.good.simulated in
-      let here = goes.represents in
-      let same = (here.stands.host right.host_here).host in
       record {
         moves = goes.moves;
         are_moves = through.are;
         by_the_rules = goes.by_the_rules;
-        represents = here;
+        represents = goes.represents;
         right = right;
-        alone = λ other shares. (last_host app number states old new b.is_host lead).unshared other number lu shares
-            (lu_there (state_at number new.host) _ lu here.is_open same right.granted);
+        alone = through.alone;
       }

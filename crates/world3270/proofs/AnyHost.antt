@@ -30,7 +30,7 @@ use Rattle.host_core.specs.Messages.{ToHost}
 use Rattle.host_core.specs.Says.{item_sent}
 use Rattle.host_core.specs.Reports.{Reports, newly_bound, with_bound}
 use Rattle.host_core.specs.Session.{Session, agreed_lu, is_agreed}
-use Rattle.host_core.specs.State.{Connection, Host, Service, connection_at, state_at, unused, with_connection}
+use Rattle.host_core.specs.State.{Connection, Host, Service, connection_at, state_at, unused, with_connection, with_reports}
 use Rattle.host_core.specs.Takes.{Answers, HostStep, freed_if, quiet, talked, talked_on, took as host_took}
 use Rattle.host_core.specs.declared.acted.Acted.{Acted}
 use Rattle.host_core.specs.declared.acted.Acted.TheVariants as acted_as
@@ -400,6 +400,10 @@ module _ (laws : HearsLaws) (app : Application) (Good : LinkWithReport → Type 
                   is.waits is.unnamed is.stored);
               are = refl;
             }
+
+    -- events that were not reported are nothing over messages
+    pub reports_goes : (events : Reports) → GoesBy app Good number (record old { host = with_reports number events old.host }) t []
+    reports_goes events = same_line (record (connection_at number old.host) { reports = events }) old.down refl is.is_open
 
     -- something happens elsewhere
     pub elsewhere_goes : (host : Host) → connection_at number host ≡ connection_at number old.host → GoesBy app Good number (record old { host = host }) t []

@@ -96,6 +96,7 @@ pub mod HostItems
 pub mod LinkUp
 pub mod AnyTerminal
 pub mod AnyHost
+pub mod AnyHosts
 pub mod AnyBytes
 pub mod AnyReady
 pub mod AnySpelt
@@ -116,3 +117,4 @@ pub mod TakenMoves
 pub mod EventsElsewhere
 pub mod WorldMoves
 pub mod RunsOfByteWorlds
+pub mod ServingMoves

@@ -15,7 +15,7 @@ use Rattle.world3270.specs.refinement.Represents.{BytesDown, Holds}
 use Rattle.world3270.specs.refinement.RepresentsEnds.{is_painted}
 use Rattle.world3270.specs.refinement.RepresentsLinks.{MayComeAll, NoneCloses, any_painted, took_down}
 use Rattle.world3270.specs.refinement.Sendable.{CanBeSent}
-use Rattle.world3270.specs.statement.EveryTerminalBytes.{IsHost, LeadTo, Moves, OverBytes, Takes}
+use Rattle.world3270.specs.statement.EveryTerminalBytes.{LeadTo, Moves, OverBytes, Takes}
 use Rattle.world3270.specs.statement.WorldMoves.{IsLockedIf}
 use Rattle.world3270.proofs.AnyTerminal.{TakesLaws}
 use Rattle.world3270.proofs.ByteDown.{quiet_byte}
@@ -112,7 +112,7 @@ pub record AreTaken (app : Application) (number : ℕ) (host : Host) (bytes : Li
   pub lead : LeadTo app number states (joined host bytes old waits) (joined host [] new later)
   pub held : IsLockedIf later new
 
-module _ (laws : TakesLaws) (app : Application) (number : ℕ) (host : Host) (is_host : IsHost host) where
+module _ (laws : TakesLaws) (app : Application) (number : ℕ) (host : Host) where
   pub all_taken : (bytes behind : List ℕ) (old new : TrackedTerminal) (rest : Rest) (link : Link) (waits : Bool) → Holds rest old link.term → BytesDown rest (bytes ++ behind) link.down
       → MayComeAll link.term link.down → NoneCloses link.term link.down → CanBeSent link.term.display.size link.term.display.screen → IsLockedIf waits old → TrackedTakes old bytes new
       → AreTaken app number host bytes old new waits
@@ -140,6 +140,6 @@ module _ (laws : TakesLaws) (app : Application) (number : ℕ) (host : Host) (is
       record {
         later = more.later;
         states = joined host bytes mid (waits_behind mid waits) ∷ more.states;
-        lead = (Moves.takes (takes_one host byte bytes old mid waits taken.1), is_host, more.lead);
+        lead = (Moves.takes (takes_one host byte bytes old mid waits taken.1), more.lead);
         held = more.held;
       }

@@ -45,6 +45,7 @@ use Rattle.world3270.specs.statement.Instances.{over_bytes}
 use Rattle.world3270.specs.statement.RuleLaws.{KeepsTheRules}
 use Rattle.world3270.specs.statement.Rules.{Operates}
 use Rattle.world3270.specs.statement.WorldMoves.{EventsAreMoves, GoOnAt, IsLockedIf, IsMovedTo, WorldsMoveOverBytes, over_bytes_if}
+use Rattle.world3270.proofs.AnyHosts.{lead_on}
 use Rattle.world3270.proofs.AnyTerminal.{TakesLaws, pairs_become}
 use Rattle.world3270.proofs.ByteTerms.{made_of, stands_here}
 use Rattle.world3270.proofs.EventsElsewhere.{StaysAt, anew_stays, connects_stays, down_stays, found_free, host_gone_stays, on_stays, saw_stays, slot_stays, stays_itself, transits_stay, up_stays, with_connection_stays}
@@ -218,7 +219,6 @@ module _ (known : MessageLaws) (takes : TakesLaws) (presses : TermPresses) (rule
     states = joined host [] ours later ∷ [];
     lead = (
       move,
-      subst IsHost host_is is_host,
       ap (λ (h : Host). joined h [] (slot_at terminal new).tracked later) host_is ∙ ap (λ (s : TerminalSlot). joined host [] s.tracked later) slot_is,
     );
     held = subst (λ (s : TerminalSlot). IsLockedIf later s.tracked) (sym slot_is) held;
@@ -229,7 +229,7 @@ module _ (known : MessageLaws) (takes : TakesLaws) (presses : TermPresses) (rule
   elsewhere : StaysAt number terminal old new → Goes
   elsewhere stays =
       one_move new.host tracked waits refl stays.slot locked
-      (Moves.elsewhere new.host (record { panels = stays.panels; stays = stays.connection; pool = pool_is_sound known new is_then }) refl)
+      (Moves.elsewhere new.host (record { panels = stays.panels; stays = stays.connection; pool = pool_is_sound known new is_then; is_host = is_host }) refl)
 
   -- of the host on this connection
   on_it : (connection : Connection) → new ≡ with_host (with_connection number connection old.host) old
@@ -322,8 +322,7 @@ module _ (known : MessageLaws) (takes : TakesLaws) (presses : TermPresses) (rule
         subst (λ (b : List ℕ). TrackedTakes tracked b comes.tracked) (ap (λ (b : List ℕ). take taken (take count b)) under ∙ first_taken taken count out few) comes.feeds.takes in
         let host_is : new.host ≡ host_down = ap (λ (w : ByteWorld). w.host) same in
         let slot_is : slot_at terminal new ≡ took = ap (slot_at terminal) same ∙ slot_same terminal took old (found_within number terminal old found) in
-        let is_one : IsHost host_down = subst IsHost host_is is_host in
-        let all = all_taken takes app number host_down is_one (take taken out) (drop taken out) tracked comes.tracked its_term.rest its_link waits
+        let all = all_taken takes app number host_down (take taken out) (drop taken out) tracked comes.tracked its_term.rest its_link waits
         (record { talk = its_term.holds.talk; attached = its_term.holds.attached; is_end = its_term.holds.is_end })
         (subst (λ (b : List ℕ). BytesDown its_term.rest b its_link.down) (under ∙ sym (take-append-drop taken out)) its_term.down)
         (its_facts.may number).0 (its_facts.may number).1 (sendable known old is number terminal found) locked takes_them in
@@ -332,7 +331,6 @@ module _ (known : MessageLaws) (takes : TakesLaws) (presses : TermPresses) (rule
           states = joined host_down (take taken out) tracked waits ∷ all.states;
           lead = (
             Moves.hands_over taken refl,
-            is_one,
             subst (λ (b : OverBytes). LeadTo app number all.states (joined host_down (take taken out) tracked waits) b)
                 (sym (ap (λ (h : Host). joined h [] (slot_at terminal new).tracked all.later) host_is ∙ ap (λ (s : TerminalSlot). joined host_down [] s.tracked all.later) slot_is))
                 all.lead,
@@ -570,12 +568,6 @@ module _ (known : MessageLaws) (takes : TakesLaws) (presses : TermPresses) (rule
       by_place false skipped on = nothing_happens on.1
 
 -- ---- events, one after another
-
--- moves, and then others
-lead_on : (app : Application) (number : ℕ) (first others : List OverBytes) (old mid new : OverBytes) → LeadTo app number first old mid → LeadTo app number others mid new
-    → LeadTo app number (first ++ others) old new
-lead_on app number [] others old mid new lead more = subst (λ (b : OverBytes). LeadTo app number others b new) lead more
-lead_on app number (next ∷ first) others old mid new lead more = (lead.0, lead.1, lead_on app number first others next mid new lead.2 more)
 
 module _ (known : MessageLaws) (go : StepsAreSimulated) (takes : TakesLaws) (presses : TermPresses) (rules : KeepsTheRules key_came) (sending : SendingWaits) where
   -- the world after an event

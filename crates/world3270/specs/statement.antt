@@ -25,3 +25,4 @@ pub mod EveryTerminal
 pub mod EveryTerminalBytes
 pub mod Instances
 pub mod WorldMoves
+pub mod Serving

@@ -21,6 +21,7 @@ ghost use Rattle.world3270.specs.statement.RuleLaws.{TerminalsKeepTheRules};
 ghost use Rattle.world3270.specs.model.Places.{EndsAgree, UpIsHeld, HoldersAreHere, LinksStay, HoldersStay, PoolIsSound};
 ghost use Rattle.world3270.specs.refinement.Refines.{BeginIsReached, HeadlineIsSeen, RunsAreSimulated, SameSkips, StepsAreSimulated};
 ghost use Rattle.world3270.specs.model.TrackedTerminals.{HistoryFollows};
+ghost use Rattle.world3270.specs.statement.Serving.{EveryTerminalServed, TurnsAreElsewhere, TurnsAreMoves};
 ghost use Rattle.world3270.specs.statement.WorldMoves.{EventsAreMoves, WorldsMoveOverBytes};
 ghost use Rattle.world3270.specs.refinement.Sendable.{AlwaysTyped, DataCanBeSpelt, PaintsAreScreens, PaintsAreSpelt, ScreensAreSendable, ScreensHaveASize, ValuesAreTexts};
 ghost use Rattle.world3270.specs.statement.Shown.{FieldsAreShown, PanelIsShown, PanelIsShownOverBytes};
@@ -36,6 +37,7 @@ ghost use Rattle.world3270.specs.statement.Unbroken.{DeliveriesCloseNothing, Nob
 ghost use Rattle.world3270.specs.refinement.RepresentsLinks.{BeginRepresents, BytesAreMarked, DownIsNotRefused, DownRepresents, HostLeaves, HostSends, LossRepresents, NopRepresents, NothingRepresents, PressRepresents, RepresentsCompose, RepresentsGoOn, TermLeaves, UpRepresents, WhatComesMayCome};
 
 use datastream::laws::{fields_both_ways, kept_since_the_write, sent_is_read, what_a_note_keeps};
+use host_core::Links;
 use host_core::laws::{
     notes_are_written, panels_are_shown, what_is_served_is_marked, what_is_shown_fits,
 };
@@ -442,6 +444,19 @@ pub fn every_terminal_over_bytes()
     sent_is_read();
     painted_fields_are_there();
     telnet_wire::laws::one_reading();
+}
+
+/// Law: a turn of serving a connection, as `host_core::serve_turn` promises it, is moves of `every_terminal_over_bytes`
+/// there: the host is fed the bytes that the read got, acts, keeps the event that it asks, and hands over what the write
+/// took. For each other connection it happens elsewhere. So that theorem holds after any turns of serving, with any moves
+/// between them, as long as no turn is refused memory.
+pub fn a_turn_is_moves<L: Links>()
+    ensures moves { TurnsAreMoves L.gave L.took }
+    ensures elsewhere { TurnsAreElsewhere L.gave L.took }
+    ensures served { EveryTerminalServed L.gave L.took }
+{
+    what_is_given();
+    every_terminal_over_bytes();
 }
 
 /// Law: the premises of `every_terminal_over_bytes` can be met. Just after the host has agreed on an LU on a connection of

@@ -17,8 +17,9 @@ use Rattle.host_core.specs.KeepAlive.{kept_alive}
 use Rattle.host_core.specs.Messages.{ToHost}
 use Rattle.host_core.specs.Notes.{IsNoteText}
 use Rattle.host_core.specs.Questions.{answered_by}
+use Rattle.host_core.specs.Reports.{Reports}
 use Rattle.host_core.specs.Sound.{IsSound, NobodyShares}
-use Rattle.host_core.specs.State.{Connection, Host, connection_at, lu_of, most_connections, state_at, session_at, with_connection}
+use Rattle.host_core.specs.State.{Connection, Host, connection_at, lu_of, most_connections, state_at, session_at, with_connection, with_reports}
 use Rattle.host_core.specs.declared.acted.Acted.{Acted}
 use Rattle.host_core.specs.declared.acted.Acted.TheVariants as acted_as
 use Rattle.host_core.specs.declared.question.Answer.{Answer as ApplicationAnswer}
@@ -123,16 +124,22 @@ with_host host old = record old { host = host }
 abbrev pub on_connection : ℕ → Connection → OverBytes → OverBytes
 on_connection number connection old = with_host (with_connection number connection old.host) old
 
--- Holds if the host changed only on other connections, and its pool is sound.
+-- what the invariant of `Host` says of each of its values
+pub record IsHost (host : Host) : Type 0 where
+  pub sound : IsSound host
+  pub unshared : NobodyShares host
+
+-- Holds if the host changed only on other connections, its pool is sound, and it is one that its type allows.
 pub record IsElsewhere (number : ℕ) (old new : Host) : Type 0 where
   pub panels : new.panels ≡ old.panels
   pub stays : connection_at number new ≡ connection_at number old
   pub pool : IsSoundPool new.pool
+  pub is_host : IsHost new
 
 -- One move. Bytes under way are fed to the host, which may stop before the last of them; it hands bytes over; it acts,
--- is answered by the application, or sends a note (memory may be refused for these); it keeps the connection alive;
--- something happens on other connections. The terminal takes a byte, its operator does something, or it sends NOPs and
--- other commands that the host ignores.
+-- is answered by the application, or sends a note (memory may be refused for these); it keeps the connection alive; the
+-- connection's unreported events change, as when one is handed out; something happens on other connections. The
+-- terminal takes a byte, its operator does something, or it sends NOPs and other commands that the host ignores.
 pub data Moves (app : Application) (number : ℕ) (old new : OverBytes) : Type 0 where
   feeds : (bytes behind : List ℕ) (fed : Fed) (counter : ConnectionAndPool) → old.up ≡ bytes ++ behind
       → Feeds number (connection_and_pool_at number old.host) bytes fed counter
@@ -155,22 +162,17 @@ pub data Moves (app : Application) (number : ℕ) (old new : OverBytes) : Type 0
       → HostDoes (noted_by text (state_at number old.host)) (connection_at number old.host) did connection
       → new ≡ on_connection number connection old → Moves app number old new
   keeps_alive : new ≡ on_connection number (kept_alive (connection_at number old.host)) old → Moves app number old new
+  reports : (events : Reports) → new ≡ with_host (with_reports number events old.host) old → Moves app number old new
   elsewhere : (host : Host) → IsElsewhere number old.host host → new ≡ with_host host old → Moves app number old new
   takes : Takes old new → Moves app number old new
   operates : (step : TermStep) → IsOperated step old new → Moves app number old new
   sends_commands : (bytes : List ℕ) → AreReadAs bytes [] → new ≡ record old { up = old.up ++ bytes }
       → Moves app number old new
 
--- what the invariant of `Host` says of each of its values
-pub record IsHost (host : Host) : Type 0 where
-  pub sound : IsSound host
-  pub unshared : NobodyShares host
-
 -- Holds if moves lead from `old` through these states to `new`.
 abbrev pub LeadTo : Application → ℕ → List OverBytes → OverBytes → OverBytes → Type 0
 LeadTo app number [] old new = new ≡ old
-LeadTo app number (next ∷ others) old new = Moves app number old next × IsHost next.host
-    × LeadTo app number others next new
+LeadTo app number (next ∷ others) old new = Moves app number old next × LeadTo app number others next new
 
 -- ---- which moves over messages these are
 
@@ -208,6 +210,7 @@ AreMovesOf (Moves.acts did connection does is) moves = moves ≡ if_sent did Mov
 AreMovesOf (Moves.answers ticket said did connection texts does is) moves = moves ≡ if_sent did (Move.Answer said)
 AreMovesOf (Moves.notes text did connection is_text does is) moves = moves ≡ if_sent did (Move.Note text)
 AreMovesOf (Moves.keeps_alive is) moves = moves ≡ []
+AreMovesOf (Moves.reports events is) moves = moves ≡ []
 AreMovesOf (Moves.elsewhere host other is) moves = moves ≡ []
 AreMovesOf (Moves.takes comes) moves = All IsDown moves
 AreMovesOf (Moves.operates step does) moves = moves ≡ Move.Operate step ∷ []
@@ -218,7 +221,7 @@ abbrev pub AreMoves : (app : Application) (number : ℕ) (states : List OverByte
     → LeadTo app number states old new → List Move → Type 0
 AreMoves app number [] old new lead moves = moves ≡ []
 AreMoves app number (next ∷ others) old new lead moves =
-    (first : List Move) × (more : List Move) × AreMovesOf lead.0 first × AreMoves app number others next new lead.2 more
+    (first : List Move) × (more : List Move) × AreMovesOf lead.0 first × AreMoves app number others next new lead.1 more
     × (moves ≡ first ++ more)
 
 -- ---- what the bytes represent
