@@ -18,7 +18,7 @@ use Rattle.tn3270e_msg.specs.Talk.{NegotiationMessage}
 use Rattle.tn3270e_msg.specs.declared.host_talk.HostState.{HostState}
 use Rattle.tn3270e_msg.specs.declared.host_talk.HostState.TheVariants.{Offered, Asked, Asking, Named, Countered, Agreed, Closed}
 use Rattle.tn3270e_msg.specs.declared.reply.OwnedMessage.TheVariants.{FunIs}
-use Rattle.world3270.specs.statement.EveryTerminal.{FirstPaint, IsByTheRules, Move, LinkWithReport, moved}
+use Rattle.world3270.specs.statement.EveryTerminal.{FirstPaint, Move, LinkWithReport, moved}
 use Rattle.world3270.specs.statement.EveryTerminalBytes.{BeginsOverBytes, LeadTo, OverBytes, RightOverBytes}
 use Rattle.world3270.specs.refinement.LowerLaws.{LowerLaws}
 use Rattle.world3270.specs.refinement.MessageLaws.{MessageLaws}
@@ -40,6 +40,7 @@ use Rattle.world3270.proofs.Sendable.{HasProperScreen, blank_sendable}
 use Rattle.world3270.proofs.Simulation.{Simulated, agrees_now}
 use Rattle.world3270.proofs.Represents.{commands_piecewise, stands_go_on, stands_join}
 use Rattle.world3270.proofs.RepresentsLinks.{host_sends, nop_stands, up_stands}
+use Rattle.world3270.proofs.WithoutClear.{IsWithoutClear, all_keep_rules}
 
 -- ---- what is asked of the queue
 
@@ -47,7 +48,7 @@ use Rattle.world3270.proofs.RepresentsLinks.{host_sends, nop_stands, up_stands}
 -- next may come.
 pub record QueueIsKept (app : Application) (lu : List ℕ) (Queued : LinkWithReport → Type 0) : Type 0 where
   pub begins : (t : LinkWithReport) → FirstPaint app lu t → t.link.lost ≡ false → Queued t
-  pub goes_on : (move : Move) (t : LinkWithReport) → Simulated app lu t → HasSendableContent t → Queued t → IsByTheRules move t → IsWellFormedMove move → Queued (moved app move t)
+  pub goes_on : (move : Move) (t : LinkWithReport) → Simulated app lu t → HasSendableContent t → Queued t → IsWithoutClear move t → IsWellFormedMove move → Queued (moved app move t)
   pub comes_up : (t : LinkWithReport) → Simulated app lu t → HasSendableContent t → Queued t → (message : ToHost) (others : List ToHost) → t.link.up ≡ message ∷ others → MayBeSent t.link.host message
 
 pub record AnyLaws : Type 0 where
@@ -181,7 +182,7 @@ module _ (laws : AnyLaws) (app : Application) (is : IsApplication app) (asks : W
       record {
         moves = goes.moves;
         are_moves = through.are;
-        by_the_rules = goes.by_the_rules;
+        by_the_rules = all_keep_rules app goes.moves b.begin b.begins.cleared goes.by_the_rules;
         represents = here;
         right = right;
         alone = λ other shares. (last_host app number states old new b.is_host lead).unshared other number lu shares

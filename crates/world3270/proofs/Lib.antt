@@ -116,3 +116,9 @@ pub mod TakenMoves
 pub mod EventsElsewhere
 pub mod WorldMoves
 pub mod RunsOfByteWorlds
+pub mod WithoutClear
+pub mod ClearedQueue
+pub mod Cleared
+pub mod ClearedHost
+pub mod ClearedDown
+pub mod ClearedKeys
