@@ -14,7 +14,7 @@ use Rattle.telnet_wire.specs.Laws.{ItemsAreRead}
 use Rattle.tn3270e_msg.specs.Device.{model_of}
 use Rattle.tn3270e_msg.specs.Talk.{NegotiationMessage}
 use Rattle.tn3270e_msg.specs.declared.reply.OwnedMessage.TheVariants.{FunIs}
-use Rattle.world3270.specs.statement.EveryTerminal.{FirstPaint, IsByTheRules, Move, LinkWithReport, moved}
+use Rattle.world3270.specs.statement.EveryTerminal.{FirstPaint, Move, LinkWithReport, moved}
 use Rattle.world3270.specs.statement.EveryTerminalBytes.{BeginsOverBytes, LeadTo, OverBytes, RightOverBytes}
 use Rattle.world3270.specs.refinement.LowerLaws.{LowerLaws}
 use Rattle.world3270.specs.refinement.MessageLaws.{MessageLaws}
@@ -36,6 +36,7 @@ use Rattle.world3270.proofs.Sendable.{HasProperScreen, blank_sendable}
 use Rattle.world3270.proofs.Simulation.{Simulated, agrees_now}
 use Rattle.world3270.proofs.Represents.{commands_piecewise, stands_go_on, stands_join}
 use Rattle.world3270.proofs.RepresentsLinks.{host_sends, nop_stands, up_stands}
+use Rattle.world3270.proofs.WithoutClear.{IsWithoutClear, all_keep_rules}
 
 -- ---- what is asked of the queue
 
@@ -43,7 +44,7 @@ use Rattle.world3270.proofs.RepresentsLinks.{host_sends, nop_stands, up_stands}
 -- next may come.
 pub record QueueIsKept (app : Application) (lu : List ℕ) (Queued : LinkWithReport → Type 0) : Type 0 where
   pub begins : (t : LinkWithReport) → FirstPaint app lu t → t.link.lost ≡ false → Queued t
-  pub goes_on : (move : Move) (t : LinkWithReport) → Simulated app lu t → HasSendableContent t → Queued t → IsByTheRules move t → IsWellFormedMove move → Queued (moved app move t)
+  pub goes_on : (move : Move) (t : LinkWithReport) → Simulated app lu t → HasSendableContent t → Queued t → IsWithoutClear move t → IsWellFormedMove move → Queued (moved app move t)
   pub comes_up : (t : LinkWithReport) → Simulated app lu t → HasSendableContent t → Queued t → (message : ToHost) (others : List ToHost) → t.link.up ≡ message ∷ others → MayBeSent t.link.host message
 
 pub record AnyLaws : Type 0 where
@@ -164,7 +165,7 @@ module _ (laws : AnyLaws) (app : Application) (is : IsApplication app) (asks : W
       record {
         moves = goes.moves;
         are_moves = through.are;
-        by_the_rules = goes.by_the_rules;
+        by_the_rules = all_keep_rules app goes.moves b.begin b.begins.cleared goes.by_the_rules;
         represents = goes.represents;
         right = right;
         alone = through.alone;

@@ -35,7 +35,7 @@ use Rattle.host_core.specs.Takes.{Answers, HostStep, freed_if, quiet, talked, ta
 use Rattle.host_core.specs.declared.acted.Acted.{Acted}
 use Rattle.host_core.specs.declared.acted.Acted.TheVariants as acted_as
 use Rattle.world3270.specs.model.ByteWorld.{is_there}
-use Rattle.world3270.specs.statement.EveryTerminal.{IsByTheRules, Move, LinkWithReport, after_moves, came_up, moved}
+use Rattle.world3270.specs.statement.EveryTerminal.{Move, LinkWithReport, after_moves, came_up, moved}
 use Rattle.world3270.specs.statement.EveryTerminalBytes.{IsUp, OverBytes, Represents, if_sent, link_over, on_connection}
 use Rattle.world3270.specs.model.Link.{Link, host_left_if, host_sent, sent}
 use Rattle.world3270.specs.refinement.Readings.{IsReadAs, MayBeSent}
@@ -51,6 +51,7 @@ use Rattle.world3270.proofs.HostItems.{host_reads}
 use Rattle.world3270.proofs.HostSteps.{just_talks}
 use Rattle.world3270.proofs.ItemsSpelt.{IsEncodable}
 use Rattle.world3270.proofs.LinkUp.{link_behind, never_wrong, none_first, one_first, sends_stand}
+use Rattle.world3270.proofs.WithoutClear.{IsWithoutClear}
 
 -- what leaves the talk as it was binds no terminal
 same_lu : (lu : Option (List ℕ)) (reports : Reports) → with_bound (newly_bound lu lu) reports ≡ reports
@@ -341,7 +342,7 @@ module _ (laws : HearsLaws) (app : Application) (Good : LinkWithReport → Type 
     sent_link sending (Service.Closed cause) out is = absurd is
 
     -- a message is sent, which is encoded
-    pub sends_goes : (move : Move) (sending : Sent) → moved app move t ≡ record t { link = host_sent (Some sending) t.link } → IsByTheRules move t → IsWellFormedMove move → IsEncodable sending.message
+    pub sends_goes : (move : Move) (sending : Sent) → moved app move t ≡ record t { link = host_sent (Some sending) t.link } → IsWithoutClear move t → IsWellFormedMove move → IsEncodable sending.message
         → GoesBy app Good number (on_connection number (sent_on sending (connection_at number old.host)) old) t (move ∷ [])
     sends_goes move sending goes rules typed encoded =
         let connection : Connection = sent_on sending (connection_at number old.host) in
@@ -360,7 +361,7 @@ module _ (laws : HearsLaws) (app : Application) (Good : LinkWithReport → Type 
 
     -- it is done, or memory is refused
     pub does_goes : (move : Move) (what : Option Sent) (did : Acted) (connection : Connection) → moved app move t ≡ record t { link = host_sent what t.link }
-        → IsByTheRules move t → IsWellFormedMove move → IfSome what (λ sending. IsEncodable sending.message) → IsDone what (connection_at number old.host) did connection
+        → IsWithoutClear move t → IsWellFormedMove move → IfSome what (λ sending. IsEncodable sending.message) → IsDone what (connection_at number old.host) did connection
         → GoesBy app Good number (on_connection number connection old) t (if_sent did move)
     does_goes move None did connection goes rules typed encoded done =
         let none = unchanged connection done.1 in

@@ -55,7 +55,7 @@ use Rattle.host_core.specs.Notes.{noted_as, may_note, noted}
 use Rattle.host_core.specs.Questions.{act_by, answered_on, has_its_panel, is_asking, panel_for}
 use Rattle.host_core.specs.declared.question.Answer.{Answer as ApplicationAnswer}
 use Rattle.host_core.specs.declared.turn_reason.TurnReason.{TurnReason}
-use Rattle.world3270.specs.statement.EveryTerminal.{LinkWithReport, came_up, is_pa, key_pressed, operated, told_if, IsByTheRules, Move, came_down, moved}
+use Rattle.world3270.specs.statement.EveryTerminal.{LinkWithReport, came_up, is_pa, key_pressed, operated, sends_clear, told_if, Move, came_down, moved}
 use Rattle.world3270.specs.model.Enabled.{is_queued}
 use Rattle.world3270.specs.statement.Rules.{Operates, after_sending, data_by, edited, shows, with_aid}
 use Rattle.world3270.specs.refinement.RepresentsLinks.{HasTheSizes, NoneCloses}
@@ -70,6 +70,7 @@ use Rattle.world3270.proofs.AnyQueue.{KeepsAddressFirst, address_first_suffices}
 use Rattle.world3270.specs.statement.EveryTerminalBytes.{EveryTerminalOverBytes}
 use Rattle.world3270.proofs.Simulation.{Simulated}
 use Rattle.world3270.proofs.StillKept.{Alike, walked}
+use Rattle.world3270.proofs.WithoutClear.{IsWithoutClear}
 
 -- ---- a message row has an attribute
 
@@ -367,11 +368,11 @@ same_but_clear (Pf key) screen unclear = refl
 same_but_clear (Pa key) screen unclear = refl
 
 operated_leads : (waits : Bool) (step : TermStep) (t : LinkWithReport) → step.closes ≡ None → IsAsked t.link.host → AddressesComeFirst (fields (if waits then t.told else step.end.display).screen.cells ≡ []) (sent t.link.lost t.link.up step.sends)
-    → KeysStartWithAddress (record { link = term_stepped step t.link.down t.link; told = if waits then t.told else step.end.display; waits = t.waits || is_queued step.sends })
+    → KeysStartWithAddress (record { link = term_stepped step t.link.down t.link; told = if waits then t.told else step.end.display; waits = t.waits || is_queued step.sends; cleared = t.cleared || (t.waits && sends_clear step) })
 operated_leads waits step t closes asked queue =
     let stays : Link = record t.link { term = step.end; up = sent t.link.lost t.link.up step.sends } in
     let told : Display = if waits then t.told else step.end.display in
-    subst (λ (c : Option Cause). KeysStartWithAddress (record { link = term_left_if c stays; told = told; waits = t.waits || is_queued step.sends })) (sym closes) (record { asked = asked; queue = queue })
+    subst (λ (c : Option Cause). KeysStartWithAddress (record { link = term_left_if c stays; told = told; waits = t.waits || is_queued step.sends; cleared = t.cleared || (t.waits && sends_clear step) })) (sym closes) (record { asked = asked; queue = queue })
 
 module _ (given : LowerLaws) (app : Application) (is : IsApplication app) (sizes : HasTheSizes app) (lu : List ℕ) where
   -- what was told has no fields where what is displayed has none, and the other way round
@@ -402,20 +403,20 @@ module _ (given : LowerLaws) (app : Application) (is : IsApplication app) (sizes
       silent : (term : TermEnd) → KeysStartWithAddress (record t { link = record t.link { down = rest; term = term; up = sent t.link.lost t.link.up [] } })
       silent term = record { asked = l.asked; queue = if_sent Bare t.link.lost t.link.up [] l.queue (subst (AddressesComeFirst Bare) (sym (append-nil t.link.up)) l.queue) }
 
-      answered : (told : Display) (waits : Bool) (term : TermEnd) (number : ℕ)
-          → KeysStartWithAddress (record { link = record t.link { down = rest; term = term; up = sent t.link.lost t.link.up (ToHost.Response number Verdict.Positive ∷ []) }; told = told; waits = waits })
-      answered told waits term number = record {
+      answered : (told : Display) (waits cleared : Bool) (term : TermEnd) (number : ℕ)
+          → KeysStartWithAddress (record { link = record t.link { down = rest; term = term; up = sent t.link.lost t.link.up (ToHost.Response number Verdict.Positive ∷ []) }; told = told; waits = waits; cleared = cleared })
+      answered told waits cleared term number = record {
         asked = l.asked;
         queue = subst (λ (b : Bool). AddressesComeFirst (fields told.screen.cells ≡ []) (sent b t.link.up (ToHost.Response number Verdict.Positive ∷ []))) (sym alive)
             (exempt (fields told.screen.cells ≡ []) t.link.up number Verdict.Positive);
       }
 
       by_paint : (b : Bool) (number : ℕ) (wanted : WantedScreen) (over : Shadow) → KeysStartWithAddress (told_if b (ToTerminal.Paint number wanted over) t (term_stepped (once_bound b (paint_came number wanted end) end) rest t.link))
-      by_paint true number wanted over = answered (painted wanted end.display) false (record end { display = painted wanted end.display }) number
+      by_paint true number wanted over = answered (painted wanted end.display) false false (record end { display = painted wanted end.display }) number
       by_paint false number wanted over = silent end
 
       by_note : (b : Bool) (number : ℕ) (command : CommandParts) → KeysStartWithAddress (told_if b (ToTerminal.Note number command) t (term_stepped (once_bound b (note_came number command end) end) rest t.link))
-      by_note true number command = answered (record t.told { screen = after_command command t.told.screen }) t.waits (record end { display = record end.display { screen = after_command command end.display.screen } }) number
+      by_note true number command = answered (record t.told { screen = after_command command t.told.screen }) t.waits t.cleared (record end { display = record end.display { screen = after_command command end.display.screen } }) number
       by_note false number command = silent end
 
       by_read : (b : Bool) (number : ℕ) → KeysStartWithAddress (told_if b (ToTerminal.ReadBuffer number) t (term_stepped (once_bound b (read_came end) end) rest t.link))
@@ -429,7 +430,7 @@ module _ (given : LowerLaws) (app : Application) (is : IsApplication app) (sizes
           with_read Is was = if_sent Is t.link.lost t.link.up (read ∷ []) was (more_data Is t.link.up (buffer_data end.display.size end.display.screen) was (inl (λ form. absurd (modified_only (sym form)))))
 
           by_key : (pa : Bool)
-              → KeysStartWithAddress (record { link = term_stepped (read_came end) rest t.link; told = if pa then record end.display { screen = record end.display.screen { aid = t.told.screen.aid } } else t.told; waits = t.waits })
+              → KeysStartWithAddress (record { link = term_stepped (read_came end) rest t.link; told = if pa then record end.display { screen = record end.display.screen { aid = t.told.screen.aid } } else t.told; waits = t.waits; cleared = t.cleared })
           by_key true = record { asked = l.asked; queue = with_read (fields end.display.screen.cells ≡ []) (weaker Bare (fields end.display.screen.cells ≡ []) (now_bare t s) t.link.up l.queue) }
           by_key false = record { asked = l.asked; queue = with_read Bare l.queue }
 
@@ -531,7 +532,7 @@ module _ (given : LowerLaws) (app : Application) (is : IsApplication app) (sizes
   operated_closes end step (Operates.edits keyboard cells cursor erases held on is) = ap (λ (s : TermStep). s.closes) is
   operated_closes end step (Operates.sends keyboard aid some is) = ap (λ (s : TermStep). s.closes) is
 
-  alive_still : (move : Move) (t : LinkWithReport) → Simulated app lu t → t.link.lost ≡ false → IsByTheRules move t → IsWellFormedMove move → (moved app move t).link.lost ≡ false
+  alive_still : (move : Move) (t : LinkWithReport) → Simulated app lu t → t.link.lost ≡ false → IsWithoutClear move t → IsWellFormedMove move → (moved app move t).link.lost ≡ false
   alive_still (Move.Up pool) t s alive rules typed = up_alive t s alive pool rules t.link.up refl
   alive_still Move.Down t s alive rules typed = down_alive t s alive t.link.down refl
   alive_still Move.Act t s alive rules typed = sent_alive (acted app t.link.host) t.link alive
@@ -543,7 +544,7 @@ module _ (given : LowerLaws) (app : Application) (is : IsApplication app) (sizes
 
   -- ---- each move
 
-  move_leads : (move : Move) (t : LinkWithReport) → Simulated app lu t → KeysStartWithAddress t → t.link.lost ≡ false → IsByTheRules move t → IsWellFormedMove move → KeysStartWithAddress (moved app move t)
+  move_leads : (move : Move) (t : LinkWithReport) → Simulated app lu t → KeysStartWithAddress t → t.link.lost ≡ false → IsWithoutClear move t → IsWellFormedMove move → KeysStartWithAddress (moved app move t)
   move_leads (Move.Up pool) t s l alive rules typed = up_leads t l pool t.link.up refl
   move_leads Move.Down t s l alive rules typed = down_leads t s l alive t.link.down refl
   move_leads Move.Act t s l alive rules typed =

@@ -29,7 +29,7 @@ use Rattle.host_core.specs.Takes.{Answers, HostStep, dropping, form_awaited, may
 use Rattle.host_core.specs.declared.question.Answer.{Answer as ApplicationAnswer}
 use Rattle.host_core.specs.declared.turn.Turn.{Turn}
 use Rattle.host_core.specs.declared.turn.Turn.TheVariants as whose
-use Rattle.world3270.specs.statement.EveryTerminal.{FirstPaint, IsByTheRules, Move, LinkWithReport, came_down, came_up, moved}
+use Rattle.world3270.specs.statement.EveryTerminal.{FirstPaint, Move, LinkWithReport, came_down, came_up, moved}
 use Rattle.world3270.specs.statement.EveryTerminalBytes.{EveryTerminalOverBytes}
 use Rattle.world3270.specs.statement.Forms.{IsAwaitedBy}
 use Rattle.world3270.specs.refinement.LowerLaws.{LowerLaws}
@@ -58,6 +58,7 @@ use Rattle.world3270.proofs.SimulatedHost.{may_note_when, nothing_up}
 use Rattle.world3270.proofs.Simulation.{HeardAlike, Simulated, agrees_now, heard_alike}
 use Rattle.world3270.proofs.TalkStates.{agreed_there}
 use Rattle.world3270.proofs.Worlds.{some_cells}
+use Rattle.world3270.proofs.WithoutClear.{IsWithoutClear}
 
 -- ---- nothing of the talk comes up once both agreed
 
@@ -449,7 +450,7 @@ module _ (given : LowerLaws) (app : Application) (is : IsApplication app) (sizes
           record { model = z.model; model_is = z.model_is; up = unpainted when.1 }
       by_may false may = z
 
-  move_sized : (move : Move) → IsByTheRules move t → IsSized app (moved app move t).link
+  move_sized : (move : Move) → IsWithoutClear move t → IsSized app (moved app move t).link
   move_sized (Move.Up pool) rules = up_sized pool t.link.up refl
   move_sized Move.Down rules = down_sized t.link.down refl
   move_sized Move.Act rules = acts_sized
@@ -491,7 +492,7 @@ knows_the_model app link k agrees = by_moment k.moment k.at
 -- is pending has no characters before the first address.
 pub record KeepsAddressFirst (app : Application) (lu : List ℕ) (Queued : LinkWithReport → Type 0) : Type 0 where
   pub begins : (t : LinkWithReport) → FirstPaint app lu t → t.link.lost ≡ false → Queued t
-  pub goes_on : (move : Move) (t : LinkWithReport) → Simulated app lu t → HasSendableContent t → Queued t → IsByTheRules move t → IsWellFormedMove move → Queued (moved app move t)
+  pub goes_on : (move : Move) (t : LinkWithReport) → Simulated app lu t → HasSendableContent t → Queued t → IsWithoutClear move t → IsWellFormedMove move → Queued (moved app move t)
   pub no_lead : (t : LinkWithReport) → Simulated app lu t → Queued t → (parts : InboundParts) (others : List ToHost) → t.link.up ≡ ToHost.Data parts ∷ others → parts.form ≡ Modified
       → form_awaited t.link.host.pending ≡ Buffer → HasNoLeadingText parts.parts
 

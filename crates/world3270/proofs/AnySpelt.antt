@@ -1,5 +1,5 @@
 -- What the host of a terminal that keeps the rules sends is encoded: its values are texts, its numbers have 15 bits, and the screens can be sent.
-use Rattle.std.proofs.Common.{◌≡◌, ℕ, Bool, true, false, Option, None, Some, List, [], ◌∷◌, length, ◌||◌, refl, ap, sym, subst, ◌∙◌, if◌then◌else◌}
+use Rattle.std.proofs.Common.{◌≡◌, ◌&&◌, ℕ, Bool, true, false, Option, None, Some, List, [], ◌∷◌, length, ◌||◌, refl, ap, sym, subst, ◌∙◌, if◌then◌else◌}
 use Rattle.std.specs.Prelude.{⊤, All, IfSome}
 use Rattle.std.proofs.lemmas.List.Elements.{All-cons, All-head, All-map, All-nil, All-tail}
 use Rattle.codes3270.specs.Size.{ScreenSize, cells_in}
@@ -19,7 +19,7 @@ use Rattle.host_core.specs.Questions.{act_by, answered_on, panel_for}
 use Rattle.host_core.specs.Session.{Session}
 use Rattle.host_core.specs.Takes.{HostStep, took as host_took}
 use Rattle.host_core.specs.declared.question.Answer.{Answer as ApplicationAnswer}
-use Rattle.world3270.specs.statement.EveryTerminal.{IsByTheRules, Move, LinkWithReport, came_down, came_up, is_pa, moved, told_after, told_if}
+use Rattle.world3270.specs.statement.EveryTerminal.{Move, LinkWithReport, came_down, came_up, is_pa, moved, sends_clear, told_after, told_if}
 use Rattle.world3270.specs.refinement.LowerLaws.{LowerLaws}
 use Rattle.world3270.specs.model.Link.{Link, host_left_if, host_sent, sent, term_left_if, term_stepped}
 use Rattle.world3270.specs.model.Enabled.{is_queued}
@@ -39,6 +39,7 @@ use Rattle.world3270.proofs.Simulation.{Simulated}
 use Rattle.world3270.proofs.RepresentsComing.{has_size}
 use Rattle.world3270.proofs.RepresentsSizes.{is_narrow}
 use Rattle.world3270.specs.refinement.View.{view_of}
+use Rattle.world3270.proofs.WithoutClear.{IsWithoutClear}
 
 -- the values are texts, the numbers have 15 bits, and all that is queued and both screens can be encoded
 pub record HasSendableContent (t : LinkWithReport) : Type 0 where
@@ -171,10 +172,10 @@ taken_texts true message t link x told = record { values = x.values; numbered = 
 taken_texts false message t link x told = x
 
 operated_texts : (waits : Bool) (step : TermStep) (t : LinkWithReport) → HasSendableContent t → IsSendable step.end.display.screen
-    → HasSendableContent (record { link = term_stepped step t.link.down t.link; told = if waits then t.told else step.end.display; waits = t.waits || is_queued step.sends })
+    → HasSendableContent (record { link = term_stepped step t.link.down t.link; told = if waits then t.told else step.end.display; waits = t.waits || is_queued step.sends; cleared = t.cleared || (t.waits && sends_clear step) })
 operated_texts waits step t x now =
     parted_texts step.closes (record t.link { down = t.link.down; term = step.end; up = sent t.link.lost t.link.up step.sends })
-    (record { link = t.link; told = if waits then t.told else step.end.display; waits = t.waits || is_queued step.sends })
+    (record { link = t.link; told = if waits then t.told else step.end.display; waits = t.waits || is_queued step.sends; cleared = t.cleared || (t.waits && sends_clear step) })
     (record { values = x.values; numbered = x.numbered; writes = x.writes; told = by_test waits; now = now })
   where
     by_test : (b : Bool) → IsSendable (if b then t.told else step.end.display).screen
@@ -207,7 +208,7 @@ module _ (read : SentIsRead) (given : LowerLaws) (app : Application) (is : IsApp
       subst (λ (did : TermStep). HasSendableContent (told_if (is_bound t.link.term) message t (term_stepped did rest t.link))) (sym (same_now given app is sizes lu t s message rest e))
       (taken_texts (is_bound t.link.term) message t link here (told_sendable message t.told link.term.display x.told here.now (noted_sendable t s x message first fits)))
 
-  pub move_texts : (move : Move) (t : LinkWithReport) → Simulated app lu t → HasSendableContent t → IsByTheRules move t → IsWellFormedMove move → HasSendableContent (moved app move t)
+  pub move_texts : (move : Move) (t : LinkWithReport) → Simulated app lu t → HasSendableContent t → IsWithoutClear move t → IsWellFormedMove move → HasSendableContent (moved app move t)
   move_texts (Move.Up pool) t s x rules typed = up_texts t x pool t.link.up
   move_texts Move.Down t s x rules typed = down_texts t s x t.link.down refl
   move_texts Move.Act t s x rules typed =

@@ -26,7 +26,7 @@ use Rattle.host_core.specs.State.{connection_at}
 use Rattle.host_core.specs.Takes.{took as host_took}
 use Rattle.host_core.specs.declared.question.Answer.{Answer as ApplicationAnswer}
 use Rattle.keyboard.specs.State.{Keyboard}
-use Rattle.world3270.specs.statement.EveryTerminal.{AreByTheRules, IsByTheRules, Move, LinkWithReport, after_moves, came_down, executed, key_pressed, moved, operated, told_if}
+use Rattle.world3270.specs.statement.EveryTerminal.{Move, LinkWithReport, after_moves, came_down, executed, key_pressed, moved, operated, told_if}
 use Rattle.world3270.specs.statement.EveryTerminalBytes.{IsDown, IsOperated, OverBytes, Represents, Takes, display_of, displaying, end_of, link_over}
 use Rattle.world3270.specs.model.Link.{Link, sent, term_left_if, term_stepped}
 use Rattle.world3270.specs.model.Enabled.{is_queued}
@@ -43,6 +43,7 @@ use Rattle.world3270.proofs.HostItems.{stands_read}
 use Rattle.world3270.proofs.ItemsSpelt.{IsEncodable}
 use Rattle.world3270.proofs.Represents.{all_heard, written_stand}
 use Rattle.world3270.proofs.RepresentsLinks.{Ran, byte_came, ran_stands}
+use Rattle.world3270.proofs.WithoutClear.{AreWithoutClear, IsWithoutClear}
 
 -- ---- what is known of a connection over messages after moves that keep the rules
 
@@ -73,20 +74,20 @@ IsWellFormedMove Move.Lose = ⊥
 -- some property has this in it, and all such moves that keep the rules keep it
 pub record IsKept (app : Application) (Good : LinkWithReport → Type 0) : Type 0 where
   pub ready : (t : LinkWithReport) → Good t → Ready app t
-  pub goes_on : (move : Move) (t : LinkWithReport) → Good t → IsByTheRules move t → IsWellFormedMove move → Good (moved app move t)
+  pub goes_on : (move : Move) (t : LinkWithReport) → Good t → IsWithoutClear move t → IsWellFormedMove move → Good (moved app move t)
 
 -- ---- what a move over bytes is over messages
 
 pub record Goes (app : Application) (Good : LinkWithReport → Type 0) (number : ℕ) (bytes : OverBytes) (t : LinkWithReport) : Type 0 where
   pub moves : List Move
-  pub by_the_rules : AreByTheRules app moves t
+  pub by_the_rules : AreWithoutClear app moves t
   pub represents : Represents number bytes (after_moves app moves t)
   pub good : Good (after_moves app moves t)
 
 abbrev pub stays : (app : Application) (Good : LinkWithReport → Type 0) (number : ℕ) (bytes : OverBytes) (t : LinkWithReport) → Good t → Represents number bytes t → Goes app Good number bytes t
 stays app Good number bytes t good represents = record { moves = []; by_the_rules = tt; represents = represents; good = good }
 
-abbrev pub moves_once : (app : Application) (Good : LinkWithReport → Type 0) → IsKept app Good → (number : ℕ) (bytes : OverBytes) (t : LinkWithReport) (move : Move) → Good t → IsByTheRules move t → IsWellFormedMove move
+abbrev pub moves_once : (app : Application) (Good : LinkWithReport → Type 0) → IsKept app Good → (number : ℕ) (bytes : OverBytes) (t : LinkWithReport) (move : Move) → Good t → IsWithoutClear move t → IsWellFormedMove move
     → Represents number bytes (moved app move t) → Goes app Good number bytes t
 moves_once app Good kept number bytes t move good is typed represents = record { moves = move ∷ []; by_the_rules = (is, tt); represents = represents; good = kept.goes_on move t good is typed }
 
@@ -94,7 +95,7 @@ pub more_moves : (app : Application) (one others : List Move) (t : LinkWithRepor
 more_moves app [] others t = refl
 more_moves app (move ∷ one) others t = more_moves app one others (moved app move t)
 
-pub more_rules : (app : Application) (one others : List Move) (t : LinkWithReport) → AreByTheRules app one t → AreByTheRules app others (after_moves app one t) → AreByTheRules app (one ++ others) t
+pub more_rules : (app : Application) (one others : List Move) (t : LinkWithReport) → AreWithoutClear app one t → AreWithoutClear app others (after_moves app one t) → AreWithoutClear app (one ++ others) t
 more_rules app [] others t are behind = behind
 more_rules app (move ∷ one) others t are behind = (are.0, more_rules app one others (moved app move t) are.1 behind)
 
@@ -198,7 +199,7 @@ came_one app message others t down same closes =
 record CameDown (app : Application) (Good : LinkWithReport → Type 0) (taken others : List ToTerminal) (t : LinkWithReport) : Type 0 where
   moves : List Move
   downs : All IsDown moves
-  by_the_rules : AreByTheRules app moves t
+  by_the_rules : AreWithoutClear app moves t
   link_is : (after_moves app moves t).link ≡ took_down taken others t.link
   waits_is : (after_moves app moves t).waits ≡ (if any_painted t.link.term taken then false else t.waits)
   good : Good (after_moves app moves t)
@@ -345,7 +346,7 @@ module _ (laws : TakesLaws) (app : Application) (Good : LinkWithReport → Type 
       let here : link.term_here ≡ Some 0 = sym is.stands.term_here in
       let term = is.stands.term 0 here in
       let end = end_is does.rest does.talk old.tracked link.term term.rest term.holds is.unnamed does.attached in
-      let rules : IsByTheRules (Move.Operate step) t =
+      let rules : IsWithoutClear (Move.Operate step) t =
       subst (λ (e : TermEnd). (d : Operates e step) × (t.waits ≡ true → key_pressed d ≢ Clear)) end (does.does, λ waits. does.not_clear (is.waits ∙ waits)) in
       let left = leaves link.term step rules.0 in
       let now : Link = record link { term = step.end; up = sent link.lost link.up step.sends } in

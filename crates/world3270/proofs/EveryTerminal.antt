@@ -1,6 +1,7 @@
 -- Every terminal: the connection is simulated from agreement on, by each move; and what holds is read off the waiting terminal's.
 use Rattle.std.proofs.Common.{◌≡◌, ◌<◌, Bool, true, false, if◌then◌else◌, ℕ, Option, None, Some, List, [], ◌∷◌, append-nil, inl, length, refl, ap, sym, subst, ◌∙◌}
-use Rattle.std.specs.Prelude.{replicate}
+use Rattle.std.specs.Prelude.{is_some, option_map, replicate}
+use Rattle.std.specs.Option.{option_map_or}
 use Rattle.std.proofs.lemmas.List.{length-replicate}
 use Rattle.std.proofs.lemmas.Option.{same_Some}
 use Rattle.codes3270.specs.Size.{cells_in}
@@ -24,13 +25,13 @@ use Rattle.host_core.specs.Answering.{number_of}
 use Rattle.host_core.specs.Acts.{Act as HostAct, Decision, decision_in, decision_on, may_act}
 use Rattle.host_core.specs.Application.{Application, IsApplication, message_place}
 use Rattle.host_core.specs.Messages.{ToHost, ToTerminal}
-use Rattle.host_core.specs.Questions.{question_in}
+use Rattle.host_core.specs.Questions.{is_ask, is_asking, question_in, question_on}
 use Rattle.host_core.specs.Session.{Pending, Session, agreed_lu, is_agreed, model_in, new_conn}
 use Rattle.host_core.specs.Takes.{may_have_changed}
 use Rattle.host_core.specs.declared.question.Question.{Question}
 use Rattle.host_core.specs.declared.turn.Turn.TheVariants as whose
 use Rattle.world3270.specs.statement.Asked.{AreFieldsAsked, IsKeyAsked, IsSeen, panel_with_keys}
-use Rattle.world3270.specs.statement.EveryTerminal.{AreByTheRules, FirstPaint, EveryTerminal, IsByTheRules, Move, RightOf, LinkWithReport, after_moves, came_down, came_up, moved, told_link}
+use Rattle.world3270.specs.statement.EveryTerminal.{AreByTheRules, CrossesNoClear, FirstPaint, EveryTerminal, IsByTheRules, Move, RightOf, LinkWithReport, after_moves, came_down, came_up, moved, told_link}
 use Rattle.world3270.specs.statement.Leading.{IsLedTo}
 use Rattle.world3270.specs.refinement.LowerLaws.{LowerLaws}
 use Rattle.world3270.specs.statement.Headline.{Agrees, IsHostsTurn, SeesTheScreen}
@@ -39,7 +40,7 @@ use Rattle.world3270.specs.refinement.Phases.{IsAt, LinkPhase, SessionPhase, Neg
 use Rattle.world3270.specs.statement.Rules.{Binds}
 use Rattle.world3270.specs.statement.Observation.{HostSeen, SeenLink, TerminalSeen, end_seen, host_seen, seen_link, terminal_seen}
 use Rattle.world3270.specs.statement.Showing.{ShowsItsPanel}
-use Rattle.world3270.specs.statement.Shown.{HasShown, IsPanelShown}
+use Rattle.world3270.specs.statement.Shown.{HasShown, IsPanelShown, is_painting}
 use Rattle.world3270.specs.statement.ShownFields.{WantsItsFields}
 use Rattle.world3270.specs.refinement.Invariant.{Fact, FactsAreExact, IsNew, ConnectionInvariant, ShownAt, local_state_of}
 use Rattle.world3270.specs.model.Terminal.{Display, TermEnd, bound_to, new_display}
@@ -61,6 +62,11 @@ use Rattle.world3270.proofs.SecondKeys.{AddsSecondKeys, SaysAlike}
 use Rattle.world3270.proofs.Simulation.{Simulated, since_same}
 use Rattle.world3270.proofs.Unreturned.{all_as_left, all_kept}
 use Rattle.world3270.proofs.Worlds.{some_cells}
+use Rattle.world3270.proofs.Cleared.{Cleared, Follows, HostsAlike, Stage}
+use Rattle.world3270.proofs.ClearedDown.{gone_now, noted_cleared, painted_cleared, talked_cleared}
+use Rattle.world3270.proofs.ClearedHost.{acts_cleared, answers_cleared, hears_cleared, loses_cleared, notes_cleared, painting_waits}
+use Rattle.world3270.proofs.ClearedKeys.{operates_cleared, operates_first}
+use Rattle.world3270.proofs.WithoutClear.{IsWithoutClear}
 
 -- ---- at agreement
 
@@ -136,6 +142,7 @@ module _ (given : LowerLaws) (app : Application) (is : IsApplication app) (lu : 
     returning = λ unread. nothing_settled;
     display = sym (ap (λ (d : Display). record d { keyboard = blank.keyboard }) (b.told ∙ b.blank));
     waits = b.waits;
+    uncleared = b.cleared;
     host_here = b.host_here;
     term_here = b.term_here;
     simulates = record {
@@ -163,7 +170,8 @@ module _ (given : LowerLaws) (app : Application) (is : IsApplication app) (lu : 
   down_still t s (ToTerminal.ReadBuffer number ∷ rest) is_down = read_still given app is lu t s number rest is_down
   down_still t s (ToTerminal.Note number command ∷ rest) is_down = noted_still given app is lu t s number command rest is_down
 
-  pub move_still : (move : Move) (t : LinkWithReport) → IsByTheRules move t → Simulated app lu t → Simulated app lu (moved app move t)
+  -- no Clear in the wait
+  pub move_still : (move : Move) (t : LinkWithReport) → IsWithoutClear move t → Simulated app lu t → Simulated app lu (moved app move t)
   move_still (Move.Up pool) t sound s = up_still t s pool sound t.link.up refl
   move_still Move.Down t rules s = down_still t s t.link.down refl
   move_still Move.Act t rules s = acts_still given app is lu t s
@@ -172,9 +180,40 @@ module _ (given : LowerLaws) (app : Application) (is : IsApplication app) (lu : 
   move_still (Move.Operate step) t rules s = operates_still given app lu t s step rules.0 rules.1
   move_still Move.Lose t rules s = loses_still given app is lu t s
 
-  moves_still : (moves : List Move) (t : LinkWithReport) → AreByTheRules app moves t → Simulated app lu t → Simulated app lu (after_moves app moves t)
-  moves_still [] t rules s = s
-  moves_still (move ∷ moves) t rules s = moves_still moves (moved app move t) rules.1 (move_still move t rules.0 s)
+module _ (given : LowerLaws) (app : Application) (is : IsApplication app) (lu : List ℕ) where
+  up_cleared : (t : LinkWithReport) → Cleared app lu t → (pool : List Entry) → IsSound pool → (up : List ToHost) → t.link.up ≡ up → Follows app lu (came_up pool up t)
+  up_cleared t c pool sound [] is_up = Follows.cleared c
+  up_cleared t c pool sound (message ∷ rest) is_up = hears_cleared given app is lu t c pool sound message rest is_up
+
+  down_cleared : (t : LinkWithReport) → Cleared app lu t → (down : List ToTerminal) → t.link.down ≡ down → (t.cleared ≡ true → CrossesNoClear down) → Follows app lu (came_down down t)
+  down_cleared t c [] is_down crosses = Follows.cleared c
+  down_cleared t c (ToTerminal.TalksDown saying ∷ rest) is_down crosses = talked_cleared given app is lu t c saying rest is_down
+  down_cleared t c (ToTerminal.Paint number wanted over ∷ rest) is_down crosses = Follows.cleared (painted_cleared given app is lu t c number wanted over rest is_down (crosses (gone_now given app is lu t c (ToTerminal.Paint number wanted over) rest is_down).0))
+  down_cleared t c (ToTerminal.ReadBuffer number ∷ rest) is_down crosses = absurd (crosses (gone_now given app is lu t c (ToTerminal.ReadBuffer number) rest is_down).0)
+  down_cleared t c (ToTerminal.Note number command ∷ rest) is_down crosses = Follows.cleared (noted_cleared given app is lu t c number command rest is_down)
+
+  move_cleared : (move : Move) (t : LinkWithReport) → IsByTheRules move t → Cleared app lu t → Follows app lu (moved app move t)
+  move_cleared (Move.Up pool) t sound c = up_cleared t c pool sound t.link.up refl
+  move_cleared Move.Down t rules c = down_cleared t c t.link.down refl rules
+  move_cleared Move.Act t rules c = Follows.cleared (acts_cleared given app is lu t c)
+  move_cleared (Move.Answer said) t rules c = Follows.cleared (answers_cleared given app is lu t c said)
+  move_cleared (Move.Note text) t rules c = Follows.cleared (notes_cleared given app is lu t c text rules)
+  move_cleared (Move.Operate step) t rules c = Follows.cleared (operates_cleared given app lu t step rules c)
+  move_cleared Move.Lose t rules c = Follows.cleared (loses_cleared given app is lu t c)
+
+  move_follows : (move : Move) (t : LinkWithReport) → IsByTheRules move t → Follows app lu t → Follows app lu (moved app move t)
+  move_follows move t rules (Follows.cleared c) = move_cleared move t rules c
+  move_follows (Move.Operate step) t rules (Follows.simulated s) = operates_first given app lu t step rules s
+  move_follows (Move.Up pool) t rules (Follows.simulated s) = Follows.simulated (move_still given app is lu (Move.Up pool) t rules s)
+  move_follows Move.Down t rules (Follows.simulated s) = Follows.simulated (move_still given app is lu Move.Down t tt s)
+  move_follows Move.Act t rules (Follows.simulated s) = Follows.simulated (move_still given app is lu Move.Act t tt s)
+  move_follows (Move.Answer said) t rules (Follows.simulated s) = Follows.simulated (move_still given app is lu (Move.Answer said) t tt s)
+  move_follows (Move.Note text) t rules (Follows.simulated s) = Follows.simulated (move_still given app is lu (Move.Note text) t rules s)
+  move_follows Move.Lose t rules (Follows.simulated s) = Follows.simulated (move_still given app is lu Move.Lose t tt s)
+
+  moves_follow : (moves : List Move) (t : LinkWithReport) → AreByTheRules app moves t → Follows app lu t → Follows app lu (after_moves app moves t)
+  moves_follow [] t rules f = f
+  moves_follow (move ∷ moves) t rules f = moves_follow moves (moved app move t) rules.1 (move_follows move t rules.0 f)
 
 -- ---- what is read off
 
@@ -214,7 +253,22 @@ lists_despite round erased Shadow.NothingKnown told now lists meets held = λ so
     by_fields [] none some = some (still_unformatted round erased told.cells now.cells held none)
     by_fields (field ∷ more) found some = lists (λ none. let clash = sym found ∙ none in absurd (cc))
 
-module _ (given : LowerLaws) (written : WrittenIsThere) (kept : KeptStaysThere) (app : Application) (is : IsApplication app) (lu : List ℕ) (t : LinkWithReport) (s : Simulated app lu t) where
+-- what of the terminal that waits is known, whether or not Clear was pressed in the wait
+record Beside (app : Application) (lu : List ℕ) (t : LinkWithReport) : Type 0 where
+  told : Link
+  kept : ConnectionInvariant app (view_of told)
+  agreed : agreed_lu told.host.talk.state ≡ Some lu
+  unsure : told.term.waits ≡ false
+  display : told.term.display ≡ record t.told { keyboard = told.term.display.keyboard }
+  host_here : t.link.host_here ≡ true
+  term_here : is_some t.link.term_here ≡ true
+  host : t.link.host ≡ told.host
+  lost : t.link.lost ≡ told.lost
+  talk : t.link.term.talk ≡ told.term.talk
+  rest : t.link.term.display ≡ record told.term.display { screen = t.link.term.display.screen; keyboard = t.link.term.display.keyboard; erased = t.link.term.display.erased }
+  held : t.cleared ≡ false → (erased : Bool) × KeptByKeys erased told.term.display.screen.cells t.link.term.display.screen.cells
+
+module _ (given : LowerLaws) (written : WrittenIsThere) (kept : KeptStaysThere) (app : Application) (is : IsApplication app) (lu : List ℕ) (t : LinkWithReport) (s : Beside app lu t) where
   abbrev end : Link
   end = s.told
 
@@ -223,14 +277,14 @@ module _ (given : LowerLaws) (written : WrittenIsThere) (kept : KeptStaysThere) 
   told_here = record end { host_here = t.link.host_here; term_here = t.link.term_here }
 
   same_host : t.link.host ≡ end.host
-  same_host = s.simulates.host
+  same_host = s.host
 
   same_seen : seen_link (told_link t) ≡ seen_link told_here
   same_seen =
-      ap (λ (lost : Bool). record (seen_link (told_link t)) { lost = lost }) s.simulates.lost
+      ap (λ (lost : Bool). record (seen_link (told_link t)) { lost = lost }) s.lost
       ∙ ap (λ (host : Session). record (seen_link (told_link t)) { lost = end.lost; host = host_seen t.link.host_here host }) same_host
       ∙ ap (λ (terminal : Option TerminalSeen). record { lost = end.lost; host = host_seen t.link.host_here end.host; terminal = terminal })
-      (sym (terminal_alike t.link.term_here end.term (told_link t).term (sym s.simulates.talk) s.display))
+      (sym (terminal_alike t.link.term_here end.term (told_link t).term (sym s.talk) s.display))
 
   agrees_on_told : (turn : IsHostsTurn (seen_link (told_link t))) → Agrees turn.host turn.terminal
   agrees_on_told = subst (λ (seen : SeenLink). (turn : IsHostsTurn seen) → Agrees turn.host turn.terminal) (sym same_seen) (agrees given app told_here s.kept)
@@ -242,33 +296,33 @@ module _ (given : LowerLaws) (written : WrittenIsThere) (kept : KeptStaysThere) 
       (ap (λ (c : Session). c.turn) (sym same_host) ∙ sym (ap (λ (h : HostSeen). h.turn) here.1) ∙ turn.turn)
       (nothing_waits end.host.pending (ap (λ (c : Session). number_of c.pending) (sym same_host) ∙ sym (ap (λ (h : HostSeen). h.pending) here.1) ∙ turn.answered))
 
-  sees_now : IsHostsTurn (seen_link t.link) → SeesTheScreen (doubted t.link.host.shadow) t.link.term.display.screen
-  sees_now turn =
+  sees_now : t.cleared ≡ false → IsHostsTurn (seen_link t.link) → SeesTheScreen (doubted t.link.host.shadow) t.link.term.display.screen
+  sees_now uncleared turn =
       let known = knows_told turn in
-      let since = s.simulates.since in
+      let since = s.held uncleared in
       let told : Screen = end.term.display.screen in
       let now : Screen = t.link.term.display.screen in
-      let meets : Meets (doubted end.host.shadow) now = given.belief.doubt_input since.erased end.host.shadow told now known.meets since.held in
+      let meets : Meets (doubted end.host.shadow) now = given.belief.doubt_input since.0 end.host.shadow told now known.meets since.1 in
       subst (λ (host : Session). SeesTheScreen (doubted host.shadow) now) (sym same_host)
       (record {
         meets = meets;
-        protected = given.belief.seen (doubted end.host.shadow) now meets (lists_despite given.keys.round since.erased end.host.shadow told now known.lists known.meets since.held)
+        protected = given.belief.seen (doubted end.host.shadow) now meets (lists_despite given.keys.round since.0 end.host.shadow told now known.lists known.meets since.1)
             (given.belief.doubt_protected end.host.shadow s.kept.exact.protected);
       })
 
   is_asked : (session : ℕ) (question : Question) → question_in app session t.link.host ≡ Some question → question_in app session end.host ≡ Some question
   is_asked session question asked = subst (λ (host : Session). question_in app session host ≡ Some question) same_host asked
 
-  pub right_of : RightOf app lu t
-  right_of = record {
+  right_beside : RightOf app lu t
+  right_beside = record {
     granted = ap (λ (host : Session). agreed_lu host.talk.state) same_host ∙ s.agreed;
     bound = λ mine bound.
-        let both : Some mine ≡ Some lu = sym (bound_agrees app (view_of end) mine s.kept (ap (λ (talk : Term). bound_to talk.talk.state) (sym s.simulates.talk) ∙ bound)) ∙ s.agreed in
+        let both : Some mine ≡ Some lu = sym (bound_agrees app (view_of end) mine s.kept (ap (λ (talk : Term). bound_to talk.talk.state) (sym s.talk) ∙ bound)) ∙ s.agreed in
         cc;
     agrees = agrees_on_told;
     now = sees_now;
     asked = λ number session question asked.
-        subst (IsSeen (app.fields question.panel) question) (seen_alike number end.term (told_link t).term (sym s.simulates.talk) s.display)
+        subst (IsSeen (app.fields question.panel) question) (seen_alike number end.term (told_link t).term (sym s.talk) s.display)
         (asked_seen given app is end s.kept number session question (is_asked session question asked));
     fields_asked = λ shows session question asked.
         subst (λ (d : Display). AreFieldsAsked (app.fields question.panel) question d.screen) s.display
@@ -297,7 +351,7 @@ module _ (given : LowerLaws) (written : WrittenIsThere) (kept : KeptStaysThere) 
           subst (λ (waits : Bool). ShowsItsPanel app waits end.host end.term.display.before_restored end.term.display.last_restored) s.unsure (shown_now app end s.kept (subst HasShown same_host has)) in
           let shown : ShowsItsPanel app false t.link.host t.link.term.display.before_restored t.link.term.display.last_restored =
           subst (λ (host : Session). ShowsItsPanel app false host t.link.term.display.before_restored t.link.term.display.last_restored) (sym same_host)
-          (subst (λ (d : Display). ShowsItsPanel app false end.host d.before_restored d.last_restored) (sym s.simulates.since.rest) shown_told) in
+          (subst (λ (d : Display). ShowsItsPanel app false end.host d.before_restored d.last_restored) (sym s.rest) shown_told) in
           record {
             shown = shown;
             fields = fields_shown written kept app is wants false t.link.host t.link.term.display.before_restored t.link.term.display.last_restored shown;
@@ -305,8 +359,94 @@ module _ (given : LowerLaws) (written : WrittenIsThere) (kept : KeptStaysThere) 
             cursor = cursor_shown app wants false t.link.host t.link.term.display.before_restored t.link.term.display.last_restored shown;
           }
 
+-- Clear wasn't pressed in the wait
+pub right_of : LowerLaws → WrittenIsThere → KeptStaysThere → (app : Application) → IsApplication app → (lu : List ℕ) (t : LinkWithReport) → Simulated app lu t → RightOf app lu t
+right_of given written kept app is lu t s = right_beside given written kept app is lu t (record {
+  told = s.told;
+  kept = s.kept;
+  agreed = s.agreed;
+  unsure = s.unsure;
+  display = s.display;
+  host_here = s.host_here;
+  term_here = s.term_here;
+  host = s.simulates.host;
+  lost = s.simulates.lost;
+  talk = s.simulates.talk;
+  rest = s.simulates.since.rest;
+  held = λ uncleared. (s.simulates.since.erased, s.simulates.since.held);
+})
+
+-- while a paint waits for its answer, the host decides nothing
+unanswered : (pending : Pending) → is_painting pending ≡ true → number_of pending ≡ None → ⊥
+unanswered (Pending.Writing number command) paints none = absurd (cc)
+unanswered Pending.Nothing paints none = absurd (cc)
+unanswered (Pending.Reading number) paints none = absurd (cc)
+unanswered (Pending.Noting number command) paints none = absurd (cc)
+
+asks_nothing : (app : Application) (session : ℕ) (conn : Session) (question : Question) → is_painting conn.pending ≡ true → question_in app session conn ≡ Some question → ⊥
+asks_nothing app session conn question paints asked =
+    let silent : is_asking app conn ≡ false =
+    ap (λ (b : Bool). option_map_or is_ask (if b then Some (decision_on app conn conn.turn_reason) else None) false) (painting_waits conn.turn conn.pending (is_agreed conn.talk.state) paints) in
+    let wrong : None ≡ Some question = sym (ap (λ (b : Bool). if b then option_map (question_on app session conn) (agreed_lu conn.talk.state) else None) silent) ∙ asked in
+    absurd (cc)
+
+decides_nothing : (app : Application) (conn : Session) (decision : Decision) → is_painting conn.pending ≡ true → decision_in app conn ≡ Some decision → ⊥
+decides_nothing app conn decision paints decided =
+    absurd (let wrong = sym (ap (λ (b : Bool). if b then Some (decision_on app conn conn.turn_reason) else None) (painting_waits conn.turn conn.pending (is_agreed conn.talk.state) paints)) ∙ decided in cc)
+
+-- Clear was pressed in the wait
+right_cleared : LowerLaws → WrittenIsThere → KeptStaysThere → (app : Application) → IsApplication app → (lu : List ℕ) (t : LinkWithReport) → Cleared app lu t → RightOf app lu t
+right_cleared given written kept app is lu t c = by_host c.host
+  where
+    by_host : HostsAlike c.told t.link.host → RightOf app lu t
+    by_host (HostsAlike.same same) = right_beside given written kept app is lu t (record {
+      told = c.told;
+      kept = c.kept;
+      agreed = c.agreed;
+      unsure = c.unsure;
+      display = c.display;
+      host_here = c.host_here;
+      term_here = c.term_here;
+      host = same;
+      lost = c.lost;
+      talk = c.talk;
+      rest = c.rest;
+      held = held c.stage;
+    })
+      where
+        held : Stage t c.told → t.cleared ≡ false → (erased : Bool) × KeptByKeys erased c.told.term.display.screen.cells t.link.term.display.screen.cells
+        held (Stage.gone cleared locked no_pa) uncleared = absurd (let wrong : true ≡ false = sym cleared ∙ uncleared in cc)
+        held (Stage.erased never erasing silent since) uncleared = (since.erased, since.held)
+    by_host (HostsAlike.crossed paints harmless crossed) =
+        let painting : is_painting t.link.host.pending ≡ true = ap (λ (h : Session). is_painting h.pending) crossed ∙ paints in
+        record {
+          granted = ap (λ (h : Session). agreed_lu h.talk.state) crossed ∙ c.agreed;
+          bound = λ mine bound.
+              let both : Some mine ≡ Some lu = sym (bound_agrees app (view_of c.told) mine c.kept (ap (λ (talk : Term). bound_to talk.talk.state) (sym c.talk) ∙ bound)) ∙ c.agreed in
+              cc;
+          agrees = λ turn. absurd (not_turn (told_link t) painting turn);
+          now = λ uncleared turn. absurd (not_turn t.link painting turn);
+          asked = λ number session question asked. absurd (asks_nothing app session t.link.host question painting asked);
+          fields_asked = λ shows session question asked. absurd (asks_nothing app session t.link.host question painting asked);
+          panel_asked = λ wants number session question asked. absurd (asks_nothing app session t.link.host question painting asked);
+          key_asked = λ shows wants session question asked. absurd (asks_nothing app session t.link.host question painting asked);
+          leads = λ shows wants asked message keep given_values decided. absurd (decides_nothing app t.link.host (Decision.Do (HostAct.Show asked message keep given_values)) painting decided);
+          shown = λ wants has. absurd (let wrong : true ≡ false = sym painting ∙ has.answered in cc);
+          host_here = c.host_here;
+          term_here = c.term_here;
+        }
+      where
+        not_turn : (link : Link) → is_painting link.host.pending ≡ true → IsHostsTurn (seen_link link) → ⊥
+        not_turn link painting turn =
+            let here = host_attached link.host_here link.host turn.host turn.host_is in
+            unanswered link.host.pending painting (sym (ap (λ (h : HostSeen). h.pending) here.1) ∙ turn.answered)
+
 -- ---- the theorem
 
 pub every_terminal : LowerLaws → WrittenIsThere → KeptStaysThere → EveryTerminal
 every_terminal given written kept app lu begin moves is begins rules =
-    right_of given written kept app is lu (after_moves app moves begin) (moves_still given app is lu moves begin rules (begins_simulated given app is lu begin begins))
+    by_case (moves_follow given app is lu moves begin rules (Follows.simulated (begins_simulated given app is lu begin begins)))
+  where
+    by_case : Follows app lu (after_moves app moves begin) → RightOf app lu (after_moves app moves begin)
+    by_case (Follows.simulated s) = right_of given written kept app is lu (after_moves app moves begin) s
+    by_case (Follows.cleared c) = right_cleared given written kept app is lu (after_moves app moves begin) c

@@ -297,7 +297,7 @@ as_moved link = record link { term_here = Some 0; term = record link.term { wait
 
 -- the begin at this connection
 abbrev pub begin_of : Link → LinkWithReport
-begin_of link = record { link = as_moved link; told = link.term.display; waits = true }
+begin_of link = record { link = as_moved link; told = link.term.display; waits = true; cleared = false }
 
 pub blank_of : (app : Application) (lu : List ℕ) (link : Link) → IsFresh app link.host link.term.display → (now : IsAgreedHere app lu link)
     → link.term.display ≡ record (new_display (model_of now.device) app.begins) { keyboard = link.term.display.keyboard }
@@ -319,6 +319,7 @@ first_of app marks lu link fresh any here now = record {
   term_here = refl;
   told = refl;
   waits = refl;
+  cleared = refl;
 }
 
 pub live_bytes : (transit : Transit) (out : List ℕ) → not (is_live transit) ≡ false → under_way transit out ≡ out

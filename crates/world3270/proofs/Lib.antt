@@ -118,3 +118,9 @@ pub mod EventsElsewhere
 pub mod WorldMoves
 pub mod RunsOfByteWorlds
 pub mod ServingMoves
+pub mod WithoutClear
+pub mod ClearedQueue
+pub mod Cleared
+pub mod ClearedHost
+pub mod ClearedDown
+pub mod ClearedKeys

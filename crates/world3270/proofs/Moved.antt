@@ -53,7 +53,7 @@ use Rattle.world3270.specs.refinement.Represents.{LinkRepresents}
 use Rattle.world3270.specs.refinement.Sendable.{CanBeSent}
 use Rattle.world3270.specs.refinement.View.{view_of}
 use Rattle.world3270.specs.statement.Always.{AlwaysOf}
-use Rattle.world3270.specs.statement.EveryTerminal.{AreByTheRules, EveryTerminal, FirstPaint, IsByTheRules, LinkWithReport, Move, after_moves, came_down, came_up, executed, key_pressed, moved, paint_executed, told_if}
+use Rattle.world3270.specs.statement.EveryTerminal.{EveryTerminal, FirstPaint, LinkWithReport, Move, after_moves, came_down, came_up, executed, key_pressed, moved, paint_executed, told_if}
 use Rattle.world3270.specs.statement.EveryTerminalBytes.{Represents}
 use Rattle.world3270.specs.statement.Instances.{ConnectionsAreMoved, IsMoved, IsMovedOverBytes, IsTheSame, WorldsGoOnOverBytes, over_bytes}
 use Rattle.world3270.specs.statement.RuleLaws.{KeepsTheRules}
@@ -75,6 +75,7 @@ use Rattle.world3270.proofs.ScreensFound.{AreTalk, AreTalkUp}
 use Rattle.world3270.proofs.Simulation.{has_agreed}
 use Rattle.world3270.proofs.SimulatedHost.{act_talk}
 use Rattle.world3270.proofs.Worlds.{GoodWorld, new_good, run_good}
+use Rattle.world3270.proofs.WithoutClear.{AreWithoutClear, IsWithoutClear, all_keep_rules}
 
 -- ---- a connection that was moved
 
@@ -84,7 +85,7 @@ record WasMoved (app : Application) (link : Link) : Type 0 where
   begin : LinkWithReport
   begins : FirstPaint app lu begin
   moves : List Move
-  by_the_rules : AreByTheRules app moves begin
+  by_the_rules : AreWithoutClear app moves begin
   same : IsTheSame link (after_moves app moves begin)
 
 -- or one that is lost, or whose host relies on the wait
@@ -99,7 +100,7 @@ module _ (app : Application) (link : Link) (m : WasMoved app link) where
   now_told = after_moves app m.moves m.begin
 
   -- one more move
-  moved_on : (move : Move) (new : Link) → agreed_lu new.host.talk.state ≡ Some m.lu → IsByTheRules move now_told → IsTheSame new (moved app move now_told) → WasMoved app new
+  moved_on : (move : Move) (new : Link) → agreed_lu new.host.talk.state ≡ Some m.lu → IsWithoutClear move now_told → IsTheSame new (moved app move now_told) → WasMoved app new
   moved_on move new agreed rules same = record {
     lu = m.lu;
     agreed = agreed;
@@ -292,7 +293,7 @@ module _ (given : LowerLaws) (app : Application) (is : IsApplication app) (marks
 
   -- ---- the host sends
 
-  sends_on : (move : Move) (sends : Option Sent) → IsSending link.host sends → ((t : LinkWithReport) → IsByTheRules move t)
+  sends_on : (move : Move) (sends : Option Sent) → IsSending link.host sends → ((t : LinkWithReport) → IsWithoutClear move t)
       → ((t : LinkWithReport) → t.link ≡ as_moved link → moved app move t ≡ record t { link = host_sent sends (as_moved link) })
       → IsFollowed app link → IsFollowed app (host_sent sends link)
   sends_on move None so by_rules does followed = followed
@@ -508,9 +509,9 @@ connections_are_moved given every rules sending app serves pool models events is
           begin = m.begin;
           begins = m.begins;
           moves = m.moves;
-          by_the_rules = m.by_the_rules;
+          by_the_rules = all_keep_rules app m.moves m.begin m.begins.cleared m.by_the_rules;
           same = m.same;
-          right = every app m.lu m.begin m.moves is m.begins m.by_the_rules;
+          right = every app m.lu m.begin m.moves is m.begins (all_keep_rules app m.moves m.begin m.begins.cleared m.by_the_rules);
         })
     by_case (inr (inl lost)) = absurd (let wrong : false ≡ true = sym live ∙ lost in cc)
     by_case (inr (inr relies)) = absurd (let wrong : true ≡ false = sym any ∙ relies in cc)

@@ -335,7 +335,7 @@ pa_counts (turn_reasons.Key NoAid buffered) aid is = absurd (is.1 (sym is.0))
 pa_counts turn_reasons.Refusal aid is = absurd is
 pa_counts turn_reasons.Restoration aid is = absurd is
 
-unread_pa : (reason : TurnReason) → is_after_pa reason ≡ false → is_unread reason ≡ false
+pub unread_pa : (reason : TurnReason) → is_after_pa reason ≡ false → is_unread reason ≡ false
 unread_pa turn_reasons.Agreement no_pa = refl
 unread_pa (turn_reasons.Key (Pa key) buffered) no_pa = absurd (cc)
 unread_pa (turn_reasons.Key Enter buffered) no_pa = refl

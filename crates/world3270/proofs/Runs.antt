@@ -7,7 +7,7 @@ use Rattle.world3270.proofs.RunsOfLosses.{losing_run}
 use Rattle.world3270.proofs.RunsOfNotes.{notes_run}
 use Rattle.world3270.proofs.RunsOfReads.{reading_run, doubting_run}
 use Rattle.world3270.proofs.RunsOfRestarts.{restarting_run}
-use Rattle.world3270.proofs.RunsOfRules.{broken_rules, checking_run, kept_rules, told_run, waiting_run}
+use Rattle.world3270.proofs.RunsOfRules.{broken_rules, checking_run, cleared_run, kept_rules, told_run, waiting_run}
 use Rattle.world3270.proofs.RunsOfTargets.{leading_run}
 use Rattle.world3270.proofs.RunsOfQuestions.{asking_run}
 
@@ -27,6 +27,7 @@ the_runs = record {
   waiting = waiting_run;
   checking = checking_run;
   told = told_run;
+  cleared = cleared_run;
   broken = broken_rules;
   kept = kept_rules;
 }

@@ -139,6 +139,7 @@ begin = record {
   };
   told = new_display M2 model_2;
   waits = true;
+  cleared = false;
 }
 
 first : ServedIsMarked → FirstPaint (application_of one_panel) l1 begin
@@ -157,6 +158,7 @@ first served = record {
   term_here = refl;
   told = refl;
   waits = refl;
+  cleared = refl;
 }
 
 represents : MessageLaws → PanelsAreShown → Represents 0 agreed_bytes begin

@@ -1,5 +1,5 @@
 -- The runs of the example with terminals that don't wait, and with terminals that break a rule, computed.
-use Rattle.std.proofs.Common.{◌≡◌, ◌==◌, ℕ, zero, suc, true, false, List, [], ◌∷◌, ◌++◌, Some, refl, ap, sym, subst, lit≤, lit<}
+use Rattle.std.proofs.Common.{◌≡◌, ◌==◌, Bool, ℕ, zero, suc, true, false, List, [], ◌∷◌, ◌++◌, Some, refl, ap, sym, subst, lit≤, lit<}
 use Rattle.std.specs.Prelude.{⊤, slice_get, slice_index_or}
 use Rattle.codes3270.specs.declared.attention.Aid.TheVariants.{Clear, Enter, NoAid}
 use Rattle.codes3270.specs.declared.attribute.Attr.{Attr as Attribute}
@@ -17,7 +17,7 @@ use Rattle.host_core.specs.Laws.{MarksInput}
 use Rattle.host_core.specs.declared.terminals.Terminals.TheVariants.{Any, Waiting}
 use Rattle.world3270.specs.statement.EveryTerminal.{AreByTheRules, FirstPaint, RightOf, LinkWithReport, after_moves, told_link}
 use Rattle.world3270.specs.examples.ExampleApplication.{example_pool, greeting, l1, l2, sign_on, tall_greeting}
-use Rattle.world3270.specs.examples.ExampleRules.{BrokenRules, CheckingRun, KeptRules, ToldRun, WaitingRun, acts, after, agreed_with, example_for, decides_behind, does, enters, enters_twice, entered, goes_up, ignores, kept_moves, left_behind, pasted_behind, presses, relabels, renamed_seen, sends_what_was_left, shown_by, signs_on, small_greeting, told_the_newest, types_in_the_wait}
+use Rattle.world3270.specs.examples.ExampleRules.{BrokenRules, CheckingRun, ClearedRun, KeptRules, ToldRun, WaitingRun, acts, after, agreed_with, answered_behind, clears_before_paint, clears_in_the_wait, example_for, decides_behind, does, enters, enters_twice, entered, goes_up, ignores, kept_moves, left_behind, pasted_behind, presses, relabels, renamed_seen, required_seen, sends_what_was_left, shown_by, shown_once_more, signs_on, small_greeting, still_asked, told_the_newest, types_in_the_wait}
 use Rattle.keyboard.specs.declared.key.Key.TheVariants as key
 use Rattle.world3270.specs.statement.Headline.{IsHostsTurn}
 use Rattle.world3270.proofs.ExampleGiven.{is_application, is_pool}
@@ -69,6 +69,35 @@ newest_is_wrong right =
 
 pub told_run : ToldRun
 told_run = record { newest = newest_is_wrong }
+
+-- ---- Clear in the wait
+
+abbrev is_char : Cell → Bool
+is_char (Char byte) = true
+is_char (Attr attribute) = false
+
+crossed_is_wrong : shown_by (after Any clears_before_paint) ≡ required_seen → ⊥
+unfolding onward backward
+crossed_is_wrong same = unlike (ap (λ (screen : Screen). is_char (slice_index_or screen.cells 0 (Char 0))) same)
+
+erased_is_right : shown_by (after Any answered_behind) ≡ small_greeting renamed_seen
+unfolding onward backward
+erased_is_right = refl
+
+repeated_is_right : shown_by (after Any shown_once_more) ≡ required_seen
+unfolding onward backward
+repeated_is_right = refl
+
+still_asks : still_asked (after Any clears_in_the_wait) ≡ Some (0xC1 ∷ [])
+unfolding onward backward
+still_asks = refl
+
+was_cleared : (after Any clears_in_the_wait).cleared ≡ true
+unfolding onward backward
+was_cleared = refl
+
+pub cleared_run : ClearedRun
+cleared_run = record { cleared = was_cleared; asked = still_asks; erased = erased_is_right; crossed = crossed_is_wrong; repeated = repeated_is_right }
 
 -- ---- a rule is broken
 
@@ -143,6 +172,7 @@ begins = record {
   term_here = refl;
   told = refl;
   waits = refl;
+  cleared = refl;
 }
 
 sound : IsSound example_pool
@@ -159,7 +189,7 @@ pastes_by_the_rules =
 
 keeps_the_rules : AreByTheRules (example_for Any) kept_moves (agreed_with Any l1)
 unfolding onward backward pastes_by_the_rules
-keeps_the_rules = (tt, (tt, (sound, ((enters_by_the_rules, λ waits. absurd (unlike (sym waits))), ((pastes_by_the_rules, λ waits. no_clear), tt)))))
+keeps_the_rules = (tt, (λ cleared. absurd (unlike (sym cleared)), (sound, ((enters_by_the_rules, λ waits. absurd (unlike (sym waits))), ((pastes_by_the_rules, λ waits clear. absurd (no_clear clear)), tt)))))
 
 changes_in_the_wait : shown_by (after_moves (example_for Any) kept_moves (agreed_with Any l1)) ≡ (after_moves (example_for Any) kept_moves (agreed_with Any l1)).told.screen → ⊥
 unfolding onward backward

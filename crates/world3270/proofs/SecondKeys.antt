@@ -195,7 +195,7 @@ second_key_is parts conn (Pa number) key = refl
 second_key_is parts conn NoAid key = absurd (cc)
 second_key_is parts conn Clear key = absurd (cc)
 
-comes_out_of_turn : (parts : InboundParts) (conn : Session) (turn : Turn) (pending : Pending) → is_dropping turn pending ≡ true → parts.form ≡ Modified → data_came parts turn pending conn ≡ out_of_turn parts conn
+pub comes_out_of_turn : (parts : InboundParts) (conn : Session) (turn : Turn) (pending : Pending) → is_dropping turn pending ≡ true → parts.form ≡ Modified → data_came parts turn pending conn ≡ out_of_turn parts conn
 comes_out_of_turn parts conn whose.Host Pending.Nothing drops form = refl
 comes_out_of_turn parts conn whose.Host (Pending.Writing number command) drops form = refl
 comes_out_of_turn parts conn whose.Host (Pending.Reading number) drops form = ap (λ (f : Form). buffer_came parts f conn) form

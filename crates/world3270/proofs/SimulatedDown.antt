@@ -75,6 +75,7 @@ module _ (given : LowerLaws) (app : Application) (is : IsApplication app) (lu : 
         returning = s.returning;
         display = s.display;
         waits = s.waits;
+        uncleared = s.uncleared;
         host_here = s.host_here;
         term_here = s.term_here;
         simulates = record {
@@ -136,6 +137,7 @@ module _ (given : LowerLaws) (app : Application) (is : IsApplication app) (lu : 
         returning = s.returning;
         display = sym (ap (λ (d : Display). record d { size = wanted.size; screen = new; keyboard = freed end.term.display.keyboard; last_restored = new; before_restored = screen; erased = false }) s.simulates.since.rest);
         waits = refl;
+        uncleared = refl;
         host_here = s.host_here;
         term_here = s.term_here;
         simulates = record {
@@ -196,7 +198,7 @@ module _ (given : LowerLaws) (app : Application) (is : IsApplication app) (lu : 
       told_if_pa pa = if pa then record now.term.display { screen = record screen { aid = t.told.screen.aid } } else t.told
 
       read_so : Bool → LinkWithReport
-      read_so pa = record { link = term_stepped (read_came now.term) rest now; told = told_if_pa pa; waits = t.waits }
+      read_so pa = record { link = term_stepped (read_came now.term) rest now; told = told_if_pa pa; waits = t.waits; cleared = t.cleared }
 
       after_pa : is_pa t.told.screen.aid ≡ true → Simulated app lu (read_so true)
       after_pa pa =
@@ -225,6 +227,7 @@ module _ (given : LowerLaws) (app : Application) (is : IsApplication app) (lu : 
                 ∙ ap (λ (b : Bool). record end.term.display { screen = record screen { aid = t.told.screen.aid }; erased = b }) (sym since.erasing)
                 ∙ sym (ap (λ (d : Display). record d { screen = record screen { aid = t.told.screen.aid }; keyboard = end.term.display.keyboard }) since.rest);
             waits = s.waits;
+            uncleared = s.uncleared;
             host_here = s.host_here;
             term_here = s.term_here;
             simulates = record {
@@ -287,6 +290,7 @@ module _ (given : LowerLaws) (app : Application) (is : IsApplication app) (lu : 
         returning = s.returning;
         display = s.display;
         waits = s.waits;
+        uncleared = s.uncleared;
         host_here = s.host_here;
         term_here = s.term_here;
         simulates = record {
@@ -325,6 +329,7 @@ module _ (given : LowerLaws) (app : Application) (is : IsApplication app) (lu : 
         returning = s.returning;
         display = ap (λ (d : Display). record d { screen = after_command command d.screen }) s.display;
         waits = s.waits;
+        uncleared = s.uncleared;
         host_here = s.host_here;
         term_here = s.term_here;
         simulates = record {

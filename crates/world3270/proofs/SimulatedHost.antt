@@ -119,7 +119,7 @@ nothing_up app link k agrees turns pends = by_moment k.moment k.at
     by_moment (LinkPhase.InSession lu serving) at = by_serving lu serving at (sym at.turn ∙ turns) (sym at.pending ∙ pends)
 
 -- an act leaves a host that drops keys
-act_drops : (app : Application) (conn : Session) (act : Act) → conn.turn ≡ whose.Host → is_dropping (done app conn act).conn.turn (done app conn act).conn.pending ≡ true
+pub act_drops : (app : Application) (conn : Session) (act : Act) → conn.turn ≡ whose.Host → is_dropping (done app conn act).conn.turn (done app conn act).conn.pending ≡ true
 act_drops app conn Act.Read turns = ap (λ (turn : Turn). is_dropping turn (Pending.Reading conn.next_seq)) turns
 act_drops app conn (Act.Show panel message keep values) turns = refl
 

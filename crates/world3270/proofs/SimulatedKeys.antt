@@ -27,23 +27,24 @@ use Rattle.world3270.proofs.RuleKeys.{edited_link, edits_kept, sends_kept, sent_
 use Rattle.world3270.proofs.SecondKeys.{IsSecondKey, Says, is_key, key_last, waits_drop}
 use Rattle.world3270.proofs.Sent.{key_aid, key_form}
 use Rattle.world3270.proofs.Simulation.{Simulated, both_say, is_waiting, since_same}
+use Rattle.world3270.proofs.WithoutClear.{operated_none}
 
 -- a key but Clear leaves the cells
-same_cells : (aid : Aid) (screen : Screen) → is_key aid ≡ true → (with_aid aid screen).cells ≡ screen.cells
+pub same_cells : (aid : Aid) (screen : Screen) → is_key aid ≡ true → (with_aid aid screen).cells ≡ screen.cells
 same_cells Enter screen key = refl
 same_cells (Pf number) screen key = refl
 same_cells (Pa number) screen key = refl
 same_cells NoAid screen key = absurd (cc)
 same_cells Clear screen key = absurd (cc)
 
-keys_but_clear : (aid : Aid) → (aid ≡ NoAid → ⊥) → (aid ≡ Clear → ⊥) → is_key aid ≡ true
+pub keys_but_clear : (aid : Aid) → (aid ≡ NoAid → ⊥) → (aid ≡ Clear → ⊥) → is_key aid ≡ true
 keys_but_clear Enter some unclear = refl
 keys_but_clear (Pf number) some unclear = refl
 keys_but_clear (Pa number) some unclear = refl
 keys_but_clear NoAid some unclear = absurd (some refl)
 keys_but_clear Clear some unclear = absurd (unclear refl)
 
-or_again : (one more other : Bool) → ((one || more) || other) ≡ (one || (more || other))
+pub or_again : (one more other : Bool) → ((one || more) || other) ≡ (one || (more || other))
 or_again true more other = refl
 or_again false more other = refl
 
@@ -61,7 +62,7 @@ module _ (given : LowerLaws) (app : Application) (lu : List ℕ) (t : LinkWithRe
   -- ---- in the operator's turn
 
   abbrev typed : TermStep → LinkWithReport
-  typed step = record { link = term_stepped step now.down now; told = step.end.display; waits = is_queued step.sends }
+  typed step = record { link = term_stepped step now.down now; told = step.end.display; waits = is_queued step.sends; cleared = false }
 
   edits_typing : (told.term.display.keyboard.lock ≡ Wait → ⊥) → (keyboard : Keyboard) (cells : List Cell) (cursor : ℕ) (erases : Bool) → KeptByKeys erases now.term.display.screen.cells cells → cursor < length cells
       → Simulated app lu (typed (shows keyboard (edited cells cursor erases now.term.display) [] now.term))
@@ -80,6 +81,7 @@ module _ (given : LowerLaws) (app : Application) (lu : List ℕ) (t : LinkWithRe
         returning = s.returning;
         display = ap (λ (d : Display). record (edited cells cursor erases d) { keyboard = freed told.term.display.keyboard }) (sym same);
         waits = refl;
+        uncleared = refl;
         host_here = s.host_here;
         term_here = s.term_here;
         simulates = record {
@@ -114,6 +116,7 @@ module _ (given : LowerLaws) (app : Application) (lu : List ℕ) (t : LinkWithRe
         returning = s.returning;
         display = ap (λ (d : Display). record (after_sending aid d) { keyboard = record told.term.display.keyboard { lock = Wait } }) (sym same);
         waits = ap (λ (bound : Bool). is_queued (data_of bound (Send aid) now.term.display.size (with_aid aid now.term.display.screen))) (bound_both ∙ bound_told);
+        uncleared = refl;
         host_here = s.host_here;
         term_here = s.term_here;
         simulates = record {
@@ -131,7 +134,7 @@ module _ (given : LowerLaws) (app : Application) (lu : List ℕ) (t : LinkWithRe
   -- ---- in the wait
 
   abbrev untold : TermStep → LinkWithReport
-  untold step = record { link = term_stepped step now.down now; told = t.told; waits = true }
+  untold step = record { link = term_stepped step now.down now; told = t.told; waits = true; cleared = false }
 
   edits_waiting : told.term.display.keyboard.lock ≡ Wait → (keyboard : Keyboard) (cells : List Cell) (cursor : ℕ) (erases : Bool) → KeptByKeys erases now.term.display.screen.cells cells → cursor < length cells
       → Simulated app lu (untold (shows keyboard (edited cells cursor erases now.term.display) [] now.term))
@@ -147,6 +150,7 @@ module _ (given : LowerLaws) (app : Application) (lu : List ℕ) (t : LinkWithRe
         returning = s.returning;
         display = s.display;
         waits = sym (ap is_waiting waits);
+        uncleared = refl;
         host_here = s.host_here;
         term_here = s.term_here;
         simulates = record {
@@ -186,6 +190,7 @@ module _ (given : LowerLaws) (app : Application) (lu : List ℕ) (t : LinkWithRe
         returning = s.returning;
         display = s.display;
         waits = sym (ap is_waiting waits);
+        uncleared = refl;
         host_here = s.host_here;
         term_here = s.term_here;
         simulates = record {
@@ -222,8 +227,8 @@ module _ (given : LowerLaws) (app : Application) (lu : List ℕ) (t : LinkWithRe
 
   -- ---- both
 
-  abbrev then_it_is : Bool → TermStep → LinkWithReport
-  then_it_is waits step = record { link = term_stepped step now.down now; told = if waits then t.told else step.end.display; waits = waits || is_queued step.sends }
+  abbrev then_it_is : (waits cleared : Bool) → TermStep → LinkWithReport
+  then_it_is waits cleared step = record { link = term_stepped step now.down now; told = if waits then t.told else step.end.display; waits = waits || is_queued step.sends; cleared = cleared }
 
   typing : (told.term.display.keyboard.lock ≡ Wait → ⊥) → (step : TermStep) → Operates now.term step → Simulated app lu (typed step)
   typing free step (Operates.edits keyboard cells cursor erases held on is) = subst (λ (step : TermStep). Simulated app lu (typed step)) (sym is) (edits_typing free keyboard cells cursor erases held on)
@@ -237,8 +242,10 @@ module _ (given : LowerLaws) (app : Application) (lu : List ℕ) (t : LinkWithRe
   pub operates_still : (step : TermStep) (does : Operates now.term step) → (t.waits ≡ true → key_pressed does ≡ Clear → ⊥) → Simulated app lu (operated step t)
   operates_still step does unclear = by_lock told.term.display.keyboard.lock refl
     where
-      by_waits : (waits : Bool) → t.waits ≡ waits → Simulated app lu (then_it_is waits step) → Simulated app lu (operated step t)
-      by_waits waits is goes = subst (λ (b : Bool). Simulated app lu (then_it_is b step)) (sym is) goes
+      by_waits : (waits : Bool) → t.waits ≡ waits → Simulated app lu (then_it_is waits false step) → Simulated app lu (operated step t)
+      by_waits waits is goes =
+          subst (λ (c : Bool). Simulated app lu (then_it_is t.waits c step)) (sym (operated_none t step does s.uncleared unclear))
+          (subst (λ (b : Bool). Simulated app lu (then_it_is b false step)) (sym is) goes)
 
       by_lock : (lock : Lock) → told.term.display.keyboard.lock ≡ lock → Simulated app lu (operated step t)
       by_lock Wait is = by_waits true (s.waits ∙ ap is_waiting is) (waiting is step does (unclear (s.waits ∙ ap is_waiting is)))

@@ -72,6 +72,7 @@ pub record Simulated (app : Application) (lu : List ℕ) (t : LinkWithReport) : 
   pub returning : HostReturns told.host
   pub display : told.term.display ≡ record t.told { keyboard = told.term.display.keyboard }
   pub waits : t.waits ≡ is_waiting told.term.display.keyboard.lock
+  pub uncleared : t.cleared ≡ false
   pub host_here : t.link.host_here ≡ true
   pub term_here : is_some t.link.term_here ≡ true
   pub simulates : Simulates told t.link
@@ -103,6 +104,7 @@ still_simulated app lu t s end link end_term link_term term_here host_here kept 
   returning = returning;
   display = subst (λ (term : TermEnd). term.display ≡ record t.told { keyboard = term.display.keyboard }) (sym end_term) s.display;
   waits = s.waits ∙ ap (λ (term : TermEnd). is_waiting term.display.keyboard.lock) (sym end_term);
+  uncleared = s.uncleared;
   host_here = host_here ∙ s.host_here;
   term_here = ap is_some term_here ∙ s.term_here;
   simulates = record {
@@ -125,7 +127,7 @@ both_say end now says lost up = subst (λ (l : Bool). Says end.host (sent end.lo
 
 -- ---- what the host makes of what both say
 
-heads : (one other : ToHost) (rest more : List ToHost) → one ∷ rest ≡ other ∷ more → one ≡ other
+pub heads : (one other : ToHost) (rest more : List ToHost) → one ∷ rest ≡ other ∷ more → one ≡ other
 heads one other rest more is = cc
 
 tails : (one other : ToHost) (rest more : List ToHost) → one ∷ rest ≡ other ∷ more → rest ≡ more

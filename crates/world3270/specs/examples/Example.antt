@@ -6,7 +6,7 @@ use Rattle.world3270.specs.examples.ExampleLosses.{LosingRun}
 use Rattle.world3270.specs.examples.ExampleNotes.{NotesRun}
 use Rattle.world3270.specs.examples.ExampleReads.{ReadingRun, DoubtingRun}
 use Rattle.world3270.specs.examples.ExampleRestarts.{RestartingRun}
-use Rattle.world3270.specs.examples.ExampleRules.{BrokenRules, CheckingRun, KeptRules, ToldRun, WaitingRun}
+use Rattle.world3270.specs.examples.ExampleRules.{BrokenRules, CheckingRun, ClearedRun, KeptRules, ToldRun, WaitingRun}
 use Rattle.world3270.specs.examples.ExampleRuns.{StoredRun, ReconnectingRun}
 use Rattle.world3270.specs.examples.ExampleTargets.{LeadingRun}
 use Rattle.world3270.specs.examples.ExampleQuestions.{AskingRun}
@@ -26,5 +26,6 @@ pub record TheRunsEndSo : Type 0 where
   pub waiting : WaitingRun
   pub checking : CheckingRun
   pub told : ToldRun
+  pub cleared : ClearedRun
   pub broken : BrokenRules
   pub kept : KeptRules

@@ -26,7 +26,7 @@ use Rattle.host_core.specs.declared.terminals.Terminals.TheVariants.{Any, Verifi
 use Rattle.world3270.specs.statement.EveryTerminal.{AreByTheRules, FirstPaint, Move, RightOf, LinkWithReport, after_moves, moved}
 use Rattle.world3270.specs.examples.ExampleApplication.{example, example_pool, example_with, l1, l2, name_field, small}
 use Rattle.world3270.specs.examples.ExampleQuestions.{renamed}
-use Rattle.world3270.specs.examples.ExampleScreens.{message_seen, no_message, skipped}
+use Rattle.world3270.specs.examples.ExampleScreens.{message_seen, no_message, required_name, sign_on_seen, skipped, typed_into}
 use Rattle.world3270.specs.model.Link.{term_stepped}
 use Rattle.world3270.specs.statement.RuleLaws.{impatient_key, pasted}
 use Rattle.world3270.specs.statement.Rules.{after_sending, shows}
@@ -60,6 +60,7 @@ agreed_with serves mine =
       };
       told = end.display;
       waits = true;
+      cleared = false;
     }
 
 -- a step of a run, as a function of the application and of the connection's state
@@ -168,6 +169,44 @@ told_the_newest t = record t { told = t.link.term.display }
 -- The host was told what the first Enter sent. `RightOf` doesn't hold with what the second one sent as `told`.
 pub record ToldRun : Type 0 where
   pub newest : RightOf (example_for Any) l1 (told_the_newest (after Any enters_twice)) → ⊥
+
+-- ---- Clear in the wait
+
+-- `A` in the first field, and PF6, about which the host asks the application; then Reset and Clear, which the host hears
+abbrev pub clears_in_the_wait : List Deed
+clears_in_the_wait = signs_on ++ presses (key.Char 0x41) ∷ presses (key.Pf 6) ∷ goes_up ∷ presses key.Reset
+    ∷ presses key.Clear ∷ goes_up ∷ []
+
+-- the text of the first field in the open question, at a host for any terminal
+abbrev pub still_asked : LinkWithReport → Option (List ℕ)
+still_asked t = option_and_then (λ question. value_of question.values name_field.number)
+    (question_in (example_for Any) 0 t.link.host)
+
+-- The application answers with the second panel, and `B` for the name.
+abbrev pub answered_behind : List Deed
+answered_behind = clears_in_the_wait ++ answers renamed ∷ goes_down ∷ goes_up ∷ []
+
+-- Enter, though a required field is blank: the host shows the same panel again, by a paint that doesn't erase. Clear
+-- crosses the paint; so the host has the turn, and shows the panel once more.
+abbrev pub clears_before_paint : List Deed
+clears_before_paint = signs_on ++ presses key.Enter ∷ goes_up ∷ acts ∷ presses key.Reset ∷ presses key.Clear
+    ∷ goes_down ∷ goes_up ∷ goes_up ∷ []
+
+abbrev pub shown_once_more : List Deed
+shown_once_more = clears_before_paint ++ acts ∷ goes_down ∷ goes_up ∷ []
+
+-- the panel, which asks for the name
+abbrev pub required_seen : Screen
+required_seen = sign_on_seen (typed_into true (0 ∷ 0 ∷ 0 ∷ [])) (typed_into true (0xE8 ∷ [])) required_name
+
+-- The host drops Clear, and still asks what PF6 sent. Whether it heard of Clear before it sent a panel or after, the
+-- panel is on the screen in the end.
+pub record ClearedRun : Type 0 where
+  pub cleared : (after Any clears_in_the_wait).cleared ≡ true
+  pub asked : still_asked (after Any clears_in_the_wait) ≡ Some (0xC1 ∷ [])
+  pub erased : shown_by (after Any answered_behind) ≡ small_greeting renamed_seen
+  pub crossed : shown_by (after Any clears_before_paint) ≢ required_seen
+  pub repeated : shown_by (after Any shown_once_more) ≡ required_seen
 
 -- ---- a rule is broken
 

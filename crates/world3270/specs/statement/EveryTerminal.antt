@@ -1,6 +1,6 @@
 -- One connection between a host that serves any terminal and a terminal that keeps the rules, from the host's agreement
 -- on an LU on (our profile): what may happen on it, and what holds then. Other clients change only the pool of LUs.
-use Rattle.std.specs.Prelude.{◌≡◌, ◌≢◌, ⊤, ◌||◌, ℕ, Bool, true, false, List, [], ◌∷◌, None, Some, if◌then◌else◌, is_some}
+use Rattle.std.specs.Prelude.{◌≡◌, ◌≢◌, ⊤, ◌||◌, ◌&&◌, ℕ, Bool, true, false, List, [], ◌∷◌, None, Some, if◌then◌else◌, is_some}
 use Rattle.codes3270.specs.Size.{cells_in}
 use Rattle.codes3270.specs.declared.attention.Aid.{Aid}
 use Rattle.codes3270.specs.declared.attention.Aid.TheVariants.{NoAid, Clear, Pa}
@@ -48,11 +48,13 @@ use Rattle.world3270.specs.model.Terminal.{Display, TermEnd, TermStep, bound_to,
 -- fields, `told` becomes the terminal's screen when it takes a Read Buffer, with the AID of `told`. A note is written
 -- over `told` too.
 -- `waits`: there was such a key since the last paint (a 3278's keyboard would be locked), or no paint was taken yet.
--- No step of either end reads `told` or `waits`.
+-- `cleared`: Clear was pressed since then, too, so that what the host wrote is gone.
+-- No step of either end reads `told`, `waits` or `cleared`.
 pub record LinkWithReport : Type 0 where
   pub link : Link
   pub told : Display
   pub waits : Bool
+  pub cleared : Bool
 
 -- ---- the terminal takes a message
 
@@ -105,10 +107,21 @@ waits_after (ToTerminal.ReadBuffer number) waits = waits
 waits_after (ToTerminal.Note number command) waits = waits
 waits_after (ToTerminal.TalksDown saying) waits = waits
 
--- A message changes `told` and `waits` only if the terminal is bound: else the terminal drops it.
+-- whether Clear was pressed in the wait, after a message: a paint ends the wait
+abbrev pub cleared_after : ToTerminal → Bool → Bool
+cleared_after (ToTerminal.Paint number wanted over) cleared = false
+cleared_after (ToTerminal.ReadBuffer number) cleared = cleared
+cleared_after (ToTerminal.Note number command) cleared = cleared
+cleared_after (ToTerminal.TalksDown saying) cleared = cleared
+
+-- A message changes `told`, `waits` and `cleared` only if the terminal is bound: else the terminal drops it.
 abbrev pub told_if : Bool → ToTerminal → LinkWithReport → Link → LinkWithReport
-told_if true message t link =
-    record { link = link; told = told_after message t.told link.term.display; waits = waits_after message t.waits }
+told_if true message t link = record {
+  link = link;
+  told = told_after message t.told link.term.display;
+  waits = waits_after message t.waits;
+  cleared = cleared_after message t.cleared;
+}
 told_if false message t link = record t { link = link }
 
 -- ---- what may happen
@@ -136,12 +149,21 @@ came_down [] t = t
 came_down (message ∷ rest) t = told_if (is_bound t.link.term) message t
     (term_stepped (executed t.link.term message) rest t.link)
 
+abbrev pub is_clear : Aid → Bool
+is_clear Clear = true
+is_clear _ = false
+
+-- whether a step of the operator sends Clear
+abbrev pub sends_clear : TermStep → Bool
+sends_clear step = is_queued step.sends && is_clear step.end.display.screen.aid
+
 -- The operator's step. While the terminal waits, `told` stays; else it follows the display.
 abbrev pub operated : TermStep → LinkWithReport → LinkWithReport
 operated step t = record {
   link = term_stepped step t.link.down t.link;
   told = if t.waits then t.told else step.end.display;
   waits = t.waits || is_queued step.sends;
+  cleared = t.cleared || (t.waits && sends_clear step);
 }
 
 abbrev pub moved : Application → Move → LinkWithReport → LinkWithReport
@@ -164,13 +186,29 @@ abbrev pub key_pressed : {end : TermEnd} {step : TermStep} → Operates end step
 key_pressed (Operates.edits keyboard cells cursor erases held on is) = NoAid
 key_pressed (Operates.sends keyboard aid some is) = aid
 
+-- Holds if Clear may be pressed in the wait: the terminal is bound, and the first key wasn't PA, after which the host
+-- would read the screen.
+pub record MayClear (t : LinkWithReport) : Type 0 where
+  pub bound : is_bound t.link.term ≡ true
+  pub no_pa : is_pa t.told.screen.aid ≡ false
+
+-- Holds if no paint or Read Buffer that crossed a Clear in the wait is next for the terminal: the host believed nothing
+-- when it sent the paint. Notes may cross Clear.
+abbrev pub CrossesNoClear : List ToTerminal → Type 0
+CrossesNoClear [] = ⊤
+CrossesNoClear (ToTerminal.Paint number wanted over ∷ rest) = over ≡ Shadow.NothingKnown
+CrossesNoClear (ToTerminal.ReadBuffer number ∷ rest) = ⊥
+CrossesNoClear (ToTerminal.Note number command ∷ rest) = ⊤
+CrossesNoClear (ToTerminal.TalksDown saying ∷ rest) = ⊤
+
 -- Holds if a move keeps the rules: the pool is sound, the operator does what `Operates` allows, and a note has a note's
--- text. Clear must not be pressed while the terminal waits: it nulls the screen that the host wrote by its belief.
+-- text. Clear may be pressed in the wait where `MayClear` says so, and then crosses neither paint nor Read Buffer.
 abbrev pub IsByTheRules : Move → LinkWithReport → Type 0
 IsByTheRules (Move.Up pool) t = IsSound pool
-IsByTheRules (Move.Operate step) t = (does : Operates t.link.term step) × (t.waits ≡ true → key_pressed does ≢ Clear)
+IsByTheRules (Move.Operate step) t = (does : Operates t.link.term step)
+    × (t.waits ≡ true → key_pressed does ≡ Clear → MayClear t)
 IsByTheRules (Move.Note text) t = IsNoteText text
-IsByTheRules Move.Down t = ⊤
+IsByTheRules Move.Down t = t.cleared ≡ true → CrossesNoClear t.link.down
 IsByTheRules Move.Act t = ⊤
 IsByTheRules (Move.Answer said) t = ⊤
 IsByTheRules Move.Lose t = ⊤
@@ -201,6 +239,7 @@ pub record FirstPaint (app : Application) (lu : List ℕ) (t : LinkWithReport) :
   pub term_here : is_some t.link.term_here ≡ true
   pub told : t.told ≡ t.link.term.display
   pub waits : t.waits ≡ true
+  pub cleared : t.cleared ≡ false
 
 -- ---- what holds
 
@@ -210,20 +249,22 @@ told_link t = record t.link { term = record t.link.term { display = t.told } }
 
 -- Holds if this is so on the connection:
 -- (a) If the terminal is bound to an LU, it is the LU that the host granted.
--- (b) to (d) Whenever the host may decide, these parts of the headline hold of what it was told. And the host's belief,
--- but for the characters and MDT of input fields, is true of the terminal's present screen: it has the attributes and
--- the protected characters that the host believes.
+-- (b) to (d) Whenever the host may decide, these parts of the headline hold of what it was told. And unless Clear was
+-- pressed in the wait, the host's belief, but for the characters and MDT of input fields, is true of the terminal's
+-- present screen: it has the attributes and the protected characters that the host believes.
 -- An open question has the key, the cursor and the text of each field of its panel of what the host was told; at
 -- connect and after Clear neither has a field, and else the screen that the last paint left shows the panel. The
 -- application decides on the key there, and after Enter no required field is left blank. If the host itself decides to
 -- show a panel, the key that was pressed on what it was told leads there.
--- After a paint is answered, the screen that it left shows the panel, whatever was typed in the wait before it.
+-- After a paint is answered, the screen that it left shows the panel, whatever was typed in the wait before it, or
+-- pressed: after Clear, too.
 -- Neither end has closed the connection for a cause: both are attached.
 pub record RightOf (app : Application) (lu : List ℕ) (t : LinkWithReport) : Type 0 where
   pub granted : agreed_lu t.link.host.talk.state ≡ Some lu
   pub bound : (mine : List ℕ) → bound_to t.link.term.talk.talk.state ≡ Some mine → mine ≡ lu
   pub agrees : (turn : IsHostsTurn (seen_link (told_link t))) → Agrees turn.host turn.terminal
-  pub now : IsHostsTurn (seen_link t.link) → SeesTheScreen (doubted t.link.host.shadow) t.link.term.display.screen
+  pub now : t.cleared ≡ false → IsHostsTurn (seen_link t.link)
+      → SeesTheScreen (doubted t.link.host.shadow) t.link.term.display.screen
   pub asked : (number session : ℕ) (question : Question) → question_in app session t.link.host ≡ Some question
       → IsSeen (app.fields question.panel) question (end_seen number (told_link t).term)
   pub fields_asked : ShowsItsFields app → (session : ℕ) (question : Question)

@@ -1,0 +1,273 @@
+-- What comes down after Clear in the wait: a paint over nothing erases, so that both terminals display the same then.
+use Rattle.std.proofs.Common.{◌≡◌, ◌<◌, inr, ℕ, Bool, true, false, None, List, [], ◌∷◌, length, refl, ap, sym, subst, ◌∙◌, if◌then◌else◌}
+use Rattle.std.specs.Prelude.{is_some}
+use Rattle.codes3270.specs.Size.{ScreenSize, cells_in}
+use Rattle.datastream.specs.Grammar.{CommandParts}
+use Rattle.datastream.specs.Meaning.{after_command}
+use Rattle.datastream.specs.Screen.{Screen}
+use Rattle.datastream.specs.Wanted.{WantedScreen}
+use Rattle.datastream.specs.declared.command_code.CommandCode.TheVariants.{EraseWrite, EraseWriteAlternate}
+use Rattle.keyboard.specs.State.{freed}
+use Rattle.keyboard.specs.declared.key.Lock.TheVariants.{Wait}
+use Rattle.shadow.specs.Belief.{Shadow}
+use Rattle.shadow.specs.Exactness.{is_erase}
+use Rattle.shadow.specs.Meets.{Meets}
+use Rattle.shadow.specs.Paint.{erase_code, is_base_size, paint}
+use Rattle.shadow.specs.Painted.{plainly_painted}
+use Rattle.tn3270e_msg.specs.Talk.{NegotiationMessage}
+use Rattle.tn3270e_msg.specs.TermTable.{Term}
+use Rattle.host_core.specs.Application.{Application, IsApplication}
+use Rattle.host_core.specs.Messages.{ToHost, ToTerminal, Verdict}
+use Rattle.host_core.specs.Session.{Pending}
+use Rattle.world3270.specs.statement.EveryTerminal.{LinkWithReport, is_pa, paint_executed, told_if}
+use Rattle.world3270.specs.statement.Shown.{is_painting}
+use Rattle.world3270.specs.refinement.LowerLaws.{LowerLaws}
+use Rattle.world3270.specs.model.Link.{Link, sent, term_stepped}
+use Rattle.world3270.specs.refinement.Invariant.{ConnectionInvariant}
+use Rattle.world3270.specs.refinement.Phases.{IsAt, IsInFlight, LinkPhase, SessionPhase}
+use Rattle.world3270.specs.model.Terminal.{Display, TermEnd, TermStep, bound_to, is_bound, note_came, once_bound, paint_came, talked}
+use Rattle.world3270.specs.refinement.View.{view_of}
+use Rattle.world3270.proofs.Cleared.{Cleared, HostsAlike, Stage, agrees_still}
+use Rattle.world3270.proofs.ClearedQueue.{AddsKeys, any_later, both_say_too, erases}
+use Rattle.world3270.proofs.ComesDown.{NoteComes, PaintComes, note_comes, paint_comes}
+use Rattle.world3270.proofs.Down.{bound, paints_on, shape_of_model, showing, term_view}
+use Rattle.world3270.proofs.Obeys.{obeys}
+use Rattle.world3270.proofs.Queues.{empty_queue, front, nothing}
+use Rattle.world3270.proofs.SecondKeys.{SaysAlike, alike_silent}
+use Rattle.world3270.proofs.Simulation.{Since, since_same}
+use Rattle.world3270.proofs.TalkStates.{talking_unbound}
+
+-- the command of an erase erases
+erase_erases : (size : ScreenSize) → is_erase (erase_code size) ≡ true
+erase_erases size = by_base (is_base_size size)
+  where
+    by_base : (b : Bool) → is_erase (if b then EraseWrite else EraseWriteAlternate) ≡ true
+    by_base true = refl
+    by_base false = refl
+
+-- ---- where a terminal is bound, nothing of the talk comes down
+
+talk_over : (app : Application) (link : Link) → ConnectionInvariant app (view_of link) → is_bound link.term ≡ true → (saying : NegotiationMessage) (rest : List ToTerminal) → link.down ≡ ToTerminal.TalksDown saying ∷ rest → ⊥
+talk_over app link k bound_here saying rest e = by_moment k.moment k.at
+  where
+    message : ToTerminal
+    message = ToTerminal.TalksDown saying
+
+    by_serving : (lu : List ℕ) (serving : SessionPhase) → IsAt (view_of link) k.wanted (LinkPhase.InSession lu serving) → ⊥
+    by_serving lu (SessionPhase.Reading number) at = absurd (let clash = (front link.lost link.down message rest _ [] e at.goes_down).0 in cc)
+    by_serving lu (SessionPhase.DecidingNoteSent number command) at = absurd (let clash = (front link.lost link.down message rest _ [] e at.goes_down).0 in cc)
+    by_serving lu (SessionPhase.Painting number command wanted over) at = absurd (let clash = (front link.lost link.down message rest _ [] e at.goes_down).0 in cc)
+    by_serving lu (SessionPhase.Noting number command) at = absurd (let clash = (front link.lost link.down message rest _ [] e at.goes_down).0 in cc)
+    by_serving lu (SessionPhase.KeyCrossingNote number command parts) at = absurd (let clash = (front link.lost link.down message rest _ [] e at.goes_down).0 in cc)
+    by_serving lu SessionPhase.Deciding at = nothing link.lost link.down message rest e at.goes_down
+    by_serving lu (SessionPhase.BufferReturning number parts) at = nothing link.lost link.down message rest e at.goes_down
+    by_serving lu (SessionPhase.DecidingNoteAnswered number command) at = nothing link.lost link.down message rest e at.goes_down
+    by_serving lu (SessionPhase.AwaitingWriteResponse kind number command) at = nothing link.lost link.down message rest e at.goes_down
+    by_serving lu SessionPhase.OperatorTyping at = nothing link.lost link.down message rest e at.goes_down
+    by_serving lu (SessionPhase.KeySent parts) at = nothing link.lost link.down message rest e at.goes_down
+    by_serving lu (SessionPhase.KeySentAfterResponse kind number command parts) at = nothing link.lost link.down message rest e at.goes_down
+    by_serving lu (SessionPhase.KeyBeforeNoteResponse number command parts) at = nothing link.lost link.down message rest e at.goes_down
+
+    by_moment : (moment : LinkPhase) → IsAt (view_of link) k.wanted moment → ⊥
+    by_moment (LinkPhase.Negotiating talking) at = talking_unbound link.term.display.model k.wanted talking link.term.talk at.term_talk bound_here
+    by_moment (LinkPhase.FirstPaint lu number command wanted over) at = absurd (let wrong : false ≡ true = sym (ap (λ state. is_some (bound_to state)) at.term_talk) ∙ bound_here in cc)
+    by_moment (LinkPhase.InSession lu serving) at = by_serving lu serving at
+
+-- while a note is under way, unpainted paint waits for its answer
+note_unpainted : (app : Application) (link : Link) (number : ℕ) (command : CommandParts) (rest : List ToTerminal) → link.down ≡ ToTerminal.Note number command ∷ rest → ConnectionInvariant app (view_of link) → is_bound link.term ≡ true
+    → is_painting link.host.pending ≡ false
+note_unpainted app link number command rest e k bound_here = by_moment k.moment k.at
+  where
+    message : ToTerminal
+    message = ToTerminal.Note number command
+
+    no_more : {Then : Type 0} → IsInFlight link.lost link.down [] → Then
+    no_more way = absurd (nothing link.lost link.down message rest e way)
+
+    by_serving : (lu : List ℕ) (serving : SessionPhase) → IsAt (view_of link) k.wanted (LinkPhase.InSession lu serving) → is_painting link.host.pending ≡ false
+    by_serving lu (SessionPhase.Reading noted) at = ap is_painting at.pending
+    by_serving lu (SessionPhase.DecidingNoteSent noted other) at = ap is_painting at.pending
+    by_serving lu (SessionPhase.Painting noted other wanted over) at = absurd (let clash = (front link.lost link.down message rest _ [] e at.goes_down).0 in cc)
+    by_serving lu (SessionPhase.Noting noted other) at = ap is_painting at.pending
+    by_serving lu (SessionPhase.KeyCrossingNote noted other parts) at = ap is_painting at.pending
+    by_serving lu SessionPhase.Deciding at = ap is_painting at.pending
+    by_serving lu (SessionPhase.BufferReturning noted parts) at = ap is_painting at.pending
+    by_serving lu (SessionPhase.DecidingNoteAnswered noted other) at = ap is_painting at.pending
+    by_serving lu (SessionPhase.AwaitingWriteResponse kind noted other) at = no_more at.goes_down
+    by_serving lu SessionPhase.OperatorTyping at = ap is_painting at.pending
+    by_serving lu (SessionPhase.KeySent parts) at = ap is_painting at.pending
+    by_serving lu (SessionPhase.KeySentAfterResponse kind noted other parts) at = no_more at.goes_down
+    by_serving lu (SessionPhase.KeyBeforeNoteResponse noted other parts) at = ap is_painting at.pending
+
+    by_moment : (moment : LinkPhase) → IsAt (view_of link) k.wanted moment → is_painting link.host.pending ≡ false
+    by_moment (LinkPhase.Negotiating talking) at = ap is_painting at.pending
+    by_moment (LinkPhase.FirstPaint lu noted other wanted over) at = absurd (let wrong : false ≡ true = sym (ap (λ state. is_some (bound_to state)) at.term_talk) ∙ bound_here in cc)
+    by_moment (LinkPhase.InSession lu serving) at = by_serving lu serving at
+
+module _ (given : LowerLaws) (app : Application) (is : IsApplication app) (lu : List ℕ) (t : LinkWithReport) (c : Cleared app lu t) where
+  abbrev end : Link
+  end = c.told
+
+  abbrev now : Link
+  now = t.link
+
+  -- once the message is taken
+  abbrev taken_so : Bool → ToTerminal → TermStep → List ToTerminal → LinkWithReport
+  taken_so is_bound message step rest = told_if is_bound message t (term_stepped (once_bound is_bound step now.term) rest now)
+
+  bound_now : is_bound now.term ≡ true
+  bound_now = ap (λ (talk : Term). is_some (bound_to talk.talk.state)) c.talk ∙ c.bound
+
+  pub talked_cleared : {Then : Type 0} (saying : NegotiationMessage) (rest : List ToTerminal) → now.down ≡ ToTerminal.TalksDown saying ∷ rest → Then
+  talked_cleared saying rest e = absurd (talk_over app end c.kept c.bound saying rest (sym c.down ∙ e))
+
+  -- ---- a paint
+
+  -- a paint that leaves this screen
+  abbrev drawn_so : ℕ → WantedScreen → Screen → TermStep
+  drawn_so number wanted drawn = record {
+    end = record now.term {
+      display = record now.term.display {
+        size = wanted.size;
+        screen = drawn;
+        keyboard = freed now.term.display.keyboard;
+        last_restored = drawn;
+        before_restored = now.term.display.screen;
+        erased = false;
+      };
+    };
+    sends = ToHost.Response number Verdict.Positive ∷ [];
+    closes = None;
+  }
+
+  -- the waiting terminal was gone
+  abbrev Gone : Type 0
+  Gone = (t.cleared ≡ true) × (end.term.display.keyboard.lock ≡ Wait) × (is_pa t.told.screen.aid ≡ false)
+
+  pub gone_now : (message : ToTerminal) (rest : List ToTerminal) → now.down ≡ message ∷ rest → Gone
+  gone_now message rest e = by_stage c.stage
+    where
+      by_stage : Stage t end → Gone
+      by_stage (Stage.gone cleared locked no_pa) = (cleared, locked, no_pa)
+      by_stage (Stage.erased uncleared erasing silent since) = absurd (let wrong = sym silent ∙ (sym c.down ∙ e) in cc)
+
+  -- A paint over nothing erases; what comes up before its answer does no harm then.
+  pub painted_cleared : (number : ℕ) (wanted : WantedScreen) (over : Shadow) (rest : List ToTerminal) → now.down ≡ ToTerminal.Paint number wanted over ∷ rest → over ≡ Shadow.NothingKnown
+      → Cleared app lu (taken_so (is_bound now.term) (ToTerminal.Paint number wanted over) (paint_executed number wanted over now.term) rest)
+  painted_cleared number wanted over rest e nothing_known =
+      subst (λ (b : Bool). Cleared app lu (taken_so b (ToTerminal.Paint number wanted over) (paint_executed number wanted over now.term) rest)) (sym bound_now)
+      (subst (λ (drawn : Screen). Cleared app lu (taken_so true (ToTerminal.Paint number wanted over) (drawn_so number wanted drawn) rest)) (sym (given.belief.painted over wanted screen cells comes.fact.paintable.fits meets)) goes)
+    where
+      comes : PaintComes app end c.kept.wanted rest number wanted over
+      comes = paint_comes app end number wanted over rest (sym c.down ∙ e) c.kept (agrees_still c)
+
+      screen : Screen
+      screen = now.term.display.screen
+
+      new : Screen
+      new = plainly_painted wanted screen
+
+      meets : Meets over screen
+      meets = subst (λ (s : Shadow). Meets s screen) (sym nothing_known) tt
+
+      step : TermStep
+      step = paint_came number wanted (showing screen end.term)
+
+      pending : end.host.pending ≡ Pending.Writing number comes.command
+      pending = comes.at.pending
+
+      erasing : erases end.host.pending ≡ true
+      erasing = ap erases pending ∙ ap (λ (command : CommandParts). is_erase command.code) comes.fact.command_is
+          ∙ ap (λ (s : Shadow). is_erase (paint (cells_in wanted.size) s wanted).code) nothing_known ∙ erase_erases wanted.size
+
+      silent : end.up ≡ []
+      silent = empty_queue end.lost end.up comes.at.goes_up
+
+      keys : AddsKeys c.clears false end.host.turn end.host.pending [] now.up
+      keys = any_later c.clears t.cleared false end.host.turn end.host.pending now.up
+          (subst (λ (said : List ToHost). AddsKeys c.clears t.cleared end.host.turn end.host.pending said now.up) (alike_silent end.host end.up c.up.said silent c.up.alike) c.up.up)
+
+      kept : ConnectionInvariant app (view_of (term_view step rest end))
+      kept = paints_on given app is end rest c.kept comes.lu number comes.command wanted over comes.at comes.fact comes.asked comes.left screen meets (λ waits. absurd (let wrong : false ≡ true = sym c.unsure ∙ waits in cc))
+
+      cells : length wanted.cells ≡ cells_in wanted.size
+      cells = comes.fact.paintable.showable.cells ∙ ap (λ (shape : ScreenSize). cells_in shape) (sym comes.fact.paintable.showable.size)
+
+      hosts : HostsAlike end now.host → HostsAlike (term_view step rest end) now.host
+      hosts (HostsAlike.same same) = HostsAlike.same same
+      hosts (HostsAlike.crossed paints harmless crossed) = HostsAlike.crossed paints (λ paints. inr erasing) crossed
+
+      drawn : now.term.display ≡ record end.term.display { screen = screen; keyboard = now.term.display.keyboard; erased = now.term.display.erased }
+      drawn = c.rest
+
+      since : Since step.end.display (paint_came number wanted now.term).end.display
+      since = since_same given step.end.display (paint_came number wanted now.term).end.display
+          (ap (λ (d : Display). record d { size = wanted.size; screen = new; keyboard = freed now.term.display.keyboard; last_restored = new; before_restored = screen; erased = false }) drawn)
+          (subst (λ (size : ℕ). new.cursor < size) (sym kept.whole) kept.cursor)
+
+      goes : Cleared app lu (taken_so true (ToTerminal.Paint number wanted over) (paint_came number wanted now.term) rest)
+      goes = record {
+        told = term_view step rest end;
+        kept = kept;
+        agreed = c.agreed;
+        any = c.any;
+        unsure = c.unsure;
+        marks = c.marks;
+        returning = c.returning;
+        display = sym (ap (λ (d : Display). record d { size = wanted.size; screen = new; keyboard = freed end.term.display.keyboard; last_restored = new; before_restored = screen; erased = false }) drawn);
+        waits = refl;
+        bound = c.bound;
+        host_here = c.host_here;
+        term_here = c.term_here;
+        host = hosts c.host;
+        lost = c.lost;
+        down = refl;
+        talk = c.talk;
+        clears = c.clears;
+        up = both_say_too c.clears false end.host end.lost now.lost end.up now.up (ToHost.Response number Verdict.Positive) c.lost (λ paints. erasing)
+            (record { said = []; alike = SaysAlike.same (sym silent); up = keys });
+        stage = Stage.erased refl erasing (empty_queue end.lost rest comes.left) since;
+        rest = since.rest;
+        cursor = since.cursor;
+      }
+
+  -- ---- a note
+
+  hosts_noted : (up : List ToHost) (down : List ToTerminal) (term : TermEnd) → is_painting end.host.pending ≡ false → HostsAlike end now.host → HostsAlike (record end { up = up; down = down; term = term }) now.host
+  hosts_noted up down term unpainted (HostsAlike.same same) = HostsAlike.same same
+  hosts_noted up down term unpainted (HostsAlike.crossed paints harmless crossed) = absurd (let wrong : false ≡ true = sym unpainted ∙ paints in cc)
+
+  pub noted_cleared : (number : ℕ) (command : CommandParts) (rest : List ToTerminal) → now.down ≡ ToTerminal.Note number command ∷ rest
+      → Cleared app lu (taken_so (is_bound now.term) (ToTerminal.Note number command) (note_came number command now.term) rest)
+  noted_cleared number command rest e =
+      let down : end.down ≡ ToTerminal.Note number command ∷ rest = sym c.down ∙ e in
+      let comes : NoteComes end command = note_comes given app end number command rest down c.kept (agrees_still c) in
+      let note = (given.notes.are_notes end.host.size command (shape_of_model app end.term.display.model end.host.size is c.kept.sizes.host) comes.note).note in
+      let bounds = given.notes.bounds command now.term.display.screen note in
+      let gone : Gone = gone_now (ToTerminal.Note number command) rest e in
+      let unpainted : is_painting end.host.pending ≡ false = note_unpainted app end number command rest down c.kept c.bound in
+      subst (λ (b : Bool). Cleared app lu (taken_so b (ToTerminal.Note number command) (note_came number command now.term) rest)) (sym bound_now)
+      (record {
+        told = term_view (note_came number command end.term) rest end;
+        kept = subst (λ (bound : Bool). ConnectionInvariant app (view_of (term_view (once_bound bound (note_came number command end.term) end.term) rest end))) comes.bound
+            (obeys given app is end (ToTerminal.Note number command) rest down c.kept).kept;
+        agreed = c.agreed;
+        any = c.any;
+        unsure = c.unsure;
+        marks = c.marks;
+        returning = c.returning;
+        display = ap (λ (d : Display). record d { screen = after_command command d.screen }) c.display;
+        bound = c.bound;
+        waits = c.waits;
+        host_here = c.host_here;
+        term_here = c.term_here;
+        host = hosts_noted (sent end.lost end.up (ToHost.Response number Verdict.Positive ∷ [])) rest (note_came number command end.term).end unpainted c.host;
+        lost = c.lost;
+        down = refl;
+        talk = c.talk;
+        clears = c.clears;
+        up = both_say_too c.clears t.cleared end.host end.lost now.lost end.up now.up (ToHost.Response number Verdict.Positive) c.lost (λ paints. absurd (let wrong : false ≡ true = sym unpainted ∙ paints in cc)) c.up;
+        stage = Stage.gone gone.0 gone.1 (ap is_pa (given.notes.bounds command t.told.screen note).aid ∙ gone.2);
+        rest = ap (λ (d : Display). record d { screen = after_command command now.term.display.screen }) c.rest;
+        cursor = subst (λ (at : ℕ). at < length (after_command command now.term.display.screen).cells) (sym bounds.cursor) (subst (λ (size : ℕ). now.term.display.screen.cursor < size) (sym bounds.size) c.cursor);
+      })

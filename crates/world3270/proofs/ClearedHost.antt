@@ -1,0 +1,432 @@
+-- What the host hears, and what it sends, after Clear in the wait: it can't tell the terminal from one that waits and displays what was told.
+use Rattle.std.proofs.Common.{◌≡◌, ◌⊎◌, inl, inr, ◌&&◌, Bool, true, false, ℕ, Option, None, Some, List, [], ◌∷◌, refl, ap, sym, subst, ◌∙◌, if◌then◌else◌}
+use Rattle.std.specs.Option.{option_and_then}
+use Rattle.codes3270.specs.declared.attention.Aid.{Aid}
+use Rattle.codes3270.specs.declared.attention.Aid.TheVariants.{NoAid, Enter, Clear, Pf, Pa}
+use Rattle.datastream.specs.Grammar.{CommandParts}
+use Rattle.shadow.specs.Exactness.{is_erase}
+use Rattle.tn3270e_msg.specs.declared.cause.Cause.{Cause}
+use Rattle.lu_pool.specs.Asking.{answer_to}
+use Rattle.lu_pool.specs.HolderLaws.{IsSound}
+use Rattle.lu_pool.specs.declared.entry.Entry.{Entry}
+use Rattle.host_core.specs.Acts.{Act, Decision, Sent, acted, decided, decision_on, done, may_act}
+use Rattle.host_core.specs.Application.{Application, IsApplication}
+use Rattle.host_core.specs.Messages.{ToHost, ToTerminal, Verdict}
+use Rattle.host_core.specs.Notes.{IsNoteText, may_note, note_command, noted, noted_as}
+use Rattle.host_core.specs.Questions.{act_by, answered_on, has_its_panel, is_asking, panel_for}
+use Rattle.host_core.specs.Session.{Session, Pending, agreed_lu, is_agreed}
+use Rattle.host_core.specs.Takes.{Answers, HostStep, answered, dropping, if_answers, is_unread, may_be_read, may_have_changed, once_agreed, quiet, refused, response_came, took as host_took}
+use Rattle.host_core.specs.declared.question.Answer.{Answer as ApplicationAnswer}
+use Rattle.host_core.specs.declared.turn.Turn.{Turn}
+use Rattle.host_core.specs.declared.turn.Turn.TheVariants as whose
+use Rattle.host_core.specs.declared.unheard.Unheard.{Unheard}
+use Rattle.host_core.specs.declared.unheard.Unheard.TheVariants as unheards
+use Rattle.world3270.specs.statement.EveryTerminal.{LinkWithReport, is_pa}
+use Rattle.world3270.specs.statement.Shown.{is_painting}
+use Rattle.world3270.specs.refinement.LowerLaws.{LowerLaws}
+use Rattle.world3270.specs.model.Link.{Link, cut, host_left_if, host_sent, host_stepped, sent}
+use Rattle.world3270.specs.model.Terminal.{Display, TermEnd}
+use Rattle.world3270.specs.refinement.Invariant.{ConnectionInvariant}
+use Rattle.world3270.specs.refinement.Phases.{Kind}
+use Rattle.world3270.specs.refinement.View.{view_of}
+use Rattle.world3270.proofs.Acting.{acts, answers_are_shown, asking_parts, loses, may_act_at, may_act_when}
+use Rattle.world3270.proofs.Cleared.{Cleared, Follows, HearsOfClear, HostsAlike, PaintAnswered, Stage, agrees_still, but_unheard, hearing_clear, hears_of_clear, may_change, paint_answers, still_cleared}
+use Rattle.world3270.proofs.ClearedQueue.{AddsKeys, DoesNoHarm, IsAnyKey, SaysToo, alike_cleared, clear_dropped, clears_behind, erases, noted_keys, only_keys, second_keys, second_of}
+use Rattle.world3270.proofs.HeardTurns.{GoesOn, goes_on}
+use Rattle.world3270.proofs.HostSteps.{act_changed, just_talks, still_changed}
+use Rattle.world3270.proofs.Noting.{notes}
+use Rattle.world3270.proofs.OneOfMany.{same_number}
+use Rattle.world3270.proofs.Queues.{nothing_sent}
+use Rattle.world3270.proofs.Returning.{HostReturns, returns_acted, returns_heard, returns_noted}
+use Rattle.world3270.proofs.SecondKeys.{IsSecondKey, SaysAlike, alike_silent, alike_unread, is_dropping, pending_after, second_key_dropped, turn_after, unless_read}
+use Rattle.world3270.proofs.SimulatedHost.{act_drops, act_talk, may_note_when, nothing_up}
+use Rattle.world3270.proofs.Simulation.{HeardAlike, heads, heard_alike}
+use Rattle.world3270.proofs.Up.{Answered, answers, host_view, response_took}
+
+-- Clear or another key
+pub data IsClearOr (aid : Aid) : Type 0 where
+  is_clear : aid ≡ Clear → IsClearOr aid
+  is_another : (aid ≡ Clear → ⊥) → IsClearOr aid
+
+pub clear_or : (aid : Aid) → IsClearOr aid
+clear_or Clear = IsClearOr.is_clear refl
+clear_or NoAid = IsClearOr.is_another (λ is. absurd (cc))
+clear_or Enter = IsClearOr.is_another (λ is. absurd (cc))
+clear_or (Pf number) = IsClearOr.is_another (λ is. absurd (cc))
+clear_or (Pa number) = IsClearOr.is_another (λ is. absurd (cc))
+
+-- what both say is nothing if the waiting terminal says nothing, and the other way round
+silent_told : (conn : Session) (told said : List ToHost) → said ≡ [] → SaysAlike conn told said → told ≡ []
+silent_told conn told said none (SaysAlike.same is) = sym is ∙ none
+silent_told conn told said none (SaysAlike.checked number one other rest pends skips one_kept other_kept is_told is_said) = absurd (let wrong = sym is_said ∙ none in cc)
+
+-- where a paint erases, one waits for its answer
+paints_so : (pending : Pending) → erases pending ≡ true → is_painting pending ≡ true
+paints_so (Pending.Writing number command) is = refl
+paints_so Pending.Nothing is = absurd (cc)
+paints_so (Pending.Reading number) is = absurd (cc)
+paints_so (Pending.Noting number command) is = absurd (cc)
+
+-- ---- an answered paint that erased
+
+only_input : (unheard : Unheard) → may_have_changed unheard ≡ true → may_be_read unheard ≡ true → unheard ≡ unheards.Input
+only_input unheards.Nothing any may = absurd (cc)
+only_input unheards.Input any may = refl
+only_input unheards.Clear any may = absurd (cc)
+
+erases_is : (pending : Pending) (number : ℕ) (command : CommandParts) → pending ≡ Pending.Writing number command → erases pending ≡ true → is_erase command.code ≡ true
+erases_is pending number command is erasing = sym (ap erases is) ∙ erasing
+
+-- A host that has heard of Clear makes the same of the answer to an erase.
+erase_answered : (pool : Answers) (told : Session) (number : ℕ) (command : CommandParts) → is_agreed told.talk.state ≡ true → told.pending ≡ Pending.Writing number command → is_erase command.code ≡ true → may_have_changed told.unheard ≡ true
+    → may_be_read told.unheard ≡ true → host_took pool (hearing_clear told) (ToHost.Response number Verdict.Positive) ≡ host_took pool told (ToHost.Response number Verdict.Positive)
+erase_answered pool told number command agrees pends is any may =
+    ap (λ (b : Bool). once_agreed b (response_came number Verdict.Positive told.pending (hearing_clear told)) (hearing_clear told)) agrees
+    ∙ ap (λ (p : Pending). response_came number Verdict.Positive p (hearing_clear told)) pends
+    ∙ ap (λ (b : Bool). if_answers b (quiet (if is_erase command.code then answered command (record told { unheard = unheards.Input }) else refused (hearing_clear told))) (hearing_clear told)) (same_number number)
+    ∙ ap (λ (b : Bool). quiet (if b then answered command (record told { unheard = unheards.Input }) else refused (hearing_clear told))) is
+    ∙ ap (λ (u : Unheard). quiet (answered command (record told { unheard = u }))) (sym (only_input told.unheard any may))
+    ∙ sym (response_took pool told Kind.APaint number command agrees pends may)
+
+-- ---- the host hears
+
+module _ (given : LowerLaws) (app : Application) (is_app : IsApplication app) (lu : List ℕ) (t : LinkWithReport) (c : Cleared app lu t) where
+  abbrev told : Link
+  told = c.told
+
+  abbrev now : Link
+  now = t.link
+
+  agreed_now : is_agreed now.host.talk.state ≡ true
+  agreed_now = ap (λ (s : Session). is_agreed s.talk.state) (but_unheard told now.host c.host) ∙ agrees_still c
+
+  abbrev heard_by : Session → Option Cause → List ToTerminal → List ToHost → LinkWithReport
+  heard_by conn closes sends rest = record t { link = host_left_if closes (record now { up = rest; host = conn; down = sent now.lost now.down sends }) }
+
+  -- the host is this one then, and the waiting terminal's that one
+  dropped_so : (waiting : Session) (conn : Session) (rest : List ToHost) → ConnectionInvariant app (view_of (record told { host = waiting })) → waiting.talk ≡ told.host.talk → waiting.pending ≡ told.host.pending → may_have_changed waiting.unheard ≡ true
+      → HostsAlike (record told { host = waiting }) conn → HostReturns waiting → SaysToo c.clears t.cleared waiting told.up rest → Cleared app lu (heard_by conn None [] rest)
+  dropped_so waiting conn rest kept talk pending any alike returns says =
+      still_cleared app lu t c (record told { host = waiting }) (heard_by conn None [] rest).link c.clears refl refl refl refl kept talk any alike c.lost (nothing_sent now.lost now.down ∙ c.down) returns says (by_stage c.stage)
+    where
+      by_stage : Stage t told → Stage (heard_by conn None [] rest) (record told { host = waiting })
+      by_stage (Stage.gone cleared locked no_pa) = Stage.gone cleared locked no_pa
+      by_stage (Stage.erased uncleared erasing silent since) = Stage.erased uncleared (ap erases pending ∙ erasing) silent since
+
+  -- another second key is dropped
+  drops_key : (pool : Answers) (message : ToHost) (rest : List ToHost) → is_dropping told.host.turn told.host.pending ≡ true → IsSecondKey message → AddsKeys c.clears t.cleared told.host.turn told.host.pending c.up.said rest
+      → Cleared app lu (record t { link = host_stepped (host_took pool now.host message) rest now })
+  drops_key pool message rest drops second x =
+      let is : host_took pool now.host message ≡ dropping second.parts.aid now.host =
+      second_key_dropped pool now.host message second agreed_now (may_change told now.host c.host c.any) (ap (λ (s : Session). is_dropping s.turn s.pending) (but_unheard told now.host c.host) ∙ drops) in
+      subst (λ (step : HostStep). Cleared app lu (record t { link = host_stepped step rest now })) (sym is)
+      (dropped_so told.host now.host rest c.kept refl refl c.any c.host c.returning (record { said = c.up.said; alike = c.up.alike; up = x }))
+
+  -- So is Clear, but the host paints the next panel whole.
+  drops_clear : (pool : Answers) (message : ToHost) (rest : List ToHost) → is_dropping told.host.turn told.host.pending ≡ true → (key : IsAnyKey c.clears told.host.pending c.up.said message) → key.parts.aid ≡ Clear
+      → AddsKeys c.clears t.cleared told.host.turn told.host.pending c.up.said rest → Cleared app lu (record t { link = host_stepped (host_took pool now.host message) rest now })
+  drops_clear pool message rest drops key clear x = by_painting (is_painting told.host.pending) refl
+    where
+      dropping_now : is_dropping now.host.turn now.host.pending ≡ true
+      dropping_now = ap (λ (s : Session). is_dropping s.turn s.pending) (but_unheard told now.host c.host) ∙ drops
+
+      painting_now : is_painting now.host.pending ≡ is_painting told.host.pending
+      painting_now = ap (λ (s : Session). is_painting s.pending) (but_unheard told now.host c.host)
+
+      hearing_alike : hearing_clear now.host ≡ hearing_clear told.host
+      hearing_alike = ap hearing_clear (but_unheard told now.host c.host)
+
+      goes : Cleared app lu (heard_by (hearing_clear now.host) None [] rest) → (is_painting now.host.pending ≡ false → is_unread now.host.turn_reason ≡ false) → Cleared app lu (record t { link = host_stepped (host_took pool now.host message) rest now })
+      goes so read =
+          subst (λ (step : HostStep). Cleared app lu (record t { link = host_stepped step rest now }))
+          (sym (clear_dropped pool now.host message key.parts key.is key.form clear agreed_now (may_change told now.host c.host c.any) dropping_now read)) so
+
+      harmless : DoesNoHarm told.host.pending told.up
+      harmless paints = by_said ((key.fits clear).1 paints)
+        where
+          by_said : (c.up.said ≡ []) ⊎ (erases told.host.pending ≡ true) → (told.up ≡ []) ⊎ (erases told.host.pending ≡ true)
+          by_said (inl none) = inl (silent_told told.host told.up c.up.said none c.up.alike)
+          by_said (inr erasing) = inr erasing
+
+      no_pa : is_painting told.host.pending ≡ false → Stage t told → is_pa told.term.display.screen.aid ≡ false
+      no_pa none (Stage.gone cleared locked it) = ap (λ (d : Display). is_pa d.screen.aid) c.display ∙ it
+      no_pa none (Stage.erased uncleared erasing silent since) = absurd (let wrong : false ≡ true = sym none ∙ paints_so told.host.pending erasing in cc)
+
+      by_painting : (paints : Bool) → is_painting told.host.pending ≡ paints → Cleared app lu (record t { link = host_stepped (host_took pool now.host message) rest now })
+      by_painting true paints =
+          goes (dropped_so told.host (hearing_clear now.host) rest c.kept refl refl c.any
+          (HostsAlike.crossed paints harmless hearing_alike) c.returning
+          (record { said = c.up.said; alike = c.up.alike; up = x }))
+          (λ none. absurd (let wrong : true ≡ false = sym (painting_now ∙ paints) ∙ none in cc))
+      by_painting false none =
+          let hears : HearsOfClear app told = hears_of_clear app told c.kept c.any (no_pa none c.stage) drops none in
+          goes (dropped_so (hearing_clear told.host) (hearing_clear now.host) rest hears.kept refl refl refl (HostsAlike.same hearing_alike) c.returning
+          (record { said = c.up.said; alike = alike_cleared told.host told.up c.up.said c.any c.up.alike; up = x }))
+          (λ unpainted. ap (λ (s : Session). is_unread s.turn_reason) (but_unheard told now.host c.host) ∙ hears.read)
+
+  -- Any other message is heard of both; of what the waiting terminal says first the host makes the same.
+  hears_both : (entries : List Entry) → IsSound entries → (message : ToHost) → host_took (answer_to entries) now.host message ≡ host_took (answer_to entries) told.host message → (rest others : List ToHost)
+      → HeardAlike (answer_to entries) told.host told.up message others
+      → AddsKeys (clears_behind message c.clears t.cleared) t.cleared (turn_after message told.host.turn) (pending_after message told.host.pending) others rest
+      → Follows app lu (record t { link = host_stepped (host_took (answer_to entries) now.host message) rest now })
+  hears_both entries sound message made rest others alike x =
+      subst (λ (step : HostStep). Follows app lu (record t { link = host_stepped step rest now })) (alike.same ∙ sym made)
+      (subst (λ (closes : Option Cause). Follows app lu (heard_by step.conn closes step.sends rest)) (sym heard.open_end) (by_stage c.stage))
+    where
+      pool : Answers
+      pool = answer_to entries
+
+      first : ToHost
+      first = alike.first
+
+      step : HostStep
+      step = host_took pool told.host first
+
+      heard : Answered app entries told others step
+      heard = answers given app entries sound told first others alike.is c.kept
+
+      goes : GoesOn pool told.host first
+      goes = goes_on given app pool told first others alike.is c.kept (agrees_still c)
+
+      up : AddsKeys (clears_behind message c.clears t.cleared) t.cleared step.conn.turn step.conn.pending others rest
+      up =
+          subst (λ (turn : Turn). AddsKeys (clears_behind message c.clears t.cleared) t.cleared turn step.conn.pending others rest) (sym (goes.turn ∙ alike.turn))
+          (subst (λ (pending : Pending). AddsKeys (clears_behind message c.clears t.cleared) t.cleared (turn_after message told.host.turn) pending others rest) (sym (goes.pending ∙ alike.pending)) x)
+
+      down : sent now.lost now.down step.sends ≡ sent told.lost told.down step.sends
+      down = ap (λ (lost : Bool). sent lost now.down step.sends) c.lost ∙ ap (λ (down : List ToTerminal). sent told.lost down step.sends) c.down
+
+      returns : HostReturns step.conn
+      returns = returns_heard given app is_app pool told first others alike.is c.kept (agrees_still c) c.returning
+
+      any : may_have_changed step.conn.unheard ≡ true
+      any = (just_talks pool told.host first).unheard ∙ c.any
+
+      by_stage : Stage t told → Follows app lu (heard_by step.conn None step.sends rest)
+      by_stage (Stage.gone cleared locked no_pa) =
+          Follows.cleared (still_cleared app lu t c (host_view step others told) (heard_by step.conn None step.sends rest).link (clears_behind message c.clears t.cleared) refl refl refl refl heard.kept goes.talk any
+          (HostsAlike.same refl) c.lost down returns (record { said = others; alike = SaysAlike.same refl; up = up }) (Stage.gone cleared locked no_pa))
+      by_stage (Stage.erased uncleared erasing silent since) = Follows.simulated (record {
+        told = host_view step others told;
+        kept = heard.kept;
+        agreed = ap (λ talk. agreed_lu talk.state) goes.talk ∙ c.agreed;
+        any = any;
+        unsure = c.unsure;
+        marks = c.marks;
+        returning = returns;
+        display = c.display;
+        waits = c.waits;
+        uncleared = uncleared;
+        host_here = c.host_here;
+        term_here = c.term_here;
+        simulates = record {
+          host = refl;
+          lost = c.lost;
+          down = down;
+          talk = c.talk;
+          up = record {
+            said = others;
+            alike = SaysAlike.same refl;
+            up = second_keys step.conn.turn step.conn.pending others rest
+                (subst (λ (b : Bool). AddsKeys b false step.conn.turn step.conn.pending others rest) (behind_answer uncleared)
+                (subst (λ (b : Bool). AddsKeys (clears_behind message c.clears t.cleared) b step.conn.turn step.conn.pending others rest) uncleared up));
+          };
+          since = since;
+        };
+      })
+        where
+          -- what is said first is the answer
+          answers_it : PaintAnswered told first
+          answers_it = paint_answers app told first others c.kept (paints_so told.host.pending erasing) alike.is
+
+          by_message : (message : ToHost) → pending_after first told.host.pending ≡ pending_after message told.host.pending → clears_behind message c.clears t.cleared ≡ false
+          by_message (ToHost.Response number verdict) same = uncleared
+          by_message (ToHost.Data parts) same =
+              absurd (let wrong : Pending.Nothing ≡ unless_read told.host.pending = sym (ap (λ (m : ToHost). pending_after m told.host.pending) answers_it.first_is) ∙ same in let clash = wrong ∙ ap unless_read answers_it.pending in cc)
+          by_message (ToHost.TalksUp saying) same =
+              absurd (let wrong : Pending.Nothing ≡ told.host.pending = sym (ap (λ (m : ToHost). pending_after m told.host.pending) answers_it.first_is) ∙ same in let clash = wrong ∙ answers_it.pending in cc)
+
+          behind_answer : t.cleared ≡ false → clears_behind message c.clears t.cleared ≡ false
+          behind_answer never = by_message message alike.pending
+
+  -- the host makes the same of it, whether or not it has heard of Clear
+  made_alike : (entries : List Entry) (message : ToHost) (others : List ToHost) → c.up.said ≡ message ∷ others → HeardAlike (answer_to entries) told.host told.up message others
+      → host_took (answer_to entries) now.host message ≡ host_took (answer_to entries) told.host message
+  made_alike entries message others some alike = by_host c.host
+    where
+      pool : Answers
+      pool = answer_to entries
+
+      by_host : HostsAlike told now.host → host_took pool now.host message ≡ host_took pool told.host message
+      by_host (HostsAlike.same is) = ap (λ (s : Session). host_took pool s message) is
+      by_host (HostsAlike.crossed paints harmless is) = by_harm (harmless paints)
+        where
+          it : PaintAnswered told alike.first
+          it = paint_answers app told alike.first others c.kept paints alike.is
+
+          -- both say the same, since unpainted read is pending
+          same_said : c.up.said ≡ told.up
+          same_said = by_alike c.up.alike
+            where
+              by_alike : SaysAlike told.host told.up c.up.said → c.up.said ≡ told.up
+              by_alike (SaysAlike.same same) = same
+              by_alike (SaysAlike.checked number one other more pends skips one_kept other_kept is_told is_said) =
+                  absurd (let wrong : Pending.Reading number ≡ Pending.Writing it.number it.command = sym pends ∙ it.pending in cc)
+
+          message_is : message ≡ ToHost.Response it.number Verdict.Positive
+          message_is = heads message alike.first others others (sym some ∙ same_said ∙ alike.is) ∙ it.first_is
+
+          by_harm : (told.up ≡ []) ⊎ (erases told.host.pending ≡ true) → host_took pool now.host message ≡ host_took pool told.host message
+          by_harm (inl none) = absurd (let wrong = sym none ∙ alike.is in cc)
+          by_harm (inr erasing) =
+              ap (λ (s : Session). host_took pool s message) is
+              ∙ ap (λ (m : ToHost). host_took pool (hearing_clear told.host) m) message_is
+              ∙ erase_answered pool told.host it.number it.command (agrees_still c) it.pending (erases_is told.host.pending it.number it.command it.pending erasing) c.any it.uncleared
+              ∙ ap (λ (m : ToHost). host_took pool told.host m) (sym message_is)
+
+  pub hears_cleared : (entries : List Entry) → IsSound entries → (message : ToHost) (rest : List ToHost) → now.up ≡ message ∷ rest
+      → Follows app lu (record t { link = host_stepped (host_took (answer_to entries) now.host message) rest now })
+  hears_cleared entries sound message rest is = by_extra (subst (λ (up : List ToHost). AddsKeys c.clears t.cleared told.host.turn told.host.pending c.up.said up) is c.up.up)
+    where
+      by_key : is_dropping told.host.turn told.host.pending ≡ true → (key : IsAnyKey c.clears told.host.pending c.up.said message) → AddsKeys c.clears t.cleared told.host.turn told.host.pending c.up.said rest → IsClearOr key.parts.aid
+          → Cleared app lu (record t { link = host_stepped (host_took (answer_to entries) now.host message) rest now })
+      by_key drops key x (IsClearOr.is_clear pressed) = drops_clear (answer_to entries) message rest drops key pressed x
+      by_key drops key x (IsClearOr.is_another unclear) = drops_key (answer_to entries) message rest drops (second_of key unclear) x
+
+      by_extra : AddsKeys c.clears t.cleared told.host.turn told.host.pending c.up.said (message ∷ rest) → Follows app lu (record t { link = host_stepped (host_took (answer_to entries) now.host message) rest now })
+      by_extra (inl x) = Follows.cleared (by_key x.0 x.1 x.2 (clear_or x.1.parts.aid))
+      by_extra (inr x) =
+          let alike = heard_alike (answer_to entries) told.host told.up c.up.said message x.0 (agrees_still c) x.1 c.up.alike in
+          hears_both entries sound message (made_alike entries message x.0 x.1 alike) rest x.0 alike x.2
+
+-- ---- the host sends
+
+-- while a paint waits for its answer, it sends nothing
+pub painting_waits : (turn : Turn) (pending : Pending) (agreed : Bool) → is_painting pending ≡ true → may_act turn pending agreed ≡ false
+painting_waits whose.Host Pending.Nothing agreed paints = absurd (cc)
+painting_waits whose.Host (Pending.Writing number command) agreed paints = refl
+painting_waits whose.Host (Pending.Reading number) agreed paints = absurd (cc)
+painting_waits whose.Host (Pending.Noting number command) agreed paints = absurd (cc)
+painting_waits whose.Terminal pending agreed paints = refl
+
+painting_notes : (turn : Turn) (pending : Pending) (agreed : Bool) → is_painting pending ≡ true → may_note turn pending agreed ≡ false
+painting_notes whose.Terminal Pending.Nothing agreed paints = absurd (cc)
+painting_notes whose.Terminal (Pending.Writing number command) agreed paints = refl
+painting_notes whose.Terminal (Pending.Reading number) agreed paints = absurd (cc)
+painting_notes whose.Terminal (Pending.Noting number command) agreed paints = absurd (cc)
+painting_notes whose.Host pending agreed paints = refl
+
+pub no_act : (app : Application) (conn : Session) → is_painting conn.pending ≡ true → acted app conn ≡ None
+no_act app conn paints = ap (λ (b : Bool). option_and_then (decided app conn) (if b then Some (decision_on app conn conn.turn_reason) else None)) (painting_waits conn.turn conn.pending (is_agreed conn.talk.state) paints)
+
+pub no_answer : (app : Application) (conn : Session) (said : ApplicationAnswer) → is_painting conn.pending ≡ true → answered_on app conn said ≡ None
+no_answer app conn said paints = by_open (is_asking app conn) refl
+  where
+    by_open : (asks : Bool) → is_asking app conn ≡ asks → (if asks && has_its_panel app said then Some (done app conn (act_by app conn said (panel_for app conn said))) else None) ≡ None
+    by_open false none = refl
+    by_open true asks =
+        absurd (let wrong : false ≡ true = sym (painting_waits conn.turn conn.pending (is_agreed conn.talk.state) paints) ∙ (asking_parts app conn asks).0 in cc)
+
+pub no_note : (text : List ℕ) (conn : Session) → is_painting conn.pending ≡ true → noted text conn ≡ None
+no_note text conn paints = ap (λ (b : Bool). if b then Some (noted_as text conn) else None) (painting_notes conn.turn conn.pending (is_agreed conn.talk.state) paints)
+
+module _ (given : LowerLaws) (app : Application) (is : IsApplication app) (lu : List ℕ) (t : LinkWithReport) (c : Cleared app lu t) where
+  abbrev end : Link
+  end = c.told
+
+  abbrev may_act_now : Bool
+  may_act_now = may_act end.host.turn end.host.pending (is_agreed end.host.talk.state)
+
+  abbrev sends_so : Option Sent → LinkWithReport
+  sends_so sending = record t { link = host_sent sending t.link }
+
+  -- where unpainted paint waits for its answer, the screen was cleared
+  gone_now : {later : LinkWithReport} {link : Link} → is_painting end.host.pending ≡ false → Stage t end → later.cleared ≡ t.cleared → later.told ≡ t.told → link.term ≡ end.term → Stage later link
+  gone_now unpainted (Stage.gone cleared locked no_pa) same told term =
+      Stage.gone (same ∙ cleared) (ap (λ (e : TermEnd). e.display.keyboard.lock) term ∙ locked) (ap (λ (d : Display). is_pa d.screen.aid) told ∙ no_pa)
+  gone_now unpainted (Stage.erased uncleared erasing silent since) same told term = absurd (let wrong : false ≡ true = sym unpainted ∙ paints_so end.host.pending erasing in cc)
+
+  -- both ends send this
+  both_send : (sending : Sent) → ConnectionInvariant app (view_of (host_sent (Some sending) end)) → sending.conn.talk ≡ end.host.talk → may_have_changed sending.conn.unheard ≡ true → HostReturns sending.conn
+      → AddsKeys c.clears t.cleared sending.conn.turn sending.conn.pending end.up t.link.up → is_painting end.host.pending ≡ false → Cleared app lu (sends_so (Some sending))
+  both_send sending kept talk any returning up unpainted =
+      still_cleared app lu t c (host_sent (Some sending) end) (host_sent (Some sending) t.link) c.clears refl refl refl refl kept talk any (HostsAlike.same refl) c.lost
+      (ap (λ (lost : Bool). sent lost t.link.down (sending.message ∷ [])) c.lost ∙ ap (λ (down : List ToTerminal). sent end.lost down (sending.message ∷ [])) c.down) returning
+      (record { said = end.up; alike = SaysAlike.same refl; up = up }) (gone_now unpainted c.stage refl refl refl)
+
+  -- an act
+  both_act : (act : Act) → may_act_now ≡ true → ConnectionInvariant app (view_of (host_sent (Some (done app end.host act)) end)) → Cleared app lu (sends_so (Some (done app end.host act)))
+  both_act act may kept =
+      let when = may_act_when end.host.turn end.host.pending (is_agreed end.host.talk.state) may in
+      let none : end.up ≡ [] = nothing_up app end c.kept (agrees_still c) when.0 when.1 in
+      let sending : Sent = done app end.host act in
+      both_send sending kept (act_talk app end.host act) (act_changed app end.host act ∙ c.any)
+      (returns_acted given app is c.marks end c.kept (may_act_at given app is end c.kept when.0 when.1 (agrees_still c)) when.0 when.1 (still_changed end.host.unheard ∙ c.any) c.returning act)
+      (subst (λ (told : List ToHost). AddsKeys c.clears t.cleared sending.conn.turn sending.conn.pending told t.link.up) (sym none)
+      (only_keys c.clears t.cleared end.host.turn sending.conn.turn end.host.pending sending.conn.pending t.link.up (act_drops app end.host act when.0)
+      (subst (λ (said : List ToHost). AddsKeys c.clears t.cleared end.host.turn end.host.pending said t.link.up) (alike_silent end.host end.up c.up.said none c.up.alike) c.up.up)))
+      (ap is_painting when.1)
+
+  -- a host that has heard of Clear while a paint is under way sends nothing
+  waits_on : (sends : Session → Option Sent) → ((conn : Session) → is_painting conn.pending ≡ true → sends conn ≡ None) → (t.link.host ≡ end.host → Cleared app lu (sends_so (sends end.host))) → Cleared app lu (sends_so (sends t.link.host))
+  waits_on sends none goes = by_host c.host
+    where
+      by_host : HostsAlike end t.link.host → Cleared app lu (sends_so (sends t.link.host))
+      by_host (HostsAlike.same same) = subst (λ (conn : Session). Cleared app lu (sends_so (sends conn))) (sym same) (goes same)
+      by_host (HostsAlike.crossed paints harmless is_now) =
+          subst (λ (sending : Option Sent). Cleared app lu (sends_so sending)) (sym (none t.link.host (ap (λ (s : Session). is_painting s.pending) is_now ∙ paints))) c
+
+  pub acts_cleared : Cleared app lu (sends_so (acted app t.link.host))
+  acts_cleared =
+      waits_on (acted app) (no_act app)
+      (λ same. by_may may_act_now refl (decision_on app end.host end.host.turn_reason) (acts given app is end c.kept))
+    where
+      by_may : (may : Bool) → may_act_now ≡ may → (decision : Decision)
+          → ConnectionInvariant app (view_of (host_sent (option_and_then (decided app end.host) (if may then Some decision else None)) end)) → Cleared app lu (sends_so (option_and_then (decided app end.host) (if may then Some decision else None)))
+      by_may true may (Decision.Do act) kept = both_act act may kept
+      by_may true may Decision.Asks kept = c
+      by_may false may decision kept = c
+
+  pub answers_cleared : (said : ApplicationAnswer) → Cleared app lu (sends_so (answered_on app t.link.host said))
+  answers_cleared said =
+      waits_on (λ (conn : Session). answered_on app conn said) (λ conn. no_answer app conn said)
+      (λ same. by_open (is_asking app end.host) refl (has_its_panel app said) (answers_are_shown given app is end c.kept said))
+    where
+      act : Act
+      act = act_by app end.host said (panel_for app end.host said)
+
+      by_open : (asked : Bool) → is_asking app end.host ≡ asked → (there : Bool) → ConnectionInvariant app (view_of (host_sent (if asked && there then Some (done app end.host act) else None) end))
+          → Cleared app lu (sends_so (if asked && there then Some (done app end.host act) else None))
+      by_open true open_now true kept = both_act act (asking_parts app end.host open_now).0 kept
+      by_open true open_now false kept = c
+      by_open false open_now there kept = c
+
+  pub notes_cleared : (text : List ℕ) → IsNoteText text → Cleared app lu (sends_so (noted text t.link.host))
+  notes_cleared text is_text =
+      waits_on (noted text) (no_note text)
+      (λ same. by_may (may_note end.host.turn end.host.pending (is_agreed end.host.talk.state)) refl (notes app text is_text end c.kept))
+    where
+      by_may : (may : Bool) → may_note end.host.turn end.host.pending (is_agreed end.host.talk.state) ≡ may
+          → ConnectionInvariant app (view_of (host_sent (if may then Some (noted_as text end.host) else None) end)) → Cleared app lu (sends_so (if may then Some (noted_as text end.host) else None))
+      by_may false may kept = c
+      by_may true may kept =
+          let when = may_note_when end.host.turn end.host.pending (is_agreed end.host.talk.state) may in
+          let command = note_command end.host.size text in
+          let up : AddsKeys c.clears t.cleared end.host.turn end.host.pending end.up t.link.up =
+          subst (λ (said : List ToHost). AddsKeys c.clears t.cleared end.host.turn end.host.pending said t.link.up) (alike_unread end.host end.up c.up.said when.1 c.up.alike) c.up.up in
+          both_send (noted_as text end.host) kept refl c.any (returns_noted given app is text is_text end c.kept when.0 when.1 c.returning)
+          (subst (λ (turn : Turn). AddsKeys c.clears t.cleared turn (Pending.Noting end.host.next_seq command) end.up t.link.up) (sym when.0)
+          (noted_keys c.clears t.cleared end.host.next_seq command end.up t.link.up
+          (subst (λ (turn : Turn). AddsKeys c.clears t.cleared turn Pending.Nothing end.up t.link.up) when.0 (subst (λ (pending : Pending). AddsKeys c.clears t.cleared end.host.turn pending end.up t.link.up) when.1 up))))
+          (ap is_painting when.1)
+
+  pub loses_cleared : Cleared app lu (record t { link = cut t.link })
+  loses_cleared = still_cleared app lu t c (cut end) (cut t.link) c.clears refl refl refl refl (loses app (view_of end) c.kept) refl c.any (hosts_lost c.host) refl c.down c.returning c.up (lost_stage c.stage)
+    where
+      lost_stage : Stage t end → Stage (record t { link = cut t.link }) (cut end)
+      lost_stage (Stage.gone cleared locked no_pa) = Stage.gone cleared locked no_pa
+      lost_stage (Stage.erased uncleared erasing silent since) = Stage.erased uncleared erasing silent since
+
+      hosts_lost : HostsAlike end t.link.host → HostsAlike (cut end) t.link.host
+      hosts_lost (HostsAlike.same same) = HostsAlike.same same
+      hosts_lost (HostsAlike.crossed paints harmless is_now) = HostsAlike.crossed paints harmless is_now

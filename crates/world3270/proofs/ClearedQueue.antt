@@ -1,0 +1,265 @@
+-- The queue of a terminal at which Clear was pressed in the wait, beside what one says that waits: second keys are between its messages,
+-- Clear among them.
+use Rattle.std.proofs.Common.{◌≡◌, ◌⊎◌, inl, inr, ◌||◌, not, Bool, true, false, ℕ, List, [], ◌∷◌, ◌++◌, append-nil, append_assoc, refl, ap, sym, subst, ◌∙◌, if◌then◌else◌}
+use Rattle.codes3270.specs.declared.attention.Aid.{Aid}
+use Rattle.codes3270.specs.declared.attention.Aid.TheVariants.{NoAid, Enter, Clear, Pf, Pa}
+use Rattle.datastream.specs.Grammar.{CommandParts}
+use Rattle.datastream.specs.InboundFields.{buffer_data}
+use Rattle.datastream.specs.InboundText.{InboundParts}
+use Rattle.datastream.specs.declared.inbound_part.Form.{Form}
+use Rattle.datastream.specs.declared.inbound_part.Form.TheVariants.{Modified}
+use Rattle.shadow.specs.Exactness.{is_erase}
+use Rattle.shadow.specs.Settled.{is_settled}
+use Rattle.host_core.specs.Messages.{ToHost}
+use Rattle.host_core.specs.Session.{Session, Pending, is_agreed}
+use Rattle.host_core.specs.Takes.{Answers, closed_by, data_came, dropping, is_after_pa, is_read_believed, is_unread, key_came, may_have_changed, once_agreed, out_of_turn, second_key, second_key_data, took}
+use Rattle.host_core.specs.declared.turn.Turn.{Turn}
+use Rattle.host_core.specs.declared.turn.Turn.TheVariants as whose
+use Rattle.host_core.specs.declared.unheard.Unheard.TheVariants as unheards
+use Rattle.tn3270e_msg.specs.declared.cause.Cause.TheVariants.{BadInbound}
+use Rattle.world3270.specs.model.Link.{sent}
+use Rattle.world3270.specs.statement.Shown.{is_painting}
+use Rattle.world3270.proofs.SecondKeys.{AddsSecondKeys, IsSecondKey, SaysAlike, comes_out_of_turn, drops_behind, is_dropping, is_key, pending_after, turn_after, unless_read}
+
+-- ---- keys
+
+-- any key that sends
+abbrev pub is_any_key : Aid → Bool
+is_any_key Enter = true
+is_any_key (Pf key) = true
+is_any_key (Pa key) = true
+is_any_key Clear = true
+is_any_key NoAid = false
+
+-- whether the paint that waits for its answer erases
+abbrev pub erases : Pending → Bool
+erases Pending.Nothing = false
+erases (Pending.Reading number) = false
+erases (Pending.Writing number command) = is_erase command.code
+erases (Pending.Noting number command) = false
+
+-- Holds if Clear does unpainted harm here: unpainted paint waits for its answer, or that isn't said yet, or the paint erases.
+abbrev pub DoesNoHarm : Pending → List ToHost → Type 0
+DoesNoHarm pending told = is_painting pending ≡ true → (told ≡ []) ⊎ (erases pending ≡ true)
+
+-- `clears`: Clear may be among the keys; `told`: what is said behind it.
+pub record IsAnyKey (clears : Bool) (pending : Pending) (told : List ToHost) (message : ToHost) : Type 0 where
+  pub parts : InboundParts
+  pub is : message ≡ ToHost.Data parts
+  pub form : parts.form ≡ Modified
+  pub key : is_any_key parts.aid ≡ true
+  pub fits : parts.aid ≡ Clear → (clears ≡ true) × DoesNoHarm pending told
+
+-- whether Clear may be among the keys behind a message: behind an answer only if it was pressed in the next wait, too
+abbrev pub clears_behind : ToHost → (clears later : Bool) → Bool
+clears_behind (ToHost.Response number verdict) clears later = later
+clears_behind (ToHost.Data parts) clears later = clears
+clears_behind (ToHost.TalksUp saying) clears later = clears
+
+-- `told`: what a terminal says that waits; `real`: what comes up
+abbrev pub AddsKeys : (clears later : Bool) → Turn → Pending → (told real : List ToHost) → Type 0
+AddsKeys clears later turn pending told [] = told ≡ []
+AddsKeys clears later turn pending told (message ∷ real) =
+    ((is_dropping turn pending ≡ true) × IsAnyKey clears pending told message × AddsKeys clears later turn pending told real)
+    ⊎ ((rest : List ToHost) × (told ≡ message ∷ rest) × AddsKeys (clears_behind message clears later) later (turn_after message turn) (pending_after message pending) rest real)
+
+pub record SaysToo (clears later : Bool) (conn : Session) (told real : List ToHost) : Type 0 where
+  pub said : List ToHost
+  pub alike : SaysAlike conn told said
+  pub up : AddsKeys clears later conn.turn conn.pending said real
+
+-- ---- with Clear or without
+
+key_is : (aid : Aid) → is_key aid ≡ true → is_any_key aid ≡ true
+key_is Enter key = refl
+key_is (Pf number) key = refl
+key_is (Pa number) key = refl
+key_is NoAid key = absurd (cc)
+key_is Clear key = refl
+
+no_clear : (aid : Aid) → is_key aid ≡ true → aid ≡ Clear → ⊥
+no_clear aid key clear = absurd (let wrong : false ≡ true = sym (ap is_key clear) ∙ key in cc)
+
+pub any_keys : (clears later : Bool) (turn : Turn) (pending : Pending) (told real : List ToHost) → AddsSecondKeys turn pending told real → AddsKeys clears later turn pending told real
+any_keys clears later turn pending told [] x = x
+any_keys clears later turn pending told (message ∷ real) (inl x) =
+    let second = x.1 in
+    inl (x.0, record { parts = second.parts; is = second.is; form = second.form; key = key_is second.parts.aid second.key; fits = λ clear. absurd (no_clear second.parts.aid second.key clear) }, any_keys clears later turn pending told real x.2)
+any_keys clears later turn pending told (message ∷ real) (inr x) =
+    inr (x.0, x.1, any_keys (clears_behind message clears later) later (turn_after message turn) (pending_after message pending) x.0 real x.2)
+
+both_true : (message : ToHost) → clears_behind message true true ≡ true
+both_true (ToHost.Response number verdict) = refl
+both_true (ToHost.Data parts) = refl
+both_true (ToHost.TalksUp saying) = refl
+
+-- where Clear may be, too
+pub with_clears : (clears later : Bool) (turn : Turn) (pending : Pending) (told real : List ToHost) → AddsKeys clears later turn pending told real → AddsKeys true true turn pending told real
+with_clears clears later turn pending told [] x = x
+with_clears clears later turn pending told (message ∷ real) (inl x) =
+    let key = x.1 in
+    inl (x.0, record { parts = key.parts; is = key.is; form = key.form; key = key.key; fits = λ clear. (refl, (key.fits clear).1) }, with_clears clears later turn pending told real x.2)
+with_clears clears later turn pending told (message ∷ real) (inr x) =
+    inr (x.0, x.1, subst (λ (b : Bool). AddsKeys b true (turn_after message turn) (pending_after message pending) x.0 real) (sym (both_true message))
+    (with_clears (clears_behind message clears later) later (turn_after message turn) (pending_after message pending) x.0 real x.2))
+
+other_key : (aid : Aid) → is_any_key aid ≡ true → (aid ≡ Clear → ⊥) → is_key aid ≡ true
+other_key Enter key unclear = refl
+other_key (Pf number) key unclear = refl
+other_key (Pa number) key unclear = refl
+other_key NoAid key unclear = absurd (cc)
+other_key Clear key unclear = absurd (unclear refl)
+
+pub second_of : {clears : Bool} {pending : Pending} {told : List ToHost} {message : ToHost} (any : IsAnyKey clears pending told message) → (any.parts.aid ≡ Clear → ⊥) → IsSecondKey message
+second_of any unclear = record { parts = any.parts; is = any.is; form = any.form; key = other_key any.parts.aid any.key unclear }
+
+none_behind : (message : ToHost) → clears_behind message false false ≡ false
+none_behind (ToHost.Response number verdict) = refl
+none_behind (ToHost.Data parts) = refl
+none_behind (ToHost.TalksUp saying) = refl
+
+-- where Clear may not be, there are second keys alone
+pub second_keys : (turn : Turn) (pending : Pending) (told real : List ToHost) → AddsKeys false false turn pending told real → AddsSecondKeys turn pending told real
+second_keys turn pending told [] x = x
+second_keys turn pending told (message ∷ real) (inl x) =
+    inl (x.0, second_of x.1 (λ clear. absurd (let wrong : false ≡ true = (x.1.fits clear).0 in cc)), second_keys turn pending told real x.2)
+second_keys turn pending told (message ∷ real) (inr x) =
+    inr (x.0, x.1, second_keys (turn_after message turn) (pending_after message pending) x.0 real
+    (subst (λ (b : Bool). AddsKeys b false (turn_after message turn) (pending_after message pending) x.0 real) (none_behind message) x.2))
+
+-- ---- more is said
+
+-- Clear may come last only where it may be among all keys
+abbrev pub MayBeLast : (clears later : Bool) → InboundParts → Type 0
+MayBeLast clears later parts = parts.aid ≡ Clear → (clears ≡ true) × (later ≡ true)
+
+last_behind : (message : ToHost) (clears later : Bool) (parts : InboundParts) → MayBeLast clears later parts → MayBeLast (clears_behind message clears later) later parts
+last_behind (ToHost.Response number verdict) clears later parts may = λ clear. ((may clear).1, (may clear).1)
+last_behind (ToHost.Data said) clears later parts may = may
+last_behind (ToHost.TalksUp saying) clears later parts may = may
+
+any_last : (clears later : Bool) (turn : Turn) (pending : Pending) (told real : List ToHost) (key : ToHost) (parts : InboundParts) → key ≡ ToHost.Data parts → parts.form ≡ Modified → is_any_key parts.aid ≡ true → MayBeLast clears later parts
+    → drops_behind told turn pending ≡ true → AddsKeys clears later turn pending told real → AddsKeys clears later turn pending told (real ++ key ∷ [])
+any_last clears later turn pending told [] key parts is form pressed may drops x =
+    inl (subst (λ (l : List ToHost). drops_behind l turn pending ≡ true) x drops, record { parts = parts; is = is; form = form; key = pressed; fits = λ clear. ((may clear).0, λ paints. inl x) }, x)
+any_last clears later turn pending told (message ∷ real) key parts is form pressed may drops (inl x) = inl (x.0, x.1, any_last clears later turn pending told real key parts is form pressed may drops x.2)
+any_last clears later turn pending told (message ∷ real) key parts is form pressed may drops (inr x) =
+    inr (x.0, x.1, any_last (clears_behind message clears later) later (turn_after message turn) (pending_after message pending) x.0 real key parts is form pressed (last_behind message clears later parts may) (subst (λ (l : List ToHost). drops_behind l turn pending ≡ true) x.1 drops) x.2)
+
+pub key_last_too : (clears later : Bool) (conn : Session) (told real : List ToHost) (key : ToHost) (parts : InboundParts) → key ≡ ToHost.Data parts → parts.form ≡ Modified → is_any_key parts.aid ≡ true → MayBeLast clears later parts
+    → drops_behind told conn.turn conn.pending ≡ true → SaysToo clears later conn told real → SaysToo clears later conn told (real ++ key ∷ [])
+key_last_too clears later conn told real key parts is form pressed may drops s = record {
+  said = s.said;
+  alike = s.alike;
+  up = any_last clears later conn.turn conn.pending s.said real key parts is form pressed may (by_alike s.alike) s.up;
+}
+  where
+    by_alike : SaysAlike conn told s.said → drops_behind s.said conn.turn conn.pending ≡ true
+    by_alike (SaysAlike.same is_same) = ap (λ (l : List ToHost). drops_behind l conn.turn conn.pending) is_same ∙ drops
+    by_alike (SaysAlike.checked number one other rest pends skips one_kept other_kept is_told is_said) =
+        ap (λ (l : List ToHost). drops_behind l conn.turn conn.pending) is_said
+        ∙ sym (ap (λ (l : List ToHost). drops_behind l conn.turn conn.pending) is_told)
+        ∙ drops
+
+-- if a paint waits for its answer, it erases
+abbrev pub ErasesIfAny : Pending → Type 0
+ErasesIfAny pending = is_painting pending ≡ true → erases pending ≡ true
+
+erases_behind : (message : ToHost) (pending : Pending) → ErasesIfAny pending → ErasesIfAny (pending_after message pending)
+erases_behind (ToHost.Data parts) Pending.Nothing only = λ paints. absurd (cc)
+erases_behind (ToHost.Data parts) (Pending.Reading number) only = λ paints. absurd (cc)
+erases_behind (ToHost.Data parts) (Pending.Noting number command) only = λ paints. absurd (cc)
+erases_behind (ToHost.Data parts) (Pending.Writing number command) only = only
+erases_behind (ToHost.Response number verdict) pending only = λ paints. absurd (cc)
+erases_behind (ToHost.TalksUp saying) pending only = only
+
+-- both say the same last
+same_last_too : (clears later : Bool) (turn : Turn) (pending : Pending) (told real : List ToHost) (message : ToHost) → ErasesIfAny pending → AddsKeys clears later turn pending told real
+    → AddsKeys clears later turn pending (told ++ message ∷ []) (real ++ message ∷ [])
+same_last_too clears later turn pending told [] message only x = inr ([], ap (λ (l : List ToHost). l ++ message ∷ []) x, refl)
+same_last_too clears later turn pending told (first ∷ real) message only (inl x) =
+    let key = x.1 in
+    inl (x.0, record { parts = key.parts; is = key.is; form = key.form; key = key.key; fits = λ clear. ((key.fits clear).0, λ paints. inr (only paints)) }, same_last_too clears later turn pending told real message only x.2)
+same_last_too clears later turn pending told (first ∷ real) message only (inr x) =
+    inr (x.0 ++ message ∷ [], ap (λ (l : List ToHost). l ++ message ∷ []) x.1,
+    same_last_too (clears_behind first clears later) later (turn_after first turn) (pending_after first pending) x.0 real message (erases_behind first pending only) x.2)
+
+alike_last : (conn : Session) (told said : List ToHost) (message : ToHost) → SaysAlike conn told said → SaysAlike conn (told ++ message ∷ []) (said ++ message ∷ [])
+alike_last conn told said message (SaysAlike.same is) = SaysAlike.same (ap (λ (l : List ToHost). l ++ message ∷ []) is)
+alike_last conn told said message (SaysAlike.checked number one other rest pends skips one_kept other_kept is_told is_said) =
+    SaysAlike.checked number one other (rest ++ message ∷ []) pends skips one_kept other_kept (ap (λ (l : List ToHost). l ++ message ∷ []) is_told) (ap (λ (l : List ToHost). l ++ message ∷ []) is_said)
+
+pub says_last : (clears later : Bool) (conn : Session) (told real : List ToHost) (message : ToHost) → ErasesIfAny conn.pending → SaysToo clears later conn told real → SaysToo clears later conn (told ++ message ∷ []) (real ++ message ∷ [])
+says_last clears later conn told real message only s = record {
+  said = s.said ++ message ∷ [];
+  alike = alike_last conn told s.said message s.alike;
+  up = same_last_too clears later conn.turn conn.pending s.said real message only s.up;
+}
+
+-- on a lost connection neither says anything
+pub both_say_too : (clears later : Bool) (conn : Session) (lost now_lost : Bool) (told real : List ToHost) (message : ToHost) → now_lost ≡ lost → ErasesIfAny conn.pending → SaysToo clears later conn told real
+    → SaysToo clears later conn (sent lost told (message ∷ [])) (sent now_lost real (message ∷ []))
+both_say_too clears later conn lost now_lost told real message same only s =
+    subst (λ (l : Bool). SaysToo clears later conn (sent lost told (message ∷ [])) (sent l real (message ∷ []))) (sym same) (by_lost lost)
+  where
+    by_lost : (lost : Bool) → SaysToo clears later conn (sent lost told (message ∷ [])) (sent lost real (message ∷ []))
+    by_lost true = s
+    by_lost false = says_last clears later conn told real message only s
+
+-- where keys alone are queued, what comes behind an answer is another matter
+pub any_later : (clears later other : Bool) (turn : Turn) (pending : Pending) (real : List ToHost) → AddsKeys clears later turn pending [] real → AddsKeys clears other turn pending [] real
+any_later clears later other turn pending [] x = x
+any_later clears later other turn pending (message ∷ real) (inl x) = inl (x.0, x.1, any_later clears later other turn pending real x.2)
+any_later clears later other turn pending (message ∷ real) (inr x) = absurd (let some = x.1 in cc)
+
+-- ---- the host acts, or sends a note
+
+-- where keys alone are queued, they are dropped at any moment at which the host drops keys
+pub only_keys : (clears later : Bool) (turn turn_now : Turn) (pending pending_now : Pending) (real : List ToHost) → is_dropping turn_now pending_now ≡ true → AddsKeys clears later turn pending [] real → AddsKeys clears later turn_now pending_now [] real
+only_keys clears later turn turn_now pending pending_now [] drops x = refl
+only_keys clears later turn turn_now pending pending_now (message ∷ real) drops (inl x) =
+    let key = x.1 in
+    inl (drops, record { parts = key.parts; is = key.is; form = key.form; key = key.key; fits = λ clear. ((key.fits clear).0, λ paints. inl refl) }, only_keys clears later turn turn_now pending pending_now real drops x.2)
+only_keys clears later turn turn_now pending pending_now (message ∷ real) drops (inr x) = absurd (let some = x.1 in cc)
+
+noted_key : {clears : Bool} {pending : Pending} {told : List ToHost} {message : ToHost} (number : ℕ) (command : CommandParts) → IsAnyKey clears pending told message → IsAnyKey clears (Pending.Noting number command) told message
+noted_key number command key = record { parts = key.parts; is = key.is; form = key.form; key = key.key; fits = λ clear. ((key.fits clear).0, λ paints. absurd (cc)) }
+
+noted_too : (clears later : Bool) (number : ℕ) (command : CommandParts) (told real : List ToHost) → AddsKeys clears later whose.Host Pending.Nothing told real → AddsKeys clears later whose.Host (Pending.Noting number command) told real
+noted_too clears later number command told [] x = x
+noted_too clears later number command told (message ∷ real) (inl x) = inl (refl, noted_key number command x.1, noted_too clears later number command told real x.2)
+noted_too clears later number command told (ToHost.Data parts ∷ real) (inr x) = inr (x.0, x.1, noted_too clears later number command x.0 real x.2)
+noted_too clears later number command told (ToHost.Response given verdict ∷ real) (inr x) = inr x
+noted_too clears later number command told (ToHost.TalksUp saying ∷ real) (inr x) = inr (x.0, x.1, noted_too clears later number command x.0 real x.2)
+
+pub noted_keys : (clears later : Bool) (number : ℕ) (command : CommandParts) (told real : List ToHost) → AddsKeys clears later whose.Terminal Pending.Nothing told real → AddsKeys clears later whose.Terminal (Pending.Noting number command) told real
+noted_keys clears later number command told [] x = x
+noted_keys clears later number command told (message ∷ real) (inl x) = absurd (let clash = x.0 in cc)
+noted_keys clears later number command told (ToHost.Data parts ∷ real) (inr x) = inr (x.0, x.1, noted_too clears later number command x.0 real x.2)
+noted_keys clears later number command told (ToHost.Response given verdict ∷ real) (inr x) = inr x
+noted_keys clears later number command told (ToHost.TalksUp saying ∷ real) (inr x) = inr (x.0, x.1, noted_keys clears later number command x.0 real x.2)
+
+-- ---- the host drops Clear
+
+second_clear : (parts : InboundParts) (conn : Session) (pending : Pending) → (is_painting pending ≡ false → is_unread conn.turn_reason ≡ false) → second_key parts Clear pending conn ≡ dropping Clear (record conn { unheard = unheards.Clear })
+second_clear parts conn Pending.Nothing read = ap (λ (b : Bool). if b then key_came parts Clear conn else dropping Clear (record conn { unheard = unheards.Clear })) (read refl)
+second_clear parts conn (Pending.Writing number command) read = refl
+second_clear parts conn (Pending.Reading number) read = ap (λ (b : Bool). if b then key_came parts Clear conn else dropping Clear (record conn { unheard = unheards.Clear })) (read refl)
+second_clear parts conn (Pending.Noting number command) read = ap (λ (b : Bool). if b then key_came parts Clear conn else dropping Clear (record conn { unheard = unheards.Clear })) (read refl)
+
+pub clear_dropped : (pool : Answers) (conn : Session) (message : ToHost) (parts : InboundParts) → message ≡ ToHost.Data parts → parts.form ≡ Modified → parts.aid ≡ Clear → is_agreed conn.talk.state ≡ true → may_have_changed conn.unheard ≡ true
+    → is_dropping conn.turn conn.pending ≡ true → (is_painting conn.pending ≡ false → is_unread conn.turn_reason ≡ false) → took pool conn message ≡ dropping Clear (record conn { unheard = unheards.Clear })
+clear_dropped pool conn message parts is form aid agrees changed drops read =
+    ap (took pool conn) is
+    ∙ ap (λ (b : Bool). once_agreed b (data_came parts conn.turn conn.pending conn) conn) agrees
+    ∙ comes_out_of_turn parts conn conn.turn conn.pending drops form
+    ∙ ap (λ (b : Bool). if b then second_key_data parts parts.form conn else closed_by BadInbound conn) changed
+    ∙ ap (λ (f : Form). second_key_data parts f conn) form
+    ∙ ap (λ (a : Aid). second_key parts a conn.pending conn) aid
+    ∙ second_clear parts conn conn.pending read
+
+-- what both say is heard alike then, too
+pub alike_cleared : (conn : Session) (told said : List ToHost) → may_have_changed conn.unheard ≡ true → SaysAlike conn told said → SaysAlike (record conn { unheard = unheards.Clear }) told said
+alike_cleared conn told said any (SaysAlike.same is) = SaysAlike.same is
+alike_cleared conn told said any (SaysAlike.checked number one other rest pends skips one_kept other_kept is_told is_said) =
+    SaysAlike.checked number one other rest pends (sym (ap (λ (b : Bool). not b || (is_after_pa conn.turn_reason || not (is_settled conn.shadow))) any) ∙ skips) one_kept other_kept is_told is_said
