@@ -341,6 +341,7 @@ module _ (given : LowerLaws) (written : WrittenIsThere) (kept : KeptStaysThere) 
         subst (λ (host : Session). IsLedTo app (model_in host) (panel_with_keys app host t.told.screen.aid) t.told.screen (app.shown (model_in host) asked) message keep) (sym same_host)
         (subst (λ (d : Display). IsLedTo app (model_in end.host) (panel_with_keys app end.host d.screen.aid) d.screen (app.shown (model_in end.host) asked) message keep) s.display leads);
     shown = λ wants has. panel_shown wants has;
+    unrestored = ap (λ (host : Session). host.restored) same_host ∙ s.kept.unrestored;
     host_here = s.host_here;
     term_here = s.term_here;
   }
@@ -432,6 +433,7 @@ right_cleared given written kept app is lu t c = by_host c.host
           key_asked = λ shows wants session question asked. absurd (asks_nothing app session t.link.host question painting asked);
           leads = λ shows wants asked message keep given_values decided. absurd (decides_nothing app t.link.host (Decision.Do (HostAct.Show asked message keep given_values)) painting decided);
           shown = λ wants has. absurd (let wrong : true ≡ false = sym painting ∙ has.answered in cc);
+          unrestored = ap (λ (h : Session). h.restored) crossed ∙ c.kept.unrestored;
           host_here = c.host_here;
           term_here = c.term_here;
         }

@@ -244,6 +244,7 @@ nobody_refuses given app serves pool models events is lists few are =
       none_said = g.positive;
       none_refused = λ number. none_refused app (view_of (world.link number)) (g.links number);
       none_heard = λ number. none_heard app (view_of (world.link number)) (g.links number);
+      none_restored = λ number. (g.links number).unrestored;
       none_closed = g.uncaused;
     }
 

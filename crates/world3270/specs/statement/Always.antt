@@ -45,10 +45,12 @@ is_refusal (ToHost.Data parts) = false
 is_refusal (ToHost.TalksUp saying) = false
 
 -- Holds if no terminal has ever sent a negative response, none is under way, none is the reason why a host has the
--- turn, and neither end has ever closed a connection for a cause (`Cause`).
+-- turn, no host has found data that it couldn't believe, and so restored a screen, and neither end has ever closed a
+-- connection for a cause (`Cause`).
 pub record NoCommandIsRejected (world : World) : Type 0 where
   pub none_said : list_any is_negative world.verdicts ≡ false
   pub none_refused : (number : ℕ) → list_any is_refusal (world.link number).up ≡ false
   pub none_heard : (number : ℕ) → (world.link number).host.turn ≡ whose.Host
       → (world.link number).host.turn_reason ≡ turn_reasons.Refusal → ⊥
+  pub none_restored : (number : ℕ) → (world.link number).host.restored ≡ 0
   pub none_closed : world.causes ≡ []

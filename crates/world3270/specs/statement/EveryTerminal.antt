@@ -258,7 +258,8 @@ told_link t = record t.link { term = record t.link.term { display = t.told } }
 -- show a panel, the key that was pressed on what it was told leads there.
 -- After a paint is answered, the screen that it left shows the panel, whatever was typed in the wait before it, or
 -- pressed: after Clear, too.
--- Neither end has closed the connection for a cause: both are attached.
+-- The host believes all that the terminal sends: no screen is restored. Neither end has closed the connection for a
+-- cause: both are attached.
 pub record RightOf (app : Application) (lu : List ℕ) (t : LinkWithReport) : Type 0 where
   pub granted : agreed_lu t.link.host.talk.state ≡ Some lu
   pub bound : (mine : List ℕ) → bound_to t.link.term.talk.talk.state ≡ Some mine → mine ≡ lu
@@ -282,6 +283,7 @@ pub record RightOf (app : Application) (lu : List ℕ) (t : LinkWithReport) : Ty
       (app.shown (model_in t.link.host) asked) message keep
   pub shown : WantsItsFields app → HasShown t.link.host
       → IsPanelShown app false t.link.host t.link.term.display.before_restored t.link.term.display.last_restored
+  pub unrestored : t.link.host.restored ≡ 0
   pub host_here : t.link.host_here ≡ true
   pub term_here : is_some t.link.term_here ≡ true
 
