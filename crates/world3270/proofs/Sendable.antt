@@ -52,7 +52,7 @@ use Rattle.shadow.specs.Meets.{Holds, FieldMeets, Meets, told}
 use Rattle.shadow.specs.Painted.{keeps_ahead, attr_or_kept, cells_under, painted_from, plainly_painted}
 use Rattle.shadow.specs.Pairs.{Pairwise}
 use Rattle.tn3270e_msg.specs.declared.cause.Cause.{Cause}
-use Rattle.host_core.specs.Acts.{Act, Decision, Sent, text_known, learned, first_missing, is_to_be_read, check_required, first_panel, once_filled_in, on_empty, on_key, after_key as after_the_key, decided, decision_on, may_keep, wanted_by, done, may_act, acted, values_shown, when_shown}
+use Rattle.host_core.specs.Acts.{Act, Decision, Sent, text_known, learned, first_missing, is_to_be_read, check_required, first_panel, once_filled_in, on_empty, on_key, after_key as after_the_key, decided, decision_on, may_keep, wanted_by, done, may_act, acted, values_shown, when_shown, next_after}
 use Rattle.host_core.specs.Application.{Application, IsValidSize, IsApplication, WantsProperScreens, AreTexts}
 use Rattle.host_core.specs.Messages.{ToTerminal, ToHost, Verdict}
 use Rattle.host_core.specs.NoteLaws.{TakesNotes, IsProperNote}
@@ -281,9 +281,9 @@ led_texts app conn values aid (Go target) texts = filled_texts app conn (Decisio
 led_texts app conn values aid Ask texts = filled_texts app conn Decision.Asks values aid texts tt
 
 read_or_led : (app : Application) (conn : Session) (aid : Aid) (b : Bool) → AreTexts (learned conn.shadow (app.fields conn.panel) conn.values)
-    → DecidesOnTexts (if b then Decision.Do Act.Read else on_key app conn (learned conn.shadow (app.fields conn.panel) conn.values) aid (app.next conn.panel aid))
+    → DecidesOnTexts (if b then Decision.Do Act.Read else on_key app conn (learned conn.shadow (app.fields conn.panel) conn.values) aid (next_after app conn.panel aid))
 read_or_led app conn aid true texts = tt
-read_or_led app conn aid false texts = led_texts app conn (learned conn.shadow (app.fields conn.panel) conn.values) aid (app.next conn.panel aid) texts
+read_or_led app conn aid false texts = led_texts app conn (learned conn.shadow (app.fields conn.panel) conn.values) aid (next_after app conn.panel aid) texts
 
 empty_texts : (panel : ℕ) (values : Values) (next : Next) → AreTexts values → DecidesOnTexts (on_empty panel values next)
 empty_texts panel values Again texts = texts

@@ -37,7 +37,7 @@ use Rattle.shadow.specs.Settled.{IsSettled}
 use Rattle.shadow.specs.PaintedFields.{HasField, KeptStaysThere, WantsKept, WantsWritten, WrittenIsThere}
 use Rattle.shadow.proofs.Keeps.{no_keep, paintable_fits}
 use Rattle.shadow.proofs.Paints.{length-under}
-use Rattle.host_core.specs.Acts.{Act, Decision, after_key, belief_of, decision_on, first_missing, first_panel, is_in_doubt, is_to_be_read, learned, on_empty, on_key, once_filled_in, known_despite, check_required, may_keep, wanted_by, when_shown}
+use Rattle.host_core.specs.Acts.{Act, Decision, after_key, belief_of, decision_on, first_missing, first_panel, is_in_doubt, is_to_be_read, learned, on_empty, on_key, once_filled_in, known_despite, check_required, may_keep, wanted_by, when_shown, next_after}
 use Rattle.host_core.specs.Application.{Application, IsApplication}
 use Rattle.host_core.specs.Questions.{act_by, has_value_of, panel_for}
 use Rattle.host_core.specs.Session.{Session, model_in}
@@ -92,10 +92,10 @@ again_key app conn aid buffered = by_aid aid
     either true led_to is = refl
     either false led_to is = is
 
-    leads : (aid : Aid) → is_again_in (if is_to_be_read app conn aid && not buffered then Decision.Do Act.Read else on_key app conn (learned conn.shadow (app.fields conn.panel) conn.values) aid (app.next conn.panel aid)) ≡ true
+    leads : (aid : Aid) → is_again_in (if is_to_be_read app conn aid && not buffered then Decision.Do Act.Read else on_key app conn (learned conn.shadow (app.fields conn.panel) conn.values) aid (next_after app conn.panel aid)) ≡ true
     leads aid =
-        either (is_to_be_read app conn aid && not buffered) (on_key app conn (learned conn.shadow (app.fields conn.panel) conn.values) aid (app.next conn.panel aid))
-        (again_led app conn (learned conn.shadow (app.fields conn.panel) conn.values) aid (app.next conn.panel aid))
+        either (is_to_be_read app conn aid && not buffered) (on_key app conn (learned conn.shadow (app.fields conn.panel) conn.values) aid (next_after app conn.panel aid))
+        (again_led app conn (learned conn.shadow (app.fields conn.panel) conn.values) aid (next_after app conn.panel aid))
 
     by_aid : (aid : Aid) → is_again_in (after_key app conn aid buffered) ≡ true
     by_aid Clear = again_empty conn.panel conn.values (app.next conn.panel Clear)
@@ -217,7 +217,7 @@ module _ (app : Application) (conn : Session) where
   pub sure_then : (aid : Aid) (buffered : Bool) → IsKnownIfRead (turn_reasons.Key aid buffered) conn.shadow → (is_to_be_read app conn aid && not buffered) ≡ false → IsSure app conn
   sure_then aid true read unread = inr read
   sure_then (Pa key) false read unread = absurd (cc)
-  sure_then NoAid false read unread = inl (unverified (is_verified conn) (list_any (is_in_doubt conn.shadow) (app.fields conn.panel)) unread)
+  sure_then NoAid false read unread = absurd (cc)
   sure_then Enter false read unread = inl (unverified (is_verified conn) (list_any (is_in_doubt conn.shadow) (app.fields conn.panel)) unread)
   sure_then Clear false read unread = inl (unverified (is_verified conn) (list_any (is_in_doubt conn.shadow) (app.fields conn.panel)) unread)
   sure_then (Pf key) false read unread = inl (unverified (is_verified conn) (list_any (is_in_doubt conn.shadow) (app.fields conn.panel)) unread)
@@ -230,10 +230,10 @@ module _ (app : Application) (conn : Session) where
       either false led_to is = is refl
 
       leads : (aid : Aid) → IsKnownIfRead (turn_reasons.Key aid buffered) conn.shadow
-          → KeepsIn app conn (if is_to_be_read app conn aid && not buffered then Decision.Do Act.Read else on_key app conn (learned conn.shadow (app.fields conn.panel) conn.values) aid (app.next conn.panel aid))
+          → KeepsIn app conn (if is_to_be_read app conn aid && not buffered then Decision.Do Act.Read else on_key app conn (learned conn.shadow (app.fields conn.panel) conn.values) aid (next_after app conn.panel aid))
       leads aid read =
-          either (is_to_be_read app conn aid && not buffered) (on_key app conn (learned conn.shadow (app.fields conn.panel) conn.values) aid (app.next conn.panel aid))
-          (λ unread. led_keeps aid (app.next conn.panel aid) (sure_then aid buffered read unread))
+          either (is_to_be_read app conn aid && not buffered) (on_key app conn (learned conn.shadow (app.fields conn.panel) conn.values) aid (next_after app conn.panel aid))
+          (λ unread. led_keeps aid (next_after app conn.panel aid) (sure_then aid buffered read unread))
 
       by_aid : (aid : Aid) → IsKnownIfRead (turn_reasons.Key aid buffered) conn.shadow → KeepsIn app conn (after_key app conn aid buffered)
       by_aid Clear read = empty_keeps conn.panel conn.values (app.next conn.panel Clear)

@@ -186,14 +186,14 @@ module _ (app : Application) (pool : List Entry) (link : Link) (rest : List ToHo
       → conn.turn ≡ turn_at (LinkPhase.InSession lu to) → conn.pending ≡ pending_at (LinkPhase.InSession lu to) → served_down from ++ [] ≡ served_down to → IsInFlight link.lost rest (served_up to)
       → Fact k.wanted (local_state_of (view_of (host_view (quiet conn) rest link))) (LinkPhase.InSession lu to) → ShownAt app link.term.waits conn link.term.display.before_restored link.term.display.last_restored link.term.display.screen (LinkPhase.InSession lu to)
       → Answered app pool link rest (quiet conn)
-  serves lu from to conn same at talk shape exact none turn pending down left fact shown = record {
+  serves lu from to conn same at talk shape exact unrestored turn pending down left fact shown = record {
     kept = record {
       whole = k.whole;
       cursor = k.cursor;
       unreturned = k.unreturned;
       as_left = k.as_left;
       exact = exact;
-      unrestored = none;
+      unrestored = unrestored;
       wanted = k.wanted;
       moment = LinkPhase.InSession lu to;
       sizes = record {
