@@ -20,7 +20,7 @@ use Rattle.world3270.specs.refinement.Representation.{conn_of}
 use Rattle.world3270.proofs.Answered.{IsDone, by_act, by_answer}
 use Rattle.world3270.proofs.AnyHost.{HearsLaws, fed_by, IsServed, conn_there, does_goes, elsewhere_goes, hands_over_goes, hears_bytes, keeps_alive_goes, reports_goes, unchanged}
 use Rattle.world3270.proofs.AnyHosts.{IsAlone, leaves, lu_there, still_alone, still_below}
-use Rattle.world3270.proofs.AnyTerminal.{Goes, GoesBy, IsKept, TakesLaws, commands_goes, goes_after, goes_as, operates_goes, stays, takes_goes}
+use Rattle.world3270.proofs.AnyTerminal.{Goes, GoesBy, IsKept, TakesLaws, goes_after, goes_as, ignored_goes, operates_goes, stays, takes_goes}
 
 -- what the host does at a connection that is open
 acted_here : (app : Application) (service : Service) (conn : Session) → IsOpen service → conn_of service ≡ conn → acted_by app service ≡ acted app conn
@@ -137,8 +137,8 @@ module _ (takes : TakesLaws) (hears : HearsLaws) (app : Application) (Good : Lin
   one_move old new t good is served (Moves.operates step does) =
       let once = operates_goes takes app Good kept number step old new t good is does in
       record { goes = once.goes; are = once.are; pool = subst (λ (b : OverBytes). IsSoundPool b.host.pool) (sym does.leaves) served.pool }
-  one_move old new t good is served (Moves.sends_commands bytes commands same) =
-      let none = commands_goes takes app Good kept number bytes old t good is commands in
+  one_move old new t good is served (Moves.sends_ignored bytes ignored same) =
+      let none = ignored_goes takes app Good kept number bytes old t good is ignored in
       record {
         goes = goes_as app Good number (record old { up = old.up ++ bytes }) new t same none.goes;
         are = none.are;

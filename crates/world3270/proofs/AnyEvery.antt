@@ -20,13 +20,15 @@ use Rattle.world3270.specs.refinement.LowerLaws.{LowerLaws}
 use Rattle.world3270.specs.refinement.MessageLaws.{MessageLaws}
 use Rattle.world3270.specs.refinement.Readings.{IsReadAs, MayBeSent}
 use Rattle.world3270.specs.statement.Rules.{Binds}
-use Rattle.world3270.specs.refinement.Represents.{RepresentsDown, without_commands, without_nops}
+use Rattle.world3270.specs.refinement.Represents.{RepresentsDown, without, without_nops}
+use Rattle.world3270.specs.refinement.Ignored.{is_ignored_by_host, is_ignored_by_terminal, without_ignored}
 use Rattle.world3270.specs.refinement.RepresentsEnds.{NopHasNoEffect, TakesKeepSendable, TermTakes, WritesAreMarked}
-use Rattle.world3270.specs.refinement.RepresentsLinks.{HasTheSizes, RepresentsCompose, RepresentsGoOn}
+use Rattle.world3270.specs.refinement.RepresentsLinks.{HasTheSizes, RepresentsGoOn}
 use Rattle.world3270.specs.model.Terminal.{Display}
 use Rattle.world3270.proofs.AnyBytes.{all_moves}
 use Rattle.world3270.proofs.AnyHost.{HearsLaws}
 use Rattle.world3270.proofs.AnyHosts.{lu_there}
+use Rattle.world3270.proofs.AnyIgnored.{no_refusal_comes, no_talk_comes}
 use Rattle.world3270.proofs.AnyReady.{all_may_now, hears_now, same_now}
 use Rattle.world3270.proofs.AnySpelt.{HasSendableContent, acts_encodable, answers_spelt, move_texts, notes_spelt}
 use Rattle.world3270.proofs.AnyTerminal.{IsKept, IsWellFormedMove, Ready, TakesLaws}
@@ -34,8 +36,8 @@ use Rattle.world3270.proofs.EveryTerminal.{begins_simulated, move_still, right_o
 use Rattle.world3270.proofs.Numbers.{Numbered}
 use Rattle.world3270.proofs.Sendable.{HasProperScreen, blank_sendable}
 use Rattle.world3270.proofs.Simulation.{Simulated, agrees_now}
-use Rattle.world3270.proofs.Represents.{commands_piecewise, stands_go_on, stands_join}
-use Rattle.world3270.proofs.RepresentsLinks.{host_sends, nop_stands, up_stands}
+use Rattle.world3270.proofs.Represents.{stands_compose, stands_go_on, stands_join, without_piecewise}
+use Rattle.world3270.proofs.RepresentsLinks.{items_are_sent, up_stands}
 use Rattle.world3270.proofs.WithoutClear.{IsWithoutClear, all_keep_rules}
 
 -- ---- what is asked of the queue
@@ -63,22 +65,22 @@ takes_laws known takes keeps nop marks taken items = record {
   keeps = keeps;
   nop = nop;
   down = taken;
+  any_down = stands_go_on (without is_ignored_by_terminal) RepresentsDown (without_piecewise is_ignored_by_terminal) known.links.delivery_goes_on;
   final = known.links.wrong_is_final;
   marks = marks;
   written = items;
-  join = stands_join without_commands IsReadAs commands_piecewise known.links.deliveries;
+  join = stands_join without_ignored IsReadAs (without_piecewise is_ignored_by_host) known.links.deliveries;
 }
 
 -- by what is known of bytes and of what is read of them
-pub any_laws : MessageLaws → TermTakes → TakesKeepSendable → NopHasNoEffect → WritesAreMarked → RepresentsGoOn without_nops RepresentsDown → RepresentsCompose without_nops RepresentsDown → ItemsAreRead → SentIsRead
+pub any_laws : MessageLaws → TermTakes → TakesKeepSendable → NopHasNoEffect → WritesAreMarked → RepresentsGoOn without_nops RepresentsDown → ItemsAreRead → SentIsRead
     → WrittenIsThere → KeptStaysThere → AnyLaws
-any_laws known takes keeps nop marks taken compose items read written kept = record {
+any_laws known takes keeps nop marks taken items read written kept = record {
   given = known.worlds.given;
   takes = takes_laws known takes keeps nop marks taken items;
   hears = record {
-    sends = host_sends compose;
-    nop = nop_stands compose;
-    up = up_stands (stands_go_on without_commands IsReadAs commands_piecewise known.links.delivery_goes_on);
+    sends = items_are_sent (stands_compose (without is_ignored_by_terminal) RepresentsDown (without_piecewise is_ignored_by_terminal) known.links.deliveries items);
+    up = up_stands (stands_go_on without_ignored IsReadAs (without_piecewise is_ignored_by_host) known.links.delivery_goes_on);
     final = known.links.wrong_is_final;
     one_header = known.links.one_header;
     fault_or_header = known.links.fault_or_header;
@@ -128,6 +130,8 @@ module _ (laws : AnyLaws) (app : Application) (is : IsApplication app) (asks : W
         none = may.1;
         same = same_now given app is sizes lu t good.simulated;
         agreed = ap (λ (c : Session). is_agreed c.talk.state) good.simulated.simulates.host ∙ agrees_now good.simulated;
+        no_talk = no_talk_comes app lu t good.simulated;
+        no_refusal = no_refusal_comes app lu t good.simulated;
         comes_up = queue.comes_up t good.simulated good.texts good.queued;
         hears = hears_now given app is sizes lu t good.simulated;
         acts = acts_encodable paint bounded given app is asks sizes lu t good.simulated good.texts;

@@ -1,37 +1,35 @@
 -- The host of a terminal that keeps the rules is fed bytes, acts, and sends: the bytes on the connection then represent that over messages
 -- after moves that keep the rules.
-use Rattle.std.proofs.Common.{◌≡◌, ◌<◌, ℕ, Bool, true, false, Option, None, Some, List, [], ◌∷◌, ◌++◌, drop, take, length, map, append-nil, append_assoc, cond, not, refl, ap, sym, subst, ◌∙◌, if◌then◌else◌}
+use Rattle.std.proofs.Common.{◌≡◌, ◌<◌, ℕ, Bool, true, false, Option, None, Some, List, [], ◌∷◌, ◌++◌, drop, take, length, map, append_assoc, cond, not, refl, ap, sym, subst, ◌∙◌, if◌then◌else◌}
 use Rattle.std.proofs.lemmas.List.{length-set, set-get_or, set-set, take-append-drop}
+use Rattle.std.specs.List.{AllByRecursion}
 use Rattle.std.specs.Prelude.{All, IfSome}
 use Rattle.std.proofs.lemmas.List.Elements.{All-append, All-cons, All-nil}
 use Rattle.lu_pool.specs.Asking.{answer_to}
 use Rattle.lu_pool.specs.HolderLaws.{IsSound as IsSoundPool, StaysSoundGranted}
 use Rattle.lu_pool.specs.Holders.{granted_if}
 use Rattle.lu_pool.specs.declared.entry.Entry.{Entry}
-use Rattle.telnet_wire.specs.Items.{WireItem, Record, Opt, Sub, Other, sent_bytes}
+use Rattle.shadow.specs.Pairs.{Pairwise}
+use Rattle.telnet_wire.specs.Items.{CanCome, WireItem, sent_bytes}
 use Rattle.telnet_wire.specs.Laws.{WrongIsFinal}
 use Rattle.telnet_wire.specs.Reading.{Rest, Delivers, GoesWrong}
 use Rattle.tn3270e_msg.specs.Header.{record_limit}
 use Rattle.tn3270e_msg.specs.Laws.{FaultIsNoHeader, OneHeader}
 use Rattle.datastream.specs.Laws.{OneInbound}
-use Rattle.tn3270e_msg.specs.HostTable.{host_transition}
-use Rattle.tn3270e_msg.specs.Talk.{Comes, NoTalk, follow}
 use Rattle.tn3270e_msg.specs.declared.cause.Cause.{Cause}
-use Rattle.tn3270e_msg.specs.declared.host_talk.HostState.{HostState}
-use Rattle.tn3270e_msg.specs.declared.host_talk.HostState.TheVariants.{Offered, Asked, Asking, Named, Countered, Agreed, Closed}
 use Rattle.host_core.specs.Acts.{Sent}
 use Rattle.host_core.specs.Application.{Application}
-use Rattle.host_core.specs.Bytes.{ConnectionAndPool, TakesByte, TakesBytes, bound_lu, service_after, stepped}
+use Rattle.host_core.specs.Bytes.{ConnectionAndPool, TakesByte, TakesBytes, service_after, stepped}
 use Rattle.host_core.specs.Does.{sent_on, with_conn}
 use Rattle.host_core.specs.Feeds.{IsOpen, connection_and_pool_at, with_connection_and_pool}
 use Rattle.host_core.specs.Items.{TakesItem}
 use Rattle.host_core.specs.KeepAlive.{kept_alive, may_keep_alive, no_operation, with_nop}
-use Rattle.host_core.specs.Messages.{ToHost}
+use Rattle.host_core.specs.Messages.{ToHost, ToTerminal}
 use Rattle.host_core.specs.Says.{item_sent}
-use Rattle.host_core.specs.Reports.{Reports, newly_bound, with_bound}
-use Rattle.host_core.specs.Session.{Session, agreed_lu, is_agreed}
+use Rattle.host_core.specs.Reports.{Reports}
+use Rattle.host_core.specs.Session.{Session, is_agreed}
 use Rattle.host_core.specs.State.{Connection, Host, Service, connection_at, state_at, unused, with_connection, with_reports}
-use Rattle.host_core.specs.Takes.{Answers, HostStep, freed_if, quiet, talked, talked_on, took as host_took}
+use Rattle.host_core.specs.Takes.{HostStep, freed_if, quiet, took as host_took}
 use Rattle.host_core.specs.declared.acted.Acted.{Acted}
 use Rattle.host_core.specs.declared.acted.Acted.TheVariants as acted_as
 use Rattle.world3270.specs.model.ByteWorld.{is_there}
@@ -41,51 +39,26 @@ use Rattle.world3270.specs.model.Link.{Link, host_left_if, host_sent, sent}
 use Rattle.world3270.specs.refinement.Readings.{IsReadAs, MayBeSent}
 use Rattle.world3270.specs.refinement.Sendable.{CanBeSent}
 use Rattle.world3270.specs.refinement.Representation.{conn_of, rest_of}
-use Rattle.world3270.specs.refinement.Represents.{ByteLink, LinkRepresentsBy, is_bare_command, without_commands}
-use Rattle.world3270.specs.refinement.RepresentsLinks.{HostSendsBy, MayComeAll, NopRepresentsBy, UpRepresentsBy, said_down}
+use Rattle.world3270.specs.refinement.Ignored.{is_ignored_by_host, is_ignored_by_terminal, without_ignored}
+use Rattle.world3270.specs.refinement.Represents.{ByteLink, LinkRepresentsBy, RepresentsDown}
+use Rattle.world3270.specs.refinement.RepresentsLinks.{ItemsAreSentBy, MayComeAll, UpRepresentsBy, said_down}
 use Rattle.world3270.specs.model.TrackedTerminals.{TrackedTerminal}
 use Rattle.world3270.proofs.Answered.{IsDone}
 use Rattle.world3270.proofs.AnyTerminal.{Goes, GoesBy, IsKept, IsWellFormedMove, goes_after, goes_as, moves_once, stays}
+use Rattle.world3270.proofs.AnyIgnored.{IsNoRefusal, OnlyRefuses, all_back, all_told, only_refuses, refusals_stand}
 use Rattle.world3270.proofs.Frames.{connection_same}
 use Rattle.world3270.proofs.HostItems.{host_reads}
 use Rattle.world3270.proofs.HostSteps.{just_talks}
 use Rattle.world3270.proofs.ItemsSpelt.{IsEncodable}
-use Rattle.world3270.proofs.LinkUp.{link_behind, never_wrong, none_first, one_first, sends_stand}
+use Rattle.world3270.proofs.LinkUp.{link_behind, may_behind, never_wrong, none_first, one_first, talk_comes, talk_stands}
+use Rattle.world3270.proofs.RepresentsLinks.{nop_can_come}
 use Rattle.world3270.proofs.WithoutClear.{IsWithoutClear}
 
--- what leaves the talk as it was binds no terminal
-same_lu : (lu : Option (List ℕ)) (reports : Reports) → with_bound (newly_bound lu lu) reports ≡ reports
-same_lu None reports = refl
-same_lu (Some lu) reports = refl
+-- ---- an item that the host only answers, or ignores
 
-not_bound_anew : (service : Service) (rest : Rest) (conn : Session) (reports : Reports) → service ≡ Service.Open rest conn
-    → with_bound (newly_bound (bound_lu service) (agreed_lu conn.talk.state)) reports ≡ reports
-not_bound_anew service rest conn reports is =
-    ap (λ (s : Service). with_bound (newly_bound (bound_lu s) (agreed_lu conn.talk.state)) reports) is ∙ same_lu (agreed_lu conn.talk.state) reports
-
--- ---- a command that the host takes as nothing
-
-kept_if : (item : WireItem) (bare : Bool) → is_bare_command item ≡ bare → without_commands (item ∷ []) ≡ (if bare then [] else item ∷ [])
+kept_if : (item : WireItem) (ignored : Bool) → is_ignored_by_host item ≡ ignored → without_ignored (item ∷ []) ≡ (if ignored then [] else item ∷ [])
 kept_if item true is = ap (λ (b : Bool). cond (not b) (item ∷ []) []) is
 kept_if item false is = ap (λ (b : Bool). cond (not b) (item ∷ []) []) is
-
--- a talk in which both agreed goes on as it was
-says_nothing : (answers : Answers) (conn : Session) (state : HostState) → conn.talk.state ≡ state → is_agreed state ≡ true → talked answers conn conn.talk NoTalk ≡ quiet conn
-says_nothing answers conn (Agreed device lu) same agrees =
-    ap (λ (s : HostState). let next = follow Closed conn.talk (host_transition s NoTalk) in talked_on answers conn None next.0 next.1) same
-says_nothing answers conn Offered same agrees = absurd (cc)
-says_nothing answers conn Asked same agrees = absurd (cc)
-says_nothing answers conn (Asking device) same agrees = absurd (cc)
-says_nothing answers conn (Named device lu) same agrees = absurd (cc)
-says_nothing answers conn (Countered device lu) same agrees = absurd (cc)
-says_nothing answers conn (Closed cause) same agrees = absurd (cc)
-
-command_is_nothing : (answers : Answers) (conn : Session) (item : WireItem) (step : HostStep) → is_bare_command item ≡ true → is_agreed conn.talk.state ≡ true → TakesItem answers conn item step → step ≡ quiet conn
-command_is_nothing answers conn (Other code) step bare agrees taken =
-    taken.2 ∙ ap (λ (comes : Comes). talked answers conn conn.talk comes) taken.1 ∙ says_nothing answers conn conn.talk.state refl agrees
-command_is_nothing answers conn (Record bytes) step bare agrees taken = absurd (cc)
-command_is_nothing answers conn (Opt verb code) step bare agrees taken = absurd (cc)
-command_is_nothing answers conn (Sub bytes) step bare agrees taken = absurd (cc)
 
 -- ---- the connection with this line of the host
 
@@ -106,11 +79,11 @@ with_parts host down up old = record old { host = host; down = down; up = up }
 
 -- it represents this, whatever the host has on other connections
 represents_with : (number : ℕ) (host : Host) (connection : Connection) (down up : List ℕ) (old : OverBytes) (t : LinkWithReport) → connection_at number host ≡ connection → IsOpen connection.service
-    → LinkRepresentsBy without_commands IsReadAs (link_by connection down up old.tracked) t.link → old.waits ≡ t.waits → t.link.term.waits ≡ false → CanBeSent t.link.term.display.size t.link.term.display.screen
+    → LinkRepresentsBy without_ignored IsReadAs is_ignored_by_terminal (link_by connection down up old.tracked) t.link → old.waits ≡ t.waits → t.link.term.waits ≡ false → CanBeSent t.link.term.display.size t.link.term.display.screen
     → Represents number (with_parts host down up old) t
 represents_with number host connection down up old t at is_open stands waits unnamed stored = record {
   is_open = subst (λ (c : Connection). IsOpen c.service) (sym at) is_open;
-  stands = subst (λ (c : Connection). LinkRepresentsBy without_commands IsReadAs (link_by c down up old.tracked) t.link) (sym at) stands;
+  stands = subst (λ (c : Connection). LinkRepresentsBy without_ignored IsReadAs is_ignored_by_terminal (link_by c down up old.tracked) t.link) (sym at) stands;
   waits = waits;
   unnamed = unnamed;
   stored = stored;
@@ -126,9 +99,8 @@ still_sound granted number None pool sound = sound
 still_sound granted number (Some lu) pool sound = granted pool number lu sound
 
 pub record HearsLaws : Type 0 where
-  pub sends : HostSendsBy without_commands IsReadAs
-  pub nop : NopRepresentsBy without_commands IsReadAs
-  pub up : UpRepresentsBy without_commands IsReadAs
+  pub sends : ItemsAreSentBy without_ignored IsReadAs is_ignored_by_terminal
+  pub up : UpRepresentsBy without_ignored IsReadAs is_ignored_by_terminal
   pub final : WrongIsFinal
   pub one_header : OneHeader
   pub fault_or_header : FaultIsNoHeader
@@ -169,12 +141,12 @@ module _ (laws : HearsLaws) (app : Application) (Good : LinkWithReport → Type 
 
     -- it goes on with this rest of the stream
     opened : (rest to : Rest) (conn : Session) (behind : List ℕ) (t' : Link) → line.service ≡ Service.Open rest conn
-        → LinkRepresentsBy without_commands IsReadAs (record (link_over number old) { host_rest = to; up = behind }) t'
-        → LinkRepresentsBy without_commands IsReadAs (link_by (record line { service = Service.Open to conn }) old.down behind old.tracked) t'
+        → LinkRepresentsBy without_ignored IsReadAs is_ignored_by_terminal (record (link_over number old) { host_rest = to; up = behind }) t'
+        → LinkRepresentsBy without_ignored IsReadAs is_ignored_by_terminal (link_by (record line { service = Service.Open to conn }) old.down behind old.tracked) t'
     opened rest to conn behind t' held stands =
-        subst (λ (s : Service). LinkRepresentsBy without_commands IsReadAs (record (link_by line old.down behind old.tracked) { host_here = is_there s; host = conn_of s; host_rest = to }) t') held stands
+        subst (λ (s : Service). LinkRepresentsBy without_ignored IsReadAs is_ignored_by_terminal (record (link_by line old.down behind old.tracked) { host_here = is_there s; host = conn_of s; host_rest = to }) t') held stands
 
-    hears_nothing : (byte : ℕ) (behind : List ℕ) (counter : ConnectionAndPool) (rest to : Rest) (conn : Session) (items : List WireItem) → without_commands items ≡ [] → old.up ≡ byte ∷ behind → line.service ≡ Service.Open rest conn
+    hears_nothing : (byte : ℕ) (behind : List ℕ) (counter : ConnectionAndPool) (rest to : Rest) (conn : Session) (items : List WireItem) → without_ignored items ≡ [] → old.up ≡ byte ∷ behind → line.service ≡ Service.Open rest conn
         → Delivers record_limit rest (byte ∷ []) items to → counter ≡ record { pool = old.host.pool; connection = record line { service = Service.Open to conn } }
         → Fed app Good number counter behind old t
     hears_nothing byte behind counter rest to conn items none queue held delivers is_counter =
@@ -222,7 +194,7 @@ module _ (laws : HearsLaws) (app : Application) (Good : LinkWithReport → Type 
 
       hears_one : (item : WireItem) (done : HostStep) (byte : ℕ) (behind : List ℕ) (counter : ConnectionAndPool) (rest to : Rest) (conn : Session) → line.service ≡ Service.Open rest conn
           → IsReadAs item message → TakesItem (answer_to old.host.pool) conn item done
-          → LinkRepresentsBy without_commands IsReadAs (record (link_over number old) { host_rest = to; up = behind }) (record link { up = others })
+          → LinkRepresentsBy without_ignored IsReadAs is_ignored_by_terminal (record (link_over number old) { host_rest = to; up = behind }) (record link { up = others })
           → counter ≡ stepped number to done (connection_and_pool_at number old.host) → Fed app Good number counter behind old t
       hears_one item done byte behind counter rest to conn held read taken stood is_counter =
           let just = just_talks (answer_to old.host.pool) link.host message in
@@ -230,16 +202,26 @@ module _ (laws : HearsLaws) (app : Application) (Good : LinkWithReport → Type 
           let after : ConnectionAndPool = stepped number to step (connection_and_pool_at number old.host) in
           let counter_is : counter ≡ after = is_counter ∙ ap (λ (s : HostStep). stepped number to s (connection_and_pool_at number old.host)) (step_is item done rest conn held read taken) in
           let going : service_after to step.conn step.closes ≡ Service.Open to step.conn = ap (service_after to step.conn) closes in
-          let said = sends_stand laws.sends (record (link_over number old) { host_rest = to; up = behind }) (record link { up = others }) step.conn step.sends just.talk just.says stood may_now in
+          let lost : false ≡ link.lost = is.stands.lost in
+          let may = may_behind link.down step.sends link.term (subst (λ (l : Bool). MayComeAll link.term (sent l link.down step.sends)) (sym lost) may_now) in
+          let fit : AllByRecursion (CanCome record_limit) (map item_sent step.sends) =
+          subst (λ (m : List ToTerminal). AllByRecursion (CanCome record_limit) (map item_sent m)) (sym just.says)
+          (talk_comes just.talk may.0 (subst (λ (m : List ToTerminal). MayComeAll may.0 m) just.says may.1)) in
+          let pairs : Pairwise RepresentsDown (map item_sent step.sends) step.sends = subst (λ (m : List ToTerminal). Pairwise RepresentsDown (map item_sent m) m) (sym just.says) (talk_stands just.talk) in
+          let none : AllByRecursion IsNoRefusal step.sends =
+          all_back IsNoRefusal link.down step.sends
+          (subst (λ (l : Bool). AllByRecursion IsNoRefusal (sent l link.down step.sends)) (sym lost) (subst (λ (l : Link). AllByRecursion IsNoRefusal l.down) link_now (kept.ready now good_now).no_refusal)) in
+          let said = laws.sends (record (link_over number old) { host_rest = to; up = behind }) (record link { up = others }) step.conn (map item_sent step.sends) step.sends stood fit
+          (subst (λ (l : List WireItem). Pairwise RepresentsDown l step.sends) (sym (all_told (map item_sent step.sends) step.sends none pairs)) pairs) in
           let line_now : Connection = record after.connection { service = Service.Open to step.conn } in
           let line_is : after.connection ≡ line_now = ap (λ (s : Service). record after.connection { service = s }) going in
-          let stands : LinkRepresentsBy without_commands IsReadAs (link_by line_now old.down behind old.tracked) (link_behind step others link) =
-          subst (λ (d : List ℕ). LinkRepresentsBy without_commands IsReadAs (record (link_by line_now old.down behind old.tracked) { down = d }) (link_behind step others link)) (append_assoc old.down line.out more)
-          (subst (λ (h : Bool). LinkRepresentsBy without_commands IsReadAs (record (link_by line_now old.down behind old.tracked) { down = (old.down ++ line.out) ++ more; host_here = h }) (link_behind step others link))
+          let stands : LinkRepresentsBy without_ignored IsReadAs is_ignored_by_terminal (link_by line_now old.down behind old.tracked) (link_behind step others link) =
+          subst (λ (d : List ℕ). LinkRepresentsBy without_ignored IsReadAs is_ignored_by_terminal (record (link_by line_now old.down behind old.tracked) { down = d }) (link_behind step others link)) (append_assoc old.down line.out more)
+          (subst (λ (h : Bool). LinkRepresentsBy without_ignored IsReadAs is_ignored_by_terminal (record (link_by line_now old.down behind old.tracked) { down = (old.down ++ line.out) ++ more; host_here = h }) (link_behind step others link))
           (here_if line.service is.is_open) said) in
           let back = sym link_now in
           let represents = represents_with number (with_connection_and_pool number after old.host) line_now old.down behind old now (at_line after.connection after.pool ∙ line_is) tt
-          (subst (λ (l : Link). LinkRepresentsBy without_commands IsReadAs (link_by line_now old.down behind old.tracked) l) back stands)
+          (subst (λ (l : Link). LinkRepresentsBy without_ignored IsReadAs is_ignored_by_terminal (link_by line_now old.down behind old.tracked) l) back stands)
           (is.waits ∙ sym waits_now) (ap (λ (l : Link). l.term.waits) link_now ∙ is.unnamed)
           (subst (λ (l : Link). CanBeSent l.term.display.size l.term.display.screen) back is.stored) in
           let sound : IsSoundPool after.pool =
@@ -251,23 +233,45 @@ module _ (laws : HearsLaws) (app : Application) (Good : LinkWithReport → Type 
             pool = subst (λ (c : ConnectionAndPool). IsSoundPool c.pool) (sym counter_is) sound;
           }
 
+    -- the host only refuses options, or does nothing
+    hears_refused : (item : WireItem) (done : HostStep) (byte : ℕ) (behind : List ℕ) (counter : ConnectionAndPool) (rest to : Rest) (conn : Session) → without_ignored (item ∷ []) ≡ [] → line.service ≡ Service.Open rest conn
+        → old.up ≡ byte ∷ behind → Delivers record_limit rest (byte ∷ []) (item ∷ []) to → OnlyRefuses conn done → counter ≡ stepped number to done (connection_and_pool_at number old.host) → Fed app Good number counter behind old t
+    hears_refused item done byte behind counter rest to conn none held queue delivers refuses is_counter =
+        let items : List WireItem = map item_sent (map ToTerminal.TalksDown refuses.says) in
+        let more : List ℕ = sent_bytes items in
+        let read = subst (λ (r : Rest). Delivers record_limit r (byte ∷ []) (item ∷ []) to) (sym (ap rest_of held)) delivers in
+        let stood = none_first laws.up (link_over number old) link byte behind to is.stands host_here queue (item ∷ []) none read in
+        let said = refusals_stand laws.sends (record (link_over number old) { host_rest = to; up = behind }) link items stood refuses.comes refuses.ignored in
+        let does : HostStep = record (quiet conn) { sends = map ToTerminal.TalksDown refuses.says } in
+        let after : ConnectionAndPool = stepped number to does (connection_and_pool_at number old.host) in
+        let counter_is : counter ≡ after = is_counter ∙ ap (λ (s : HostStep). stepped number to s (connection_and_pool_at number old.host)) refuses.is in
+        let same : link.host ≡ conn = sym conn_is ∙ ap conn_of held in
+        let stands : LinkRepresentsBy without_ignored IsReadAs is_ignored_by_terminal (link_by after.connection old.down behind old.tracked) link =
+        subst (λ (d : List ℕ). LinkRepresentsBy without_ignored IsReadAs is_ignored_by_terminal (record (link_by after.connection old.down behind old.tracked) { down = d }) link) (append_assoc old.down line.out more)
+        (subst (λ (c : Session). LinkRepresentsBy without_ignored IsReadAs is_ignored_by_terminal (record (link_by after.connection old.down behind old.tracked) { down = (old.down ++ line.out) ++ more; host = c }) link) same
+        (subst (λ (h : Bool). LinkRepresentsBy without_ignored IsReadAs is_ignored_by_terminal (record (link_by after.connection old.down behind old.tracked) { down = (old.down ++ line.out) ++ more; host = link.host; host_here = h }) link)
+        (here_if line.service is.is_open) said)) in
+        let represents = represents_with number (with_connection_and_pool number after old.host) after.connection old.down behind old t (at_line after.connection after.pool) tt stands is.waits is.unnamed is.stored in
+        record {
+          goes = goes_as app Good number (fed_by number after behind old) (fed_by number counter behind old) t (ap (λ (c : ConnectionAndPool). fed_by number c behind old) counter_is)
+              (stays app Good number (fed_by number after behind old) t good represents);
+          ups = All-nil IsUp;
+          pool = subst (λ (c : ConnectionAndPool). IsSoundPool c.pool) (sym counter_is) served.pool;
+        }
+
     hears_byte : (byte : ℕ) (behind : List ℕ) (counter : ConnectionAndPool) → old.up ≡ byte ∷ behind → TakesByte number (connection_and_pool_at number old.host) byte counter → Fed app Good number counter behind old t
     hears_byte byte behind counter queue (TakesByte.goes_on rest to conn held delivers is_counter) = hears_nothing byte behind counter rest to conn [] refl queue held delivers is_counter
-    hears_byte byte behind counter queue (TakesByte.completes rest to conn item done held delivers taken is_counter) = by_test (is_bare_command item) refl
+    hears_byte byte behind counter queue (TakesByte.completes rest to conn item done held delivers taken is_counter) = by_test (is_ignored_by_host item) refl
       where
-        by_test : (bare : Bool) → is_bare_command item ≡ bare → Fed app Good number counter behind old t
+        by_test : (ignored : Bool) → is_ignored_by_host item ≡ ignored → Fed app Good number counter behind old t
         by_test false heard =
             let read = subst (λ (r : Rest). Delivers record_limit r (byte ∷ []) (item ∷ []) to) (sym (ap rest_of held)) delivers in
             let first = one_first laws.up (link_over number old) link byte behind to is.stands host_here queue item (kept_if item false heard) read in
             hears_one first.message first.others first.whole item done byte behind counter rest to conn held first.is taken first.stands is_counter
-        by_test true bare =
+        by_test true ignored =
             let same : conn ≡ link.host = sym (ap conn_of held) ∙ conn_is in
             let agreed = ap (λ (c : Session). is_agreed c.talk.state) same ∙ (kept.ready t good).agreed in
-            let quietly = is_counter ∙ ap (λ (step : HostStep). stepped number to step (connection_and_pool_at number old.host)) (command_is_nothing (answer_to old.host.pool) conn item done bare agreed taken) in
-            let nothing_out = ap (λ (out : List ℕ). record { pool = old.host.pool; connection = record line { service = Service.Open to conn; out = out } }) (append-nil line.out) in
-            let nothing_new = ap (λ (reports : Reports). record { pool = old.host.pool; connection = record { service = Service.Open to conn; out = line.out ++ []; reports = reports } })
-            (not_bound_anew line.service rest conn line.reports held) in
-            hears_nothing byte behind counter rest to conn (item ∷ []) (kept_if item true bare) queue held delivers (quietly ∙ nothing_new ∙ nothing_out)
+            hears_refused item done byte behind counter rest to conn (kept_if item true ignored) held queue delivers (only_refuses (answer_to old.host.pool) conn item done ignored agreed taken) is_counter
     hears_byte byte behind counter queue (TakesByte.breaks rest conn fault held wrong is_counter) =
         absurd (never_wrong laws.final (link_over number old) link byte behind fault is.stands host_here queue
         (subst (λ (r : Rest). GoesWrong record_limit r (byte ∷ []) fault) (sym (ap rest_of held)) wrong))
@@ -318,7 +322,7 @@ module _ (laws : HearsLaws) (app : Application) (Good : LinkWithReport → Type 
     same_line connection down same is_open = record {
       goes = stays app Good number (record old { host = with_connection number connection old.host; down = down }) t good
           (represents_with number (with_connection number connection old.host) connection down old.up old t (at_line old t good is served connection old.host.pool) is_open
-          (subst (λ (b : ByteLink). LinkRepresentsBy without_commands IsReadAs b t.link) (sym same) is.stands) is.waits is.unnamed is.stored);
+          (subst (λ (b : ByteLink). LinkRepresentsBy without_ignored IsReadAs is_ignored_by_terminal b t.link) (sym same) is.stands) is.waits is.unnamed is.stored);
       are = refl;
     }
 
@@ -347,9 +351,14 @@ module _ (laws : HearsLaws) (app : Application) (Good : LinkWithReport → Type 
     sends_goes move sending goes rules typed encoded =
         let connection : Connection = sent_on sending (connection_at number old.host) in
         let link : Link = host_sent (Some sending) t.link in
-        let said = laws.sends (link_over number old) t.link sending.conn (item_sent sending.message ∷ []) (sending.message ∷ []) is.stands (encoded.comes, tt) (encoded.stands, tt) in
-        let stands : LinkRepresentsBy without_commands IsReadAs (link_by connection old.down old.up old.tracked) link =
-        subst (λ (b : ByteLink). LinkRepresentsBy without_commands IsReadAs b link) (sent_link sending (state_at number old.host) (connection_at number old.host).out is.is_open) said in
+        let after_down : (moved app move t).link.down ≡ t.link.down ++ sending.message ∷ [] =
+        ap (λ (u : LinkWithReport). u.link.down) goes ∙ ap (λ (l : Bool). sent l t.link.down (sending.message ∷ [])) (sym is.stands.lost) in
+        let none : AllByRecursion IsNoRefusal (sending.message ∷ []) =
+        all_back IsNoRefusal t.link.down (sending.message ∷ []) (subst (AllByRecursion IsNoRefusal) after_down (kept.ready (moved app move t) (kept.goes_on move t good rules typed)).no_refusal) in
+        let said = laws.sends (link_over number old) t.link sending.conn (item_sent sending.message ∷ []) (sending.message ∷ []) is.stands (encoded.comes, tt)
+        (subst (λ (l : List WireItem). Pairwise RepresentsDown l (sending.message ∷ [])) (sym (all_told (item_sent sending.message ∷ []) (sending.message ∷ []) none (encoded.stands, tt))) (encoded.stands, tt)) in
+        let stands : LinkRepresentsBy without_ignored IsReadAs is_ignored_by_terminal (link_by connection old.down old.up old.tracked) link =
+        subst (λ (b : ByteLink). LinkRepresentsBy without_ignored IsReadAs is_ignored_by_terminal b link) (sent_link sending (state_at number old.host) (connection_at number old.host).out is.is_open) said in
         let now : LinkWithReport = record t { link = link } in
         record {
           goes = moves_once app Good kept number (on_connection number connection old) t move good rules typed
@@ -397,7 +406,9 @@ module _ (laws : HearsLaws) (app : Application) (Good : LinkWithReport → Type 
             record {
               goes = stays app Good number (on_connection number (with_nop line) old) t good
                   (represents_with number (with_connection number (with_nop line) old.host) (with_nop line) old.down old.up old t (at_line old t good is served (with_nop line) old.host.pool) is.is_open
-                  (subst (λ (d : List ℕ). LinkRepresentsBy without_commands IsReadAs (record (link_over number old) { down = d }) t.link) (append_assoc old.down line.out nop) (laws.nop (link_over number old) t.link is.stands))
+                  (subst (λ (d : List ℕ). LinkRepresentsBy without_ignored IsReadAs is_ignored_by_terminal (record (link_over number old) { down = d }) t.link) (append_assoc old.down line.out nop)
+                  (subst (λ (c : Session). LinkRepresentsBy without_ignored IsReadAs is_ignored_by_terminal (record (link_over number old) { down = (old.down ++ line.out) ++ nop; host = c }) t.link) (sym (conn_is old t good is served))
+                  (refusals_stand laws.sends (link_over number old) t.link (no_operation ∷ []) is.stands (nop_can_come, tt) refl)))
                   is.waits is.unnamed is.stored);
               are = refl;
             }

@@ -1,6 +1,6 @@
 -- What a move over bytes leaves of a host: its other connections, unless something happens there, and who was granted
 -- an LU.
-use Rattle.std.proofs.Common.{◌≡◌, ◌<◌, ◌==◌, ◌∷◌, ◌++◌, List, [], ℕ, Bool, true, false, Some, set, length, length-set, refl, ap, sym, subst, ◌∙◌}
+use Rattle.std.proofs.Common.{◌≡◌, ◌<◌, ◌==◌, ◌∷◌, ◌++◌, List, [], ℕ, Bool, true, false, Some, length, length-set, refl, ap, sym, subst, ◌∙◌}
 use Rattle.std.proofs.lemmas.Bool.{eqb-true, eqb-false}
 use Rattle.std.proofs.lemmas.List.{get_or-set_other}
 use Rattle.tn3270e_msg.specs.HostTable.{granted}
@@ -37,7 +37,7 @@ leaves app number old new (Moves.reports events is) = by_line number old.host ne
 leaves app number old new (Moves.elsewhere host other is) = Leaves.there (subst (IsElsewhere number old.host) (sym (ap host_of is)) other)
 leaves app number old new (Moves.takes comes) = Leaves.nowhere (ap host_of comes.leaves)
 leaves app number old new (Moves.operates step does) = Leaves.nowhere (ap host_of does.leaves)
-leaves app number old new (Moves.sends_commands bytes commands is) = Leaves.nowhere (ap host_of is)
+leaves app number old new (Moves.sends_ignored bytes ignored is) = Leaves.nowhere (ap host_of is)
 
 -- there is still this number
 pub still_below : (number : ℕ) (old new : Host) → Leaves number old new → number < most_connections → number < length old.connections → number < length new.connections

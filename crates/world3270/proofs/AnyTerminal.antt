@@ -9,6 +9,7 @@ use Rattle.lu_pool.specs.declared.entry.Entry.{Entry}
 use Rattle.presentation.specs.Sizes.{SizedScreen}
 use Rattle.shadow.specs.Pairs.{Pairwise}
 use Rattle.std.specs.Prelude.{⊤, All, IfSome}
+use Rattle.std.specs.List.{AllByRecursion}
 use Rattle.std.proofs.lemmas.List.Elements.{All-cons, All-nil}
 use Rattle.telnet_wire.specs.Items.{WireItem, sent_bytes}
 use Rattle.telnet_wire.specs.Laws.{ItemsAreRead, WrongIsFinal}
@@ -34,14 +35,16 @@ use Rattle.world3270.specs.refinement.Readings.{AreReadAs, IsReadAs, MayBeSent}
 use Rattle.world3270.specs.statement.Rules.{Operates}
 use Rattle.world3270.specs.refinement.Sendable.{CanBeSent}
 use Rattle.world3270.specs.refinement.Representation.{with_out}
-use Rattle.world3270.specs.refinement.Represents.{BytesDown, BytesRepresent, Holds, LinkRepresentsBy, RepresentsDown, RepresentsUp, without_commands, without_nops}
+use Rattle.world3270.specs.refinement.Represents.{BytesDownBy, BytesRepresent, Holds, LinkRepresentsBy, RepresentsDown, RepresentsUp, without, without_nops}
+use Rattle.world3270.specs.refinement.Ignored.{is_ignored_by_terminal, without_ignored}
 use Rattle.world3270.specs.refinement.RepresentsEnds.{NopHasNoEffect, TakesKeepSendable, TermTakes, WritesAreMarked, is_painted}
 use Rattle.world3270.specs.refinement.RepresentsLinks.{MayComeAll, NoneCloses, RepresentsGoOn, RepresentsJoin, any_painted, took_down}
 use Rattle.world3270.specs.model.Terminal.{Display, TermEnd, TermStep, is_bound, once_bound, took}
 use Rattle.world3270.specs.model.TrackedTerminals.{TrackedTerminal}
 use Rattle.world3270.proofs.HostItems.{stands_read}
 use Rattle.world3270.proofs.ItemsSpelt.{IsEncodable}
-use Rattle.world3270.proofs.Represents.{all_heard, written_stand}
+use Rattle.world3270.proofs.AnyIgnored.{IsNoRefusal, IsNoTalk, all_back, all_heard, ignored_have_no_effect}
+use Rattle.world3270.proofs.Represents.{written_stand}
 use Rattle.world3270.proofs.RepresentsLinks.{Ran, byte_came, ran_stands}
 use Rattle.world3270.proofs.WithoutClear.{AreWithoutClear, IsWithoutClear}
 
@@ -55,6 +58,8 @@ pub record Ready (app : Application) (t : LinkWithReport) : Type 0 where
   pub same : (message : ToTerminal) (others : List ToTerminal) → t.link.down ≡ message ∷ others → executed t.link.term message ≡ took t.link.term message
   pub comes_up : (message : ToHost) (others : List ToHost) → t.link.up ≡ message ∷ others → MayBeSent t.link.host message
   pub agreed : is_agreed t.link.host.talk.state ≡ true
+  pub no_talk : AllByRecursion IsNoTalk t.link.up
+  pub no_refusal : AllByRecursion IsNoRefusal t.link.down
   pub hears : (pool : List Entry) → IsSoundPool pool → (message : ToHost) (others : List ToHost) → t.link.up ≡ message ∷ others
       → (host_took (answer_to pool) t.link.host message).closes ≡ None
   pub acts : IfSome (acted app t.link.host) (λ sending. IsEncodable sending.message)
@@ -134,11 +139,12 @@ pairs_become R S becomes (x ∷ xs) [] h = absurd h
 pairs_become R S becomes (x ∷ xs) (y ∷ ys) h = (becomes x y h.0, pairs_become R S becomes xs ys h.1)
 
 -- the host reads what our terminal says as what it stands for
-ours_read : ItemsAreRead → (link now : Link) (old new : TrackedTerminal) (behind : List ℕ) → old.terminal.out ≡ [] → (ran : Ran link now old new behind) → AreReadAs new.terminal.out ran.sends
-ours_read written link now old new behind silent ran =
+ours_read : ItemsAreRead → (link now : Link) (old new : TrackedTerminal) (behind : List ℕ) → old.terminal.out ≡ [] → (ran : Ran is_ignored_by_terminal link now old new behind) → AllByRecursion IsNoTalk ran.sends
+    → AreReadAs new.terminal.out ran.sends
+ours_read written link now old new behind silent ran none =
     subst (λ (b : List ℕ). AreReadAs b ran.sends) (sym (ran.out ∙ ap (λ (b : List ℕ). b ++ sent_bytes ran.says) silent))
-    (written_stand without_commands IsReadAs written ran.says ran.sends ran.fit
-    (subst (λ (items : List WireItem). Pairwise IsReadAs items ran.sends) (sym (all_heard ran.says ran.sends ran.said))
+    (written_stand without_ignored IsReadAs written ran.says ran.sends ran.fit
+    (subst (λ (items : List WireItem). Pairwise IsReadAs items ran.sends) (sym (all_heard ran.says ran.sends none ran.said))
     (pairs_become RepresentsUp IsReadAs stands_read ran.says ran.sends ran.said)))
 
 -- ---- messages come down
@@ -257,10 +263,11 @@ pub record TakesLaws : Type 0 where
   pub keeps : TakesKeepSendable
   pub nop : NopHasNoEffect
   pub down : RepresentsGoOn without_nops RepresentsDown
+  pub any_down : RepresentsGoOn (without is_ignored_by_terminal) RepresentsDown
   pub final : WrongIsFinal
   pub marks : WritesAreMarked
   pub written : ItemsAreRead
-  pub join : RepresentsJoin without_commands IsReadAs
+  pub join : RepresentsJoin without_ignored IsReadAs
 
 module _ (laws : TakesLaws) (app : Application) (Good : LinkWithReport → Type 0) (kept : IsKept app Good) where
   pub takes_goes : (number : ℕ) (old new : OverBytes) (t : LinkWithReport) → Good t → Represents number old t → Takes old new → WentDown app Good number new t
@@ -271,17 +278,21 @@ module _ (laws : TakesLaws) (app : Application) (Good : LinkWithReport → Type 
       let term = is.stands.term 0 here in
       let queue : (link_over number old).down ≡ comes.byte ∷ (comes.behind ++ out) = ap (λ (d : List ℕ). d ++ out) comes.next in
       let ready = kept.ready t good in
-      let one = byte_came laws.takes laws.keeps laws.nop laws.down laws.final laws.marks comes.byte (comes.behind ++ out) old.tracked comes.ours term.rest link term.holds
-      (subst (λ (d : List ℕ). BytesDown term.rest d link.down) queue term.down) ready.may ready.none is.stored comes.takes in
+      let one = byte_came laws.takes laws.keeps ignored_have_no_effect laws.any_down laws.final laws.marks comes.byte (comes.behind ++ out) old.tracked comes.ours term.rest link term.holds
+      (subst (λ (d : List ℕ). BytesDownBy is_ignored_by_terminal term.rest d link.down) queue term.down) ready.may ready.none is.stored comes.takes in
       let taken : List ToTerminal = one.came.taken in
       let others : List ToTerminal = one.came.others in
       let ran = one.came.ran in
-      let said : AreReadAs comes.bytes ran.sends = comes.alike ran.sends (ours_read laws.written link (took_down taken others link) old.tracked comes.ours (comes.behind ++ out) term.silent ran) in
       let lost : false ≡ link.lost = is.stands.lost in
-      let stands = ran_stands (link_over number old) link (took_down taken others link) (comes.behind ++ out) comes.bytes comes.ours is.stands ran
-      (subst (λ (l : Bool). BytesRepresent without_commands IsReadAs is.stands.read (sent l old.up comes.bytes) (sent l link.up ran.sends)) lost
-      (laws.join is.stands.read old.up comes.bytes link.up ran.sends is.stands.up said)) in
       let down = all_came app Good kept taken others t good one.came.whole in
+      let after_up : (after_moves app down.moves t).link.up ≡ link.up ++ ran.sends =
+      ap (λ (l : Link). l.up) down.link_is ∙ ran.up ∙ ap (λ (l : Bool). sent l link.up ran.sends) (sym lost) in
+      let none : AllByRecursion IsNoTalk ran.sends =
+      all_back IsNoTalk link.up ran.sends (subst (AllByRecursion IsNoTalk) after_up (kept.ready (after_moves app down.moves t) down.good).no_talk) in
+      let said : AreReadAs comes.bytes ran.sends = comes.alike ran.sends (ours_read laws.written link (took_down taken others link) old.tracked comes.ours (comes.behind ++ out) term.silent ran none) in
+      let stands = ran_stands (link_over number old) link (took_down taken others link) (comes.behind ++ out) comes.bytes comes.ours is.stands ran
+      (subst (λ (l : Bool). BytesRepresent without_ignored IsReadAs is.stands.read (sent l old.up comes.bytes) (sent l link.up ran.sends)) lost
+      (laws.join is.stands.read old.up comes.bytes link.up ran.sends is.stands.up said)) in
       let bytes : OverBytes = record {
         host = old.host;
         down = comes.behind;
@@ -292,7 +303,7 @@ module _ (laws : TakesLaws) (app : Application) (Good : LinkWithReport → Type 
       let back = sym down.link_is in
       let represents : Represents number bytes (after_moves app down.moves t) = record {
         is_open = is.is_open;
-        stands = subst (λ (l : Link). LinkRepresentsBy without_commands IsReadAs (link_over number bytes) l) back stands;
+        stands = subst (λ (l : Link). LinkRepresentsBy without_ignored IsReadAs is_ignored_by_terminal (link_over number bytes) l) back stands;
         waits = ap (λ (b : Bool). if b then false else old.waits) one.marked ∙ ap (λ (w : Bool). if any_painted link.term taken then false else w) is.waits ∙ sym down.waits_is;
         unnamed = ap (λ (l : Link). l.term.waits) down.link_is ∙ all_waits taken others link ∙ is.unnamed;
         stored = subst (λ (l : Link). CanBeSent l.term.display.size l.term.display.screen) back ran.can;
@@ -357,12 +368,12 @@ module _ (laws : TakesLaws) (app : Application) (Good : LinkWithReport → Type 
         waits = old.waits || is_queued step.sends;
       } in
       let lost : false ≡ link.lost = is.stands.lost in
-      let stands : LinkRepresentsBy without_commands IsReadAs (link_over number bytes) now = record {
+      let stands : LinkRepresentsBy without_ignored IsReadAs is_ignored_by_terminal (link_over number bytes) now = record {
         lost = is.stands.lost;
         host_here = is.stands.host_here;
         term_here = is.stands.term_here;
         read = is.stands.read;
-        up = subst (λ (l : Bool). BytesRepresent without_commands IsReadAs is.stands.read (sent false old.up does.bytes) (sent l link.up step.sends)) lost
+        up = subst (λ (l : Bool). BytesRepresent without_ignored IsReadAs is.stands.read (sent false old.up does.bytes) (sent l link.up step.sends)) lost
             (laws.join is.stands.read old.up does.bytes link.up step.sends is.stands.up does.encoded);
         host = λ there. let host = is.stands.host there in record { host = host.host; rest_is = host.rest_is };
         term = λ which its. record {
@@ -386,7 +397,7 @@ module _ (laws : TakesLaws) (app : Application) (Good : LinkWithReport → Type 
       let back = sym link_is in
       let represents : Represents number bytes (operated step t) = record {
         is_open = is.is_open;
-        stands = subst (λ (l : Link). LinkRepresentsBy without_commands IsReadAs (link_over number bytes) l) back stands;
+        stands = subst (λ (l : Link). LinkRepresentsBy without_ignored IsReadAs is_ignored_by_terminal (link_over number bytes) l) back stands;
         waits = ap (λ (w : Bool). w || is_queued step.sends) is.waits;
         unnamed = ap (λ (l : Link). l.term.waits) link_is ∙ left.waits ∙ is.unnamed;
         stored = subst (λ (l : Link). CanBeSent l.term.display.size l.term.display.screen) back does.stored;
@@ -397,10 +408,10 @@ module _ (laws : TakesLaws) (app : Application) (Good : LinkWithReport → Type 
         are = refl;
       }
 
-  -- ---- it sends commands that the host takes as nothing
+  -- ---- it sends what the host only answers, or ignores
 
-  pub commands_goes : (number : ℕ) (bytes : List ℕ) (old : OverBytes) (t : LinkWithReport) → Good t → Represents number old t → AreReadAs bytes [] → GoesBy app Good number (record old { up = old.up ++ bytes }) t []
-  commands_goes number bytes old t good is commands = record {
+  pub ignored_goes : (number : ℕ) (bytes : List ℕ) (old : OverBytes) (t : LinkWithReport) → Good t → Represents number old t → AreReadAs bytes [] → GoesBy app Good number (record old { up = old.up ++ bytes }) t []
+  ignored_goes number bytes old t good is ignored = record {
     goes = stays app Good number (record old { up = old.up ++ bytes }) t good (record {
       is_open = is.is_open;
       stands = record {
@@ -408,8 +419,8 @@ module _ (laws : TakesLaws) (app : Application) (Good : LinkWithReport → Type 
         host_here = is.stands.host_here;
         term_here = is.stands.term_here;
         read = is.stands.read;
-        up = subst (λ (messages : List ToHost). BytesRepresent without_commands IsReadAs is.stands.read (old.up ++ bytes) messages) (append-nil t.link.up)
-            (laws.join is.stands.read old.up bytes t.link.up [] is.stands.up commands);
+        up = subst (λ (messages : List ToHost). BytesRepresent without_ignored IsReadAs is.stands.read (old.up ++ bytes) messages) (append-nil t.link.up)
+            (laws.join is.stands.read old.up bytes t.link.up [] is.stands.up ignored);
         host = λ there. let host = is.stands.host there in record { host = host.host; rest_is = host.rest_is };
         term = λ which its. let term = is.stands.term which its in record {
           rest = term.rest;

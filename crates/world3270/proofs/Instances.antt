@@ -4,6 +4,7 @@ use Rattle.std.specs.Prelude.{⊤}
 use Rattle.std.specs.Option.{option_and_then}
 use Rattle.std.proofs.lemmas.Bool.{cases_lt}
 use Rattle.std.proofs.lemmas.List.{get_or_past}
+use Rattle.std.specs.List.{AllByRecursion}
 use Rattle.std.proofs.lemmas.Option.{same_Some}
 use Rattle.codes3270.specs.declared.size.Model.{Model}
 use Rattle.datastream.specs.InboundFields.{IsSendable}
@@ -57,7 +58,8 @@ use Rattle.world3270.specs.refinement.Phases.{IsAgreed, IsInFlight}
 use Rattle.world3270.specs.refinement.Readings.{IsReadAs}
 use Rattle.world3270.specs.refinement.Refines.{IsReached, WorldSetup, after}
 use Rattle.world3270.specs.refinement.Representation.{conn_of, link_of, link_with}
-use Rattle.world3270.specs.refinement.Represents.{BytesDown, LinkRepresents, RepresentsUp, TermRepresents, without_commands, LinkRepresentsBy}
+use Rattle.world3270.specs.refinement.Represents.{BytesDown, LinkRepresents, RepresentsUp, TermRepresents, LinkRepresentsBy}
+use Rattle.world3270.specs.refinement.Ignored.{is_ignored_by_terminal, without_ignored}
 use Rattle.world3270.specs.refinement.View.{View, view_of}
 use Rattle.world3270.specs.statement.EveryTerminal.{FirstPaint, LinkWithReport}
 use Rattle.world3270.specs.statement.EveryTerminalBytes.{BeginsOverBytes, IsHost, Represents, link_over}
@@ -72,7 +74,7 @@ use Rattle.world3270.proofs.HostSteps.{just_talks}
 use Rattle.world3270.proofs.Keys.{key_waits}
 use Rattle.world3270.proofs.ScreensFound.{AreTalk, AreTalkUp, IsQuiet, is_quiet}
 use Rattle.world3270.proofs.Relying.{marked_there}
-use Rattle.world3270.proofs.Represents.{all_heard}
+use Rattle.world3270.proofs.AnyIgnored.{IsNoRefusal, IsNoTalk, all_heard, any_down, no_refusal_under_way, no_talk_under_way}
 use Rattle.world3270.proofs.Sendable.{blank_sendable}
 use Rattle.world3270.proofs.Simulation.{has_agreed}
 use Rattle.world3270.proofs.TalkStates.{agreed_on}
@@ -337,8 +339,9 @@ open_below number host rest conn count is = by_place (cases_lt number (length ho
 
 -- the bytes represent it
 pub stands_moved : (number terminal : ℕ) (bytes : ByteWorld) (link : Link) → LinkRepresents (link_of number bytes) link → terminal_at number bytes.slots ≡ Some terminal → is_lost number bytes ≡ false
-    → LinkRepresentsBy without_commands IsReadAs (link_over number (over_bytes number terminal bytes)) (as_moved link)
-stands_moved number terminal bytes link stands there live =
+    → AllByRecursion IsNoTalk link.up → AllByRecursion IsNoRefusal link.down
+    → LinkRepresentsBy without_ignored IsReadAs is_ignored_by_terminal (link_over number (over_bytes number terminal bytes)) (as_moved link)
+stands_moved number terminal bytes link stands there live no_talk no_refusal =
     let term : TermRepresents (link_with (Some terminal) number bytes) link =
     subst (λ (h : Option ℕ). TermRepresents (link_with h number bytes) link) there (stands.term terminal (sym stands.term_here ∙ there)) in
     record {
@@ -350,7 +353,7 @@ stands_moved number terminal bytes link stands there live =
         is_rest = stands.up.is_rest;
         items = stands.up.items;
         delivers = stands.up.delivers;
-        each = subst (λ (items : List WireItem). Pairwise IsReadAs items link.up) (sym (all_heard stands.up.items link.up stands.up.each))
+        each = subst (λ (items : List WireItem). Pairwise IsReadAs items link.up) (sym (all_heard stands.up.items link.up no_talk stands.up.each))
             (pairs_become RepresentsUp IsReadAs stands_read stands.up.items link.up stands.up.each);
       };
       host = λ host_here. record { host = (stands.host host_here).host; rest_is = (stands.host host_here).rest_is };
@@ -369,7 +372,7 @@ stands_moved number terminal bytes link stands there live =
           };
         };
         silent = refl;
-        down = subst (λ (out : List ℕ). BytesDown term.rest out link.down) (live_bytes (transits_at number bytes).down (host_out number bytes) live) term.down;
+        down = any_down term.rest _ link.down no_refusal (subst (λ (out : List ℕ). BytesDown term.rest out link.down) (live_bytes (transits_at number bytes).down (host_out number bytes) live) term.down);
       };
     }
 
@@ -436,7 +439,7 @@ module _ (given : LowerLaws) (panels : PanelsAreShown) (served : ServedIsMarked)
   represents : Represents number (over_bytes number terminal bytes) begins
   represents = record {
     is_open = is_open_now (state_at number bytes.host) a.rest a.host a.is_open;
-    stands = stands_moved number terminal bytes link stands a.there a.live;
+    stands = stands_moved number terminal bytes link stands a.there a.live (no_talk_under_way app link (good.links number) (has_agreed lu link.host.talk.state agreed)) (no_refusal_under_way app link (good.links number));
     waits = refl;
     unnamed = refl;
     stored = record {

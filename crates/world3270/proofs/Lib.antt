@@ -45,6 +45,7 @@ pub mod RunsOfTargets
 pub mod RunsOfQuestions
 pub mod RunsOfLosses
 pub mod RunsOfBytes
+pub mod RunsOfOptions
 pub mod Runs
 pub mod RepresentsFits
 pub mod Represents
@@ -94,6 +95,7 @@ pub mod ItemsSpelt
 pub mod ByteActs
 pub mod HostItems
 pub mod LinkUp
+pub mod AnyIgnored
 pub mod AnyTerminal
 pub mod AnyHost
 pub mod AnyHosts

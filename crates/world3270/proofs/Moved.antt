@@ -72,6 +72,7 @@ use Rattle.world3270.proofs.Known.{Facts, facts_now, is_application}
 use Rattle.world3270.proofs.Obeys.{obeys}
 use Rattle.world3270.proofs.Relying.{marked_there}
 use Rattle.world3270.proofs.ScreensFound.{AreTalk, AreTalkUp}
+use Rattle.world3270.proofs.AnyIgnored.{no_refusal_under_way, no_talk_under_way}
 use Rattle.world3270.proofs.Simulation.{has_agreed}
 use Rattle.world3270.proofs.SimulatedHost.{act_talk}
 use Rattle.world3270.proofs.Worlds.{GoodWorld, new_good, run_good}
@@ -530,7 +531,7 @@ worlds_go_on known served every rules sending number terminal lu bytes is a =
       represents = subst (λ (l : Link). Represents number (record (over_bytes number terminal bytes) { waits = t.waits }) (record t { link = l })) (sym goes.same.link_is)
           (record {
             is_open = is_open_now (state_at number bytes.host) a.rest a.host a.is_open;
-            stands = stands_moved number terminal bytes link stands a.there a.live;
+            stands = stands_moved number terminal bytes link stands a.there a.live (no_talk_under_way app link kept_there (has_agreed lu link.host.talk.state agreed_there_now)) (no_refusal_under_way app link kept_there);
             waits = refl;
             unnamed = refl;
             stored = subst (λ (p : Place). let display = display_at world p in CanBeSent display.size display.screen) place (world_facts.sendable terminal);
@@ -567,6 +568,14 @@ worlds_go_on known served every rules sending number terminal lu bytes is a =
 
     place : world.place terminal ≡ Place.At number
     place = (world_facts.agree terminal number).1 (sym stands.term_here ∙ a.there)
+
+    agreed_there_now : agreed_lu link.host.talk.state ≡ Some lu
+    agreed_there_now = sym (ap (λ (h : Session). agreed_lu h.talk.state) same) ∙ a.agreed
+
+    kept_there : ConnectionInvariant app (view_of link)
+    kept_there =
+        (run_good known.worlds.given app is_app is.events (new_world app setup.serves setup.pool setup.models) is.reached.are_events
+        (new_good known.worlds.given app is_app setup.serves setup.pool setup.models is.is_begin.pool)).links number
 
     unheard : may_have_changed link.host.unheard ≡ true
     unheard = sym (ap (λ (h : Session). may_have_changed h.unheard) same) ∙ a.any

@@ -62,9 +62,9 @@ use Rattle.term_core.proofs.Lengths.{read_buffer_fits, read_modified_fits}
 use Rattle.world3270.proofs.RepresentsFits.{talk_comes}
 use Rattle.world3270.specs.refinement.Sendable.{CanBeSent}
 use Rattle.host_core.specs.Says.{command_header, read_buffer_command}
-use Rattle.world3270.specs.refinement.Represents.{BytesRepresent, IsPaint, IsRead, IsNoted, RepresentsDown, RepresentsUp, IsEnd, all_items, is_bare_command, is_nop, without_commands, without_nops, sized}
-use Rattle.world3270.specs.model.TrackedTerminals.{History, ByteEnd, ByteStep, restored_by}
-use Rattle.world3270.specs.refinement.RepresentsEnds.{PaintRepresents, IsSaid, NamesWanted, IsOpen, ItemComes, TermTakes, is_painted, NopHasNoEffect, WritesAreMarked, TermPresses, MayBePainted, MayTakeNote}
+use Rattle.world3270.specs.refinement.Represents.{BytesRepresent, IsPaint, IsRead, IsNoted, RepresentsDown, RepresentsUp, IsEnd, all_items, is_nop, without, without_nops, sized}
+use Rattle.world3270.specs.model.TrackedTerminals.{EndTakes, History, ByteEnd, ByteStep, restored_by}
+use Rattle.world3270.specs.refinement.RepresentsEnds.{PaintRepresents, IsSaid, NamesWanted, IsOpen, ItemComes, TermTakes, is_painted, IsUnmoved, NopHasNoEffect, WritesAreMarked, TermPresses, MayBePainted, MayTakeNote}
 use Rattle.world3270.specs.refinement.RepresentsLinks.{NothingRepresents, RepresentsCompose, RepresentsJoin, RepresentsGoOn, BeginRepresents}
 use Rattle.world3270.specs.model.Terminal.{Display, TermEnd, TermStep, bound_to, is_bound, quiet, replied, paint_came, note_came, read_came, once_bound, took, erases_if, outcome_of, data_of}
 use Rattle.std.specs.Prelude.{is_some}
@@ -121,19 +121,19 @@ paint_stands painted number wanted believed bytes body whole begins encoded fit 
 
 -- ---- an end, but for its history
 
-record IsSide (talk : Term) (station : Station) (end : TermEnd) : Type 0 where
-  talk_is : talk ≡ end.talk
-  screen_is : station.screen ≡ sized end.display
-  keyboard_is : station.keyboard ≡ end.display.keyboard
+pub record IsSide (talk : Term) (station : Station) (end : TermEnd) : Type 0 where
+  pub talk_is : talk ≡ end.talk
+  pub screen_is : station.screen ≡ sized end.display
+  pub keyboard_is : station.keyboard ≡ end.display.keyboard
 
-record SameItem (after : Term) (new : Station) (says : List WireItem) (closes : Option Cause) (marks : Bool) (step : TermStep) : Type 0 where
-  is_end : IsSide after new step.end
-  said : Pairwise RepresentsUp says step.sends
-  fit : AllByRecursion (CanCome record_limit) says
-  closed : closes ≡ step.closes
-  wrote : new.took_write ≡ marks
+pub record SameItem (after : Term) (new : Station) (says : List WireItem) (closes : Option Cause) (marks : Bool) (step : TermStep) : Type 0 where
+  pub is_end : IsSide after new step.end
+  pub said : Pairwise RepresentsUp says step.sends
+  pub fit : AllByRecursion (CanCome record_limit) says
+  pub closed : closes ≡ step.closes
+  pub wrote : new.took_write ≡ marks
 
-side_of : (bytes : ByteEnd) (end : TermEnd) → IsEnd bytes end → IsSide bytes.talk (before_byte bytes.station) end
+pub side_of : (bytes : ByteEnd) (end : TermEnd) → IsEnd bytes end → IsSide bytes.talk (before_byte bytes.station) end
 side_of bytes end is = record { talk_is = is.talk_is; screen_is = is.screen_is; keyboard_is = is.keyboard_is }
 
 -- ---- the talk
@@ -176,7 +176,7 @@ replied_same end talk next old new answer p sent closes is unmarked model wanted
 }
 
 -- a negotiation or a subnegotiation is for the talk, however far it is
-saying_talks : (state : TermState) (saying : NegotiationMessage) (talk next : Term) (old new : Station) (sent : List WireItem) (closes : Option Cause)
+pub saying_talks : (state : TermState) (saying : NegotiationMessage) (talk next : Term) (old new : Station) (sent : List WireItem) (closes : Option Cause)
     → TakesItemIn state talk old (item_of saying) sent closes next new → TalksOn talk old (item_of saying) sent closes next new
 saying_talks at.Waiting saying talk next old new sent closes taken = taken
 saying_talks at.Willing saying talk next old new sent closes taken = taken
@@ -202,15 +202,15 @@ takes_talk saying talk next old new end sent closes h wish is unmarked taken =
 
 -- ---- records
 
--- what says nothing to the talk leaves it as it is
-dropped : (talk next : Term) (old new : Station) (item : WireItem) (end : TermEnd) (sent : List WireItem) (closes : Option Cause)
-    → IsSide talk old end → old.took_write ≡ false → ((comes : Comes) → Hears item comes → comes ≡ NoTalk)
-    → term_transition talk.model talk.wanted talk.talk.state NoTalk ≡ Stays reply.Nothing → TalksOn talk old item sent closes next new
+-- what the talk answers by nothing, and that doesn't change it, leaves it as it is
+pub unanswered : (what : Comes) (talk next : Term) (old new : Station) (item : WireItem) (end : TermEnd) (sent : List WireItem) (closes : Option Cause)
+    → IsSide talk old end → old.took_write ≡ false → ((comes : Comes) → Hears item comes → comes ≡ what)
+    → term_transition talk.model talk.wanted talk.talk.state what ≡ Stays reply.Nothing → TalksOn talk old item sent closes next new
     → SameItem next new sent closes false (quiet end)
-dropped talk next old new item end sent closes is unmarked no_talk stays talks =
+unanswered what talk next old new item end sent closes is unmarked is_it stays talks =
     let gives : (next.talk, talks.0.reply) ≡ (talk.talk, reply.Nothing) =
     talks.0.takes.gives
-    ∙ ap (λ comes. follow at.Closed talk.talk (term_transition talk.model talk.wanted talk.talk.state comes)) (no_talk talks.0.takes.comes talks.0.takes.hears)
+    ∙ ap (λ comes. follow at.Closed talk.talk (term_transition talk.model talk.wanted talk.talk.state comes)) (is_it talks.0.takes.comes talks.0.takes.hears)
     ∙ ap (λ (transition : Transition TermState). follow at.Closed talk.talk transition) stays in
     let answer : talks.0.reply ≡ reply.Nothing = ap (λ (q : Talk TermState × Reply). q.1) gives in
     record {
@@ -224,6 +224,13 @@ dropped talk next old new item end sent closes is unmarked no_talk stays talks =
       closed = talks.0.ends ∙ ap closing answer;
       wrote = ap (λ (s : Station). s.took_write) talks.1 ∙ unmarked;
     }
+
+-- what says nothing to the talk leaves it as it is
+dropped : (talk next : Term) (old new : Station) (item : WireItem) (end : TermEnd) (sent : List WireItem) (closes : Option Cause)
+    → IsSide talk old end → old.took_write ≡ false → ((comes : Comes) → Hears item comes → comes ≡ NoTalk)
+    → term_transition talk.model talk.wanted talk.talk.state NoTalk ≡ Stays reply.Nothing → TalksOn talk old item sent closes next new
+    → SameItem next new sent closes false (quiet end)
+dropped talk next old new item end sent closes is unmarked no_talk stays talks = unanswered NoTalk talk next old new item end sent closes is unmarked no_talk stays talks
 
 -- before it is bound a terminal drops a record
 -- `marks`: whether the record marks a write where the terminal is bound
@@ -512,7 +519,7 @@ nop_talks (at.Refused reason) talk next old new sent closes taken = taken
 nop_talks (at.Closed cause) talk next old new sent closes taken = taken
 
 -- and says nothing to it
-no_talk_stays : (model : Model) (wanted : Option (List ℕ)) (state : TermState) → IsOpen state → term_transition model wanted state NoTalk ≡ Stays reply.Nothing
+pub no_talk_stays : (model : Model) (wanted : Option (List ℕ)) (state : TermState) → IsOpen state → term_transition model wanted state NoTalk ≡ Stays reply.Nothing
 no_talk_stays model wanted at.Waiting is_open = refl
 no_talk_stays model wanted at.Willing is_open = refl
 no_talk_stays model wanted at.TypeAsked is_open = refl
@@ -521,13 +528,10 @@ no_talk_stays model wanted (at.Agreed lu) is_open = refl
 no_talk_stays model wanted (at.Refused reason) is_open = refl
 no_talk_stays model wanted (at.Closed cause) is_open = absurd is_open
 
-pub nop_has_no_effect : NopHasNoEffect
-nop_has_no_effect old end step is_open is taken =
-    let state : old.talk.talk.state ≡ end.talk.talk.state = ap (λ (t : Term). t.talk.state) is.talk_is in
-    let talks = nop_talks old.talk.talk.state old.talk step.end.talk (before_byte old.station) step.end.station step.says step.closes taken.takes in
-    let same =
-    dropped old.talk step.end.talk (before_byte old.station) step.end.station no_operation end step.says step.closes (side_of old end is) refl (λ comes heard. heard)
-    (no_talk_stays old.talk.model old.talk.wanted old.talk.talk.state (subst IsOpen (sym state) is_open)) talks in
+-- a terminal that makes nothing of an item isn't moved by it
+pub unmoved_by : (item : WireItem) (old : ByteEnd) (end : TermEnd) (step : ByteStep) → IsEnd old end → EndTakes old item step
+    → SameItem step.end.talk step.end.station step.says step.closes false (quiet end) → IsUnmoved end step
+unmoved_by item old end step is taken same =
     let history : step.end.history ≡ old.history = taken.history ∙ ap (λ (w : Bool). restored_by w old.station.screen.screen step.end.station.screen.screen old.history) same.wrote in
     record {
       same = record {
@@ -545,6 +549,14 @@ nop_has_no_effect old end step is_open is taken =
       };
       unmarked = same.wrote;
     }
+
+pub nop_has_no_effect : NopHasNoEffect
+nop_has_no_effect old end step is_open is taken =
+    let state : old.talk.talk.state ≡ end.talk.talk.state = ap (λ (t : Term). t.talk.state) is.talk_is in
+    let talks = nop_talks old.talk.talk.state old.talk step.end.talk (before_byte old.station) step.end.station step.says step.closes taken.takes in
+    unmoved_by no_operation old end step is taken
+    (dropped old.talk step.end.talk (before_byte old.station) step.end.station no_operation end step.says step.closes (side_of old end is) refl (λ comes heard. heard)
+    (no_talk_stays old.talk.model old.talk.wanted old.talk.talk.state (subst IsOpen (sym state) is_open)) talks)
 
 pub nop_is : (item : WireItem) → is_nop item ≡ true → item ≡ no_operation
 nop_is (WireItem.Other code) e = ap (λ (n : ℕ). WireItem.Other n) (eqb-true code 241 e)
@@ -631,20 +643,6 @@ all_spoken (item ∷ items) (message ∷ messages) pairs =
     ap (λ (b : Bool). cond (not b) (item ∷ without_nops items) (without_nops items)) (is_spoken item message pairs.0)
     ∙ ap (λ (l : List WireItem). item ∷ l) (all_spoken items messages pairs.1)
 
--- one to the host is no bare command
-is_heard : (item : WireItem) (message : ToHost) → RepresentsUp item message → is_bare_command item ≡ false
-is_heard item (ToHost.TalksUp (NegotiationMessage.Opt verb code)) stands = ap is_bare_command stands
-is_heard item (ToHost.TalksUp (NegotiationMessage.Sub sending)) stands = ap is_bare_command stands
-is_heard item (ToHost.Data parts) stands = ap is_bare_command stands.2
-is_heard item (ToHost.Response number verdict) stands = ap is_bare_command stands.1
-
-pub all_heard : (items : List WireItem) (messages : List ToHost) → Pairwise RepresentsUp items messages → without_commands items ≡ items
-all_heard [] messages pairs = refl
-all_heard (item ∷ items) [] pairs = absurd pairs
-all_heard (item ∷ items) (message ∷ messages) pairs =
-    ap (λ (b : Bool). cond (not b) (item ∷ without_commands items) (without_commands items)) (is_heard item message pairs.0)
-    ∙ ap (λ (l : List WireItem). item ∷ l) (all_heard items messages pairs.1)
-
 -- of two lists, one behind the other
 abbrev pub IsPiecewise : (List WireItem → List WireItem) → Type 0
 IsPiecewise spoken = (front back : List WireItem) → spoken (front ++ back) ≡ spoken front ++ spoken back
@@ -655,8 +653,8 @@ all_piecewise front back = refl
 pub nops_piecewise : IsPiecewise without_nops
 nops_piecewise front back = filter-append (λ (item : WireItem). not (is_nop item)) front back
 
-pub commands_piecewise : IsPiecewise without_commands
-commands_piecewise front back = filter-append (λ (item : WireItem). not (is_bare_command item)) front back
+pub without_piecewise : (ignored : WireItem → Bool) → IsPiecewise (without ignored)
+without_piecewise ignored front back = filter-append (λ (item : WireItem). not (ignored item)) front back
 
 -- ---- queues
 

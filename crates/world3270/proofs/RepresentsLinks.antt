@@ -24,9 +24,9 @@ use Rattle.world3270.specs.statement.Always.{is_refusal}
 use Rattle.world3270.specs.model.Link.{Link, sent, term_left_if, term_stepped}
 use Rattle.world3270.specs.model.TrackedTerminals.{History, TrackedTerminal, marked, TrackedTakesByte, TrackedTakes, HistoryFollows, tracked_after_key, ByteStep, end_at, EndTakes}
 use Rattle.world3270.specs.refinement.Representation.{with_out}
-use Rattle.world3270.specs.refinement.Represents.{RepresentsDown, RepresentsUp, BytesUp, BytesDown, ByteLink, IsEnd, Holds, BytesRepresent, HostRepresents, TermRepresents, LinkRepresents, LinkRepresentsBy, all_items, is_nop, without_nops}
-use Rattle.world3270.specs.refinement.RepresentsEnds.{IsOpen, TakesKeepSendable, TermTakes, is_painted, NopHasNoEffect, WritesAreMarked, TermPresses}
-use Rattle.world3270.specs.refinement.RepresentsLinks.{RepresentsCompose, RepresentsGoOn, PressRepresents, MayComeAll, NoneCloses, took_down, fed, DownRepresents, DownIsNotRefused, any_painted, BytesAreMarked, HostSendsBy, NopRepresentsBy, UpRepresentsBy, LossRepresents, HostLeaves, TermLeaves}
+use Rattle.world3270.specs.refinement.Represents.{RepresentsDown, RepresentsUp, BytesUp, BytesDown, BytesDownBy, ByteLink, IsEnd, Holds, BytesRepresent, HostRepresents, TermRepresents, TermRepresentsBy, LinkRepresents, LinkRepresentsBy, all_items, is_nop, without, without_nops}
+use Rattle.world3270.specs.refinement.RepresentsEnds.{IsOpen, TakesKeepSendable, TermTakes, is_painted, HaveNoEffect, NopHasNoEffect, WritesAreMarked, TermPresses}
+use Rattle.world3270.specs.refinement.RepresentsLinks.{RepresentsCompose, RepresentsGoOn, PressRepresents, MayComeAll, NoneCloses, took_down, fed, DownRepresents, DownIsNotRefused, any_painted, BytesAreMarked, HostSendsBy, ItemsAreSentBy, NopRepresentsBy, UpRepresentsBy, LossRepresents, HostLeaves, TermLeaves}
 use Rattle.world3270.specs.model.Terminal.{TermEnd, TermStep, is_bound, note_came, once_bound, paint_came, read_came, took, key_came}
 use Rattle.world3270.proofs.Represents.{all_spoken, nop_is, pairs_more}
 
@@ -49,7 +49,7 @@ said_goes_up compose true rest bytes out messages more items stands is fit said 
 said_goes_up compose false rest bytes out messages more items stands is fit said =
     subst (λ (b : List ℕ). BytesUp rest (bytes ++ b) (messages ++ more)) (sym is) (compose rest bytes messages more items stands fit said)
 
-sent_nothing : {X : Type 0} (lost : Bool) (queue : List X) → queue ≡ sent lost queue []
+pub sent_nothing : {X : Type 0} (lost : Bool) (queue : List X) → queue ≡ sent lost queue []
 sent_nothing true queue = refl
 sent_nothing false queue = sym (append-nil queue)
 
@@ -89,14 +89,14 @@ press_stands presses compose key bytes link terminal stands here sendable =
 -- ---- what comes down
 
 -- the connection once messages came down, and what the terminal said to them
-pub record Ran (link now : Link) (old new : TrackedTerminal) (behind : List ℕ) : Type 0 where
+pub record Ran (ignored : WireItem → Bool) (link now : Link) (old new : TrackedTerminal) (behind : List ℕ) : Type 0 where
   pub lost : now.lost ≡ link.lost
   pub host_here : now.host_here ≡ link.host_here
   pub host : now.host ≡ link.host
   pub term_here : now.term_here ≡ link.term_here
   pub rest : Rest
   pub holds : Holds rest new now.term
-  pub down : BytesDown rest behind now.down
+  pub down : BytesDownBy ignored rest behind now.down
   pub says : List WireItem
   pub out : new.terminal.out ≡ old.terminal.out ++ sent_bytes says
   pub sends : List ToHost
@@ -107,11 +107,11 @@ pub record Ran (link now : Link) (old new : TrackedTerminal) (behind : List ℕ)
   pub can : CanBeSent now.term.display.size now.term.display.screen
 
 -- the first of the messages came down
-pub record CameSome (link : Link) (old new : TrackedTerminal) (behind : List ℕ) : Type 0 where
+pub record CameSome (ignored : WireItem → Bool) (link : Link) (old new : TrackedTerminal) (behind : List ℕ) : Type 0 where
   pub taken : List ToTerminal
   pub others : List ToTerminal
   pub whole : link.down ≡ taken ++ others
-  pub ran : Ran link (took_down taken others link) old new behind
+  pub ran : Ran ignored link (took_down taken others link) old new behind
 
 all_more : {X : Type 0} (P : X → Type 0) (xs ys : List X) → AllByRecursion P xs → AllByRecursion P ys → AllByRecursion P (xs ++ ys)
 all_more P [] ys h k = k
@@ -150,8 +150,8 @@ stepped_stays : (step : TermStep) (rest others : List ToTerminal) (link : Link) 
 stepped_stays step rest others link goes_on same =
     ap (λ (c : Option Cause). term_left_if c (stayed step rest link)) goes_on ∙ ap (λ (m : List ToTerminal). stayed step m link) (sym same)
 
-ran_nothing : (link : Link) (old new : TrackedTerminal) (behind : List ℕ) (rest : Rest) → Holds rest old link.term → BytesDown rest behind link.down
-    → CanBeSent link.term.display.size link.term.display.screen → new ≡ old → Ran link link old new behind
+ran_nothing : {ignored : WireItem → Bool} (link : Link) (old new : TrackedTerminal) (behind : List ℕ) (rest : Rest) → Holds rest old link.term → BytesDownBy ignored rest behind link.down
+    → CanBeSent link.term.display.size link.term.display.screen → new ≡ old → Ran ignored link link old new behind
 ran_nothing link old new behind rest holds down can same = record {
   lost = refl;
   host_here = refl;
@@ -171,7 +171,7 @@ ran_nothing link old new behind rest holds down can same = record {
 }
 
 -- a byte before that completes nothing
-ran_since : (link now : Link) (old mid new : TrackedTerminal) (behind : List ℕ) → mid.terminal.out ≡ old.terminal.out → Ran link now mid new behind → Ran link now old new behind
+ran_since : {ignored : WireItem → Bool} (link now : Link) (old mid new : TrackedTerminal) (behind : List ℕ) → mid.terminal.out ≡ old.terminal.out → Ran ignored link now mid new behind → Ran ignored link now old new behind
 ran_since link now old mid new behind out ran = record {
   lost = ran.lost;
   host_here = ran.host_here;
@@ -191,9 +191,9 @@ ran_since link now old mid new behind out ran = record {
 }
 
 -- an item before, to which it says some
-one_more : (link now : Link) (step : TermStep) (rest : List ToTerminal) (old mid new : TrackedTerminal) (behind : List ℕ) (some : List WireItem)
+one_more : {ignored : WireItem → Bool} (link now : Link) (step : TermStep) (rest : List ToTerminal) (old mid new : TrackedTerminal) (behind : List ℕ) (some : List WireItem)
     → Pairwise RepresentsUp some step.sends → AllByRecursion (CanCome record_limit) some → list_any is_refusal step.sends ≡ false
-    → mid.terminal.out ≡ old.terminal.out ++ sent_bytes some → Ran (stayed step rest link) now mid new behind → Ran link now old new behind
+    → mid.terminal.out ≡ old.terminal.out ++ sent_bytes some → Ran ignored (stayed step rest link) now mid new behind → Ran ignored link now old new behind
 one_more link now step rest old mid new behind some said fit none out ran = record {
   lost = ran.lost;
   host_here = ran.host_here;
@@ -214,15 +214,15 @@ one_more link now step rest old mid new behind some said fit none out ran = reco
 }
 
 -- and the messages behind it
-came_more : (message : ToTerminal) (others : List ToTerminal) (link : Link) (old mid new : TrackedTerminal) (behind : List ℕ) (some : List WireItem)
+came_more : {ignored : WireItem → Bool} (message : ToTerminal) (others : List ToTerminal) (link : Link) (old mid new : TrackedTerminal) (behind : List ℕ) (some : List WireItem)
     → link.down ≡ message ∷ others → (took link.term message).closes ≡ None → Pairwise RepresentsUp some (took link.term message).sends
     → AllByRecursion (CanCome record_limit) some → mid.terminal.out ≡ old.terminal.out ++ sent_bytes some
-    → CameSome (stayed (took link.term message) others link) mid new behind → CameSome link old new behind
-came_more message others link old mid new behind some whole goes_on said fit out came = record {
+    → CameSome ignored (stayed (took link.term message) others link) mid new behind → CameSome ignored link old new behind
+came_more {ignored} message others link old mid new behind some whole goes_on said fit out came = record {
   taken = message ∷ came.taken;
   others = came.others;
   whole = whole ∙ ap (λ (m : List ToTerminal). message ∷ m) came.whole;
-  ran = subst (λ (l : Link). Ran link (took_down came.taken came.others l) old new behind)
+  ran = subst (λ (l : Link). Ran ignored link (took_down came.taken came.others l) old new behind)
       (sym (stepped_stays (took link.term message) (came.taken ++ came.others) others link goes_on came.whole))
       (one_more link (took_down came.taken came.others (stayed (took link.term message) others link)) (took link.term message) others old mid new behind some said fit (none_refused link.term message) out came.ran);
 }
@@ -249,26 +249,29 @@ open_now : (end : TermEnd) (messages : List ToTerminal) → MayComeAll end messa
 open_now end [] may = may
 open_now end (message ∷ messages) may = may.0
 
--- what is to be shown of some bytes, wherever they are taken
-abbrev Comes : List ℕ → List ℕ → TrackedTerminal → Type 0
-Comes front behind new = (old : TrackedTerminal) (rest : Rest) (link : Link)
-    → Holds rest old link.term → BytesDown rest (front ++ behind) link.down → MayComeAll link.term link.down → NoneCloses link.term link.down
-    → CanBeSent link.term.display.size link.term.display.screen → TrackedTakes old front new → CameSome link old new behind
+pub nops_have_none : NopHasNoEffect → HaveNoEffect is_nop
+nops_have_none nop item old end step is_it is_open is taken = nop old end step is_open is (subst (λ (i : WireItem). EndTakes old i step) (nop_is item is_it) taken)
 
-module _ (takes : TermTakes) (keeps : TakesKeepSendable) (nop : NopHasNoEffect) (goes_on : RepresentsGoOn without_nops RepresentsDown) (final : WrongIsFinal) where
-  -- NOP: the messages under way stay
-  nop_comes : (item : WireItem) (others : List ToTerminal) (link : Link) (talk after : Term) (old mid new : TrackedTerminal) (to : Rest) (front behind : List ℕ) (says : List WireItem) (closes : Option Cause)
-      → Comes front behind new → is_nop item ≡ true → link.down ≡ others → BytesDown to (front ++ behind) others
+-- what is to be shown of some bytes, wherever they are taken
+abbrev Comes : (WireItem → Bool) → List ℕ → List ℕ → TrackedTerminal → Type 0
+Comes ignored front behind new = (old : TrackedTerminal) (rest : Rest) (link : Link)
+    → Holds rest old link.term → BytesDownBy ignored rest (front ++ behind) link.down → MayComeAll link.term link.down → NoneCloses link.term link.down
+    → CanBeSent link.term.display.size link.term.display.screen → TrackedTakes old front new → CameSome ignored link old new behind
+
+module _ (takes : TermTakes) (keeps : TakesKeepSendable) {ignored : WireItem → Bool} (no_effect : HaveNoEffect ignored) (goes_on : RepresentsGoOn (without ignored) RepresentsDown) (final : WrongIsFinal) where
+  -- an item that it ignores: the messages under way stay
+  ignored_comes : (item : WireItem) (others : List ToTerminal) (link : Link) (talk after : Term) (old mid new : TrackedTerminal) (to : Rest) (front behind : List ℕ) (says : List WireItem) (closes : Option Cause)
+      → Comes ignored front behind new → ignored item ≡ true → link.down ≡ others → BytesDownBy ignored to (front ++ behind) others
       → MayComeAll link.term link.down → NoneCloses link.term link.down → CanBeSent link.term.display.size link.term.display.screen → IsEnd (end_at talk old) link.term
       → EndTakes (end_at talk old) item (record { end = end_at after mid; says = says; closes = closes })
-      → mid.terminal.link ≡ link_after to after closes → mid.terminal.out ≡ old.terminal.out ++ sent_bytes says → TrackedTakes mid front new → CameSome link old new behind
-  nop_comes item others link talk after old mid new to front behind says closes comes is_it whole down may none can is taken at out more =
+      → mid.terminal.link ≡ link_after to after closes → mid.terminal.out ≡ old.terminal.out ++ sent_bytes says → TrackedTakes mid front new → CameSome ignored link old new behind
+  ignored_comes item others link talk after old mid new to front behind says closes comes is_it whole down may none can is taken at out more =
       let step : ByteStep = record { end = end_at after mid; says = says; closes = closes } in
-      let unmoved = nop (end_at talk old) link.term step (open_now link.term link.down may) is (subst (λ (i : WireItem). EndTakes (end_at talk old) i step) (nop_is item is_it) taken) in
+      let unmoved = no_effect item (end_at talk old) link.term step is_it (open_now link.term link.down may) is taken in
       let same_out : mid.terminal.out ≡ old.terminal.out =
       out ∙ ap (λ (s : List WireItem). old.terminal.out ++ sent_bytes s) (no_items RepresentsUp says unmoved.same.said) ∙ append-nil old.terminal.out in
       let came = comes mid to link (record { talk = after; attached = at ∙ ap (link_after to after) unmoved.same.closed; is_end = unmoved.same.is_end })
-      (subst (λ (m : List ToTerminal). BytesDown to (front ++ behind) m) (sym whole) down) may none can more in
+      (subst (λ (m : List ToTerminal). BytesDownBy ignored to (front ++ behind) m) (sym whole) down) may none can more in
       record {
         taken = came.taken;
         others = came.others;
@@ -276,14 +279,14 @@ module _ (takes : TermTakes) (keeps : TakesKeepSendable) (nop : NopHasNoEffect) 
         ran = ran_since link (took_down came.taken came.others link) old mid new behind same_out came.ran;
       }
 
-  -- an item that stands for the first message, or NOP
-  item_comes : (nops : Bool) (item : WireItem) (taken others : List ToTerminal) (link : Link) (talk after : Term) (old mid new : TrackedTerminal) (to : Rest) (front behind : List ℕ) (says : List WireItem) (closes : Option Cause)
-      → Comes front behind new → is_nop item ≡ nops → link.down ≡ taken ++ others → Pairwise RepresentsDown (cond (not nops) (item ∷ []) []) taken → BytesDown to (front ++ behind) others
+  -- an item that stands for the first message, or that it ignores
+  item_comes : (ignores : Bool) (item : WireItem) (taken others : List ToTerminal) (link : Link) (talk after : Term) (old mid new : TrackedTerminal) (to : Rest) (front behind : List ℕ) (says : List WireItem) (closes : Option Cause)
+      → Comes ignored front behind new → ignored item ≡ ignores → link.down ≡ taken ++ others → Pairwise RepresentsDown (cond (not ignores) (item ∷ []) []) taken → BytesDownBy ignored to (front ++ behind) others
       → MayComeAll link.term link.down → NoneCloses link.term link.down → CanBeSent link.term.display.size link.term.display.screen → IsEnd (end_at talk old) link.term
       → EndTakes (end_at talk old) item (record { end = end_at after mid; says = says; closes = closes })
-      → mid.terminal.link ≡ link_after to after closes → mid.terminal.out ≡ old.terminal.out ++ sent_bytes says → TrackedTakes mid front new → CameSome link old new behind
+      → mid.terminal.link ≡ link_after to after closes → mid.terminal.out ≡ old.terminal.out ++ sent_bytes says → TrackedTakes mid front new → CameSome ignored link old new behind
   item_comes true item [] others link talk after old mid new to front behind says closes comes is_it whole each down may none can is taken at out more =
-      nop_comes item others link talk after old mid new to front behind says closes comes is_it whole down may none can is taken at out more
+      ignored_comes item others link talk after old mid new to front behind says closes comes is_it whole down may none can is taken at out more
   item_comes true item (message ∷ rest) others link talk after old mid new to front behind says closes comes is_it whole each down may none can is taken at out more = absurd each
   item_comes false item [] others link talk after old mid new to front behind says closes comes is_it whole each down may none can is taken at out more = absurd each
   item_comes false item (message ∷ []) others link talk after old mid new to front behind says closes comes is_it whole each down may none can is taken at out more =
@@ -308,9 +311,9 @@ module _ (takes : TermTakes) (keeps : TakesKeepSendable) (nop : NopHasNoEffect) 
   }
 
   byte_comes : (byte : ℕ) (front behind : List ℕ) (old mid new : TrackedTerminal) (rest : Rest) (link : Link)
-      → Comes front behind new → Holds rest old link.term → BytesDown rest (byte ∷ (front ++ behind)) link.down → MayComeAll link.term link.down → NoneCloses link.term link.down
+      → Comes ignored front behind new → Holds rest old link.term → BytesDownBy ignored rest (byte ∷ (front ++ behind)) link.down → MayComeAll link.term link.down → NoneCloses link.term link.down
       → CanBeSent link.term.display.size link.term.display.screen → mid.history ≡ marked old.terminal.station mid.terminal.station old.history → TakesByte old.terminal byte mid.terminal → TrackedTakes mid front new
-      → CameSome link old new behind
+      → CameSome ignored link old new behind
   byte_comes byte front behind old mid new rest link comes holds down may none can history (TakesByte.goes_on rest' to talk' at' delivers is_mid) more =
       let is = holds.is_end in
       let parts = link_parts rest rest' holds.talk talk' (sym holds.attached ∙ at') in
@@ -330,7 +333,7 @@ module _ (takes : TermTakes) (keeps : TakesKeepSendable) (nop : NopHasNoEffect) 
           erased_is = ap (λ (h : History). h.erased) stays ∙ is.erased_is;
         };
       })
-      (subst (λ (m : List ToTerminal). BytesDown to (front ++ behind) m) (sym same) some.stands) may none can more in
+      (subst (λ (m : List ToTerminal). BytesDownBy ignored to (front ++ behind) m) (sym same) some.stands) may none can more in
       record {
         taken = came.taken;
         others = came.others;
@@ -340,14 +343,14 @@ module _ (takes : TermTakes) (keeps : TakesKeepSendable) (nop : NopHasNoEffect) 
   byte_comes byte front behind old mid new rest link comes holds down may none can history (TakesByte.completes rest' to talk' after item says closes station at' delivers item_taken is_mid) more =
       let parts = link_parts rest rest' holds.talk talk' (sym holds.attached ∙ at') in
       let some = goes_on rest to (byte ∷ []) (front ++ behind) (item ∷ []) link.down down (subst (λ (r : Rest). Delivers record_limit r (byte ∷ []) (item ∷ []) to) (sym parts.0) delivers) in
-      item_comes (is_nop item) item some.taken some.others link holds.talk after old mid new to front behind says closes comes refl some.whole some.each some.stands may none can holds.is_end
+      item_comes (ignored item) item some.taken some.others link holds.talk after old mid new to front behind says closes comes refl some.whole some.each some.stands may none can holds.is_end
       (end_takes item holds.talk talk' after old mid says closes station (sym parts.1) (ap (λ (t : Terminal). t.station) (sym is_mid)) item_taken history)
       (ap (λ (t : Terminal). t.link) is_mid) (ap (λ (t : Terminal). t.out) is_mid) more
   byte_comes byte front behind old mid new rest link comes holds down may none can history (TakesByte.breaks rest' talk' fault at' wrong is_mid) more =
       let parts = link_parts rest rest' holds.talk talk' (sym holds.attached ∙ at') in
       absurd (not_wrong final rest byte (front ++ behind) fault link.down down (subst (λ (r : Rest). GoesWrong record_limit r (byte ∷ []) fault) (sym parts.0) wrong))
 
-  bytes_come : (front behind : List ℕ) (new : TrackedTerminal) → Comes front behind new
+  bytes_come : (front behind : List ℕ) (new : TrackedTerminal) → Comes ignored front behind new
   bytes_come [] behind new old rest link holds down may none can taken =
       record { taken = []; others = link.down; whole = refl; ran = ran_nothing link old new behind rest holds down can taken }
   bytes_come (byte ∷ front) behind new old rest link holds down may none can taken =
@@ -359,17 +362,17 @@ module _ (takes : TermTakes) (keeps : TakesKeepSendable) (nop : NopHasNoEffect) 
   or_false true = refl
   or_false false = refl
 
-  item_marks : WritesAreMarked → (nops : Bool) (item : WireItem) (taken others : List ToTerminal) (link : Link) (talk after : Term) (old mid : TrackedTerminal) (to : Rest) (behind : List ℕ) (says : List WireItem) (closes : Option Cause)
-      (is_it : is_nop item ≡ nops) (whole : link.down ≡ taken ++ others) (each : Pairwise RepresentsDown (cond (not nops) (item ∷ []) []) taken) (down : BytesDown to behind others)
+  item_marks : WritesAreMarked → (ignores : Bool) (item : WireItem) (taken others : List ToTerminal) (link : Link) (talk after : Term) (old mid : TrackedTerminal) (to : Rest) (behind : List ℕ) (says : List WireItem) (closes : Option Cause)
+      (is_it : ignored item ≡ ignores) (whole : link.down ≡ taken ++ others) (each : Pairwise RepresentsDown (cond (not ignores) (item ∷ []) []) taken) (down : BytesDownBy ignored to behind others)
       (may : MayComeAll link.term link.down) (none : NoneCloses link.term link.down) (can : CanBeSent link.term.display.size link.term.display.screen) (is : IsEnd (end_at talk old) link.term)
       (takes_it : EndTakes (end_at talk old) item (record { end = end_at after mid; says = says; closes = closes }))
       (at : mid.terminal.link ≡ link_after to after closes) (out : mid.terminal.out ≡ old.terminal.out ++ sent_bytes says)
       → mid.terminal.station.took_write
-      ≡ any_painted link.term (item_comes nops item taken others link talk after old mid mid to [] behind says closes (bytes_come [] behind mid) is_it whole each down may none can is takes_it at out refl).taken
-  unfolding item_comes nop_comes came_more bytes_come
+      ≡ any_painted link.term (item_comes ignores item taken others link talk after old mid mid to [] behind says closes (bytes_come [] behind mid) is_it whole each down may none can is takes_it at out refl).taken
+  unfolding item_comes ignored_comes came_more bytes_come
   item_marks marks true item [] others link talk after old mid to behind says closes is_it whole each down may none can is takes_it at out =
       let step : ByteStep = record { end = end_at after mid; says = says; closes = closes } in
-      (nop (end_at talk old) link.term step (open_now link.term link.down may) is (subst (λ (i : WireItem). EndTakes (end_at talk old) i step) (nop_is item is_it) takes_it)).unmarked
+      (no_effect item (end_at talk old) link.term step is_it (open_now link.term link.down may) is takes_it).unmarked
   item_marks marks true item (message ∷ rest) others link talk after old mid to behind says closes is_it whole each down may none can is takes_it at out = absurd each
   item_marks marks false item [] others link talk after old mid to behind says closes is_it whole each down may none can is takes_it at out = absurd each
   item_marks marks false item (message ∷ []) others link talk after old mid to behind says closes is_it whole each down may none can is takes_it at out =
@@ -379,7 +382,7 @@ module _ (takes : TermTakes) (keeps : TakesKeepSendable) (nop : NopHasNoEffect) 
   item_marks marks false item (message ∷ other ∷ more) others link talk after old mid to behind says closes is_it whole each down may none can is takes_it at out = absurd each.1
 
   byte_marks : WritesAreMarked → (byte : ℕ) (behind : List ℕ) (old new : TrackedTerminal) (rest : Rest) (link : Link)
-      (holds : Holds rest old link.term) (down : BytesDown rest (byte ∷ behind) link.down) (may : MayComeAll link.term link.down) (none : NoneCloses link.term link.down)
+      (holds : Holds rest old link.term) (down : BytesDownBy ignored rest (byte ∷ behind) link.down) (may : MayComeAll link.term link.down) (none : NoneCloses link.term link.down)
       (can : CanBeSent link.term.display.size link.term.display.screen) (history : new.history ≡ marked old.terminal.station new.terminal.station old.history) (taken : TakesByte old.terminal byte new.terminal)
       → new.terminal.station.took_write ≡ any_painted link.term (byte_comes byte [] behind old new new rest link (bytes_come [] behind new) holds down may none can history taken refl).taken
   unfolding byte_comes bytes_come
@@ -388,7 +391,7 @@ module _ (takes : TermTakes) (keeps : TakesKeepSendable) (nop : NopHasNoEffect) 
   byte_marks marks byte behind old new rest link holds down may none can history (TakesByte.completes rest' to talk' after item says closes station at' delivers item_taken is_mid) =
       let parts = link_parts rest rest' holds.talk talk' (sym holds.attached ∙ at') in
       let some = goes_on rest to (byte ∷ []) behind (item ∷ []) link.down down (subst (λ (r : Rest). Delivers record_limit r (byte ∷ []) (item ∷ []) to) (sym parts.0) delivers) in
-      item_marks marks (is_nop item) item some.taken some.others link holds.talk after old new to behind says closes refl some.whole some.each some.stands may none can holds.is_end
+      item_marks marks (ignored item) item some.taken some.others link holds.talk after old new to behind says closes refl some.whole some.each some.stands may none can holds.is_end
       (end_takes item holds.talk talk' after old new says closes station (sym parts.1) (ap (λ (t : Terminal). t.station) (sym is_mid)) item_taken history)
       (ap (λ (t : Terminal). t.link) is_mid) (ap (λ (t : Terminal). t.out) is_mid)
   byte_marks marks byte behind old new rest link holds down may none can history (TakesByte.breaks rest' talk' fault at' wrong is_mid) =
@@ -396,10 +399,10 @@ module _ (takes : TermTakes) (keeps : TakesKeepSendable) (nop : NopHasNoEffect) 
       absurd (not_wrong final rest byte behind fault link.down down (subst (λ (r : Rest). GoesWrong record_limit r (byte ∷ []) fault) (sym parts.0) wrong))
 
 -- what both ends have once the terminal took what came, and said this
-pub ran_stands : {heard : List WireItem → List WireItem} {Up : WireItem → ToHost → Type 0} (bytes : ByteLink) (link now : Link) (behind said : List ℕ) (new : TrackedTerminal) (stands : LinkRepresentsBy heard Up bytes link)
-    (ran : Ran link now bytes.tracked new behind) → BytesRepresent heard Up stands.read (sent link.lost bytes.up said) (sent link.lost link.up ran.sends)
-    → LinkRepresentsBy heard Up (fed (with_out said new) behind bytes) now
-ran_stands {heard} {Up} bytes link now behind said new stands ran queue = record {
+pub ran_stands : {heard : List WireItem → List WireItem} {Up : WireItem → ToHost → Type 0} {ignored : WireItem → Bool} (bytes : ByteLink) (link now : Link) (behind said : List ℕ) (new : TrackedTerminal) (stands : LinkRepresentsBy heard Up ignored bytes link)
+    (ran : Ran ignored link now bytes.tracked new behind) → BytesRepresent heard Up stands.read (sent link.lost bytes.up said) (sent link.lost link.up ran.sends)
+    → LinkRepresentsBy heard Up ignored (fed (with_out said new) behind bytes) now
+ran_stands {heard} {Up} {ignored} bytes link now behind said new stands ran queue = record {
   lost = stands.lost ∙ sym ran.lost;
   host_here = stands.host_here ∙ sym ran.host_here;
   term_here = stands.term_here ∙ sym ran.term_here;
@@ -412,7 +415,7 @@ ran_stands {heard} {Up} bytes link now behind said new stands ran queue = record
 
 -- as our terminal says it
 ours_stand : RepresentsCompose all_items RepresentsUp → (bytes : ByteLink) (link now : Link) (behind : List ℕ) (new : TrackedTerminal) → LinkRepresents bytes link → bytes.tracked.terminal.out ≡ []
-    → Ran link now bytes.tracked new behind → LinkRepresents (fed new behind bytes) now
+    → Ran is_nop link now bytes.tracked new behind → LinkRepresents (fed new behind bytes) now
 ours_stand compose bytes link now behind new stands silent ran =
     let out : new.terminal.out ≡ sent_bytes ran.says = ran.out ∙ ap (λ (b : List ℕ). b ++ sent_bytes ran.says) silent in
     ran_stands bytes link now behind new.terminal.out new stands ran (said_goes_up compose link.lost stands.read bytes.up new.terminal.out link.up ran.sends ran.says stands.up out ran.fit ran.said)
@@ -421,7 +424,7 @@ pub down_stands : TermTakes → TakesKeepSendable → NopHasNoEffect → Represe
 down_stands takes keeps nop compose goes_on final bytes link front behind new ready queue taken =
     let term = ready.stands.term ready.terminal ready.here in
     let down : BytesDown term.rest (front ++ behind) link.down = subst (λ (b : List ℕ). BytesDown term.rest b link.down) queue term.down in
-    let came = bytes_come takes keeps nop goes_on final front behind new bytes.tracked term.rest link term.holds down ready.may ready.none ready.sendable taken in
+    let came = bytes_come takes keeps (nops_have_none nop) goes_on final front behind new bytes.tracked term.rest link term.holds down ready.may ready.none ready.sendable taken in
     record {
       taken = came.taken;
       others = came.others;
@@ -433,27 +436,27 @@ pub down_is_not_refused : TermTakes → TakesKeepSendable → NopHasNoEffect →
 down_is_not_refused takes keeps nop goes_on final bytes link front behind new ready queue taken =
     let term = ready.stands.term ready.terminal ready.here in
     let down : BytesDown term.rest (front ++ behind) link.down = subst (λ (b : List ℕ). BytesDown term.rest b link.down) queue term.down in
-    let ran = (bytes_come takes keeps nop goes_on final front behind new bytes.tracked term.rest link term.holds down ready.may ready.none ready.sendable taken).ran in
+    let ran = (bytes_come takes keeps (nops_have_none nop) goes_on final front behind new bytes.tracked term.rest link term.holds down ready.may ready.none ready.sendable taken).ran in
     record { says = ran.says; out = ran.out; fit = ran.fit; sends = ran.sends; said = ran.said; none = ran.none }
 
 -- one byte came, and marks a write where a paint came with it that finds the terminal bound
-pub record ByteCame (link : Link) (old new : TrackedTerminal) (behind : List ℕ) : Type 0 where
-  pub came : CameSome link old new behind
+pub record ByteCame (ignored : WireItem → Bool) (link : Link) (old new : TrackedTerminal) (behind : List ℕ) : Type 0 where
+  pub came : CameSome ignored link old new behind
   pub marked : new.terminal.station.took_write ≡ any_painted link.term came.taken
 
-pub byte_came : TermTakes → TakesKeepSendable → NopHasNoEffect → RepresentsGoOn without_nops RepresentsDown → WrongIsFinal → WritesAreMarked → (byte : ℕ) (behind : List ℕ) (old new : TrackedTerminal) (rest : Rest) (link : Link)
-    → Holds rest old link.term → BytesDown rest (byte ∷ behind) link.down → MayComeAll link.term link.down → NoneCloses link.term link.down → CanBeSent link.term.display.size link.term.display.screen
-    → TrackedTakesByte old byte new → ByteCame link old new behind
-byte_came takes keeps nop goes_on final marks byte behind old new rest link holds down may none can taken = record {
-  came = byte_comes takes keeps nop goes_on final byte [] behind old new new rest link (bytes_come takes keeps nop goes_on final [] behind new) holds down may none can taken.history taken.takes refl;
-  marked = byte_marks takes keeps nop goes_on final marks byte behind old new rest link holds down may none can taken.history taken.takes;
+pub byte_came : {ignored : WireItem → Bool} → TermTakes → TakesKeepSendable → HaveNoEffect ignored → RepresentsGoOn (without ignored) RepresentsDown → WrongIsFinal → WritesAreMarked → (byte : ℕ) (behind : List ℕ) (old new : TrackedTerminal) (rest : Rest) (link : Link)
+    → Holds rest old link.term → BytesDownBy ignored rest (byte ∷ behind) link.down → MayComeAll link.term link.down → NoneCloses link.term link.down → CanBeSent link.term.display.size link.term.display.screen
+    → TrackedTakesByte old byte new → ByteCame ignored link old new behind
+byte_came takes keeps no_effect goes_on final marks byte behind old new rest link holds down may none can taken = record {
+  came = byte_comes takes keeps no_effect goes_on final byte [] behind old new new rest link (bytes_come takes keeps no_effect goes_on final [] behind new) holds down may none can taken.history taken.takes refl;
+  marked = byte_marks takes keeps no_effect goes_on final marks byte behind old new rest link holds down may none can taken.history taken.takes;
 }
 
 pub bytes_are_marked : TermTakes → TakesKeepSendable → NopHasNoEffect → RepresentsCompose all_items RepresentsUp → RepresentsGoOn without_nops RepresentsDown → WrongIsFinal → WritesAreMarked → BytesAreMarked
 bytes_are_marked takes keeps nop compose goes_on final marks bytes link byte behind new ready queue taken =
     let term = ready.stands.term ready.terminal ready.here in
     let down : BytesDown term.rest (byte ∷ behind) link.down = subst (λ (b : List ℕ). BytesDown term.rest b link.down) queue term.down in
-    let one = byte_came takes keeps nop goes_on final marks byte behind bytes.tracked new term.rest link term.holds down ready.may ready.none ready.sendable taken in
+    let one = byte_came takes keeps (nops_have_none nop) goes_on final marks byte behind bytes.tracked new term.rest link term.holds down ready.may ready.none ready.sendable taken in
     record {
       came = record {
         taken = one.came.taken;
@@ -466,14 +469,14 @@ bytes_are_marked takes keeps nop compose goes_on final marks bytes link byte beh
 
 -- ---- the host, and losses
 
-goes_down : RepresentsCompose without_nops RepresentsDown → (lost : Bool) (rest : Rest) (bytes : List ℕ) (messages more : List ToTerminal) (items : List WireItem)
-    → BytesDown rest bytes messages → AllByRecursion (CanCome record_limit) items → Pairwise RepresentsDown (without_nops items) more
-    → BytesDown rest (sent lost bytes (sent_bytes items)) (sent lost messages more)
-goes_down compose true rest bytes messages more items stands fit said = stands
-goes_down compose false rest bytes messages more items stands fit said = compose rest bytes messages more items stands fit said
+goes_down : (ignored : WireItem → Bool) → RepresentsCompose (without ignored) RepresentsDown → (lost : Bool) (rest : Rest) (bytes : List ℕ) (messages more : List ToTerminal) (items : List WireItem)
+    → BytesDownBy ignored rest bytes messages → AllByRecursion (CanCome record_limit) items → Pairwise RepresentsDown (without ignored items) more
+    → BytesDownBy ignored rest (sent lost bytes (sent_bytes items)) (sent lost messages more)
+goes_down ignored compose true rest bytes messages more items stands fit said = stands
+goes_down ignored compose false rest bytes messages more items stands fit said = compose rest bytes messages more items stands fit said
 
-pub host_sends : {heard : List WireItem → List WireItem} {Up : WireItem → ToHost → Type 0} → RepresentsCompose without_nops RepresentsDown → HostSendsBy heard Up
-host_sends compose bytes link conn items messages stands fit said = record {
+pub items_are_sent : {heard : List WireItem → List WireItem} {Up : WireItem → ToHost → Type 0} {ignored : WireItem → Bool} → RepresentsCompose (without ignored) RepresentsDown → ItemsAreSentBy heard Up ignored
+items_are_sent {heard} {Up} {ignored} compose bytes link conn items messages stands fit said = record {
   lost = stands.lost;
   host_here = stands.host_here;
   term_here = stands.term_here;
@@ -484,13 +487,16 @@ host_sends compose bytes link conn items messages stands fit said = record {
     rest = term.rest;
     holds = record { talk = term.holds.talk; attached = term.holds.attached; is_end = term.holds.is_end };
     silent = term.silent;
-    down = subst (λ (l : Bool). BytesDown term.rest (sent l bytes.down (sent_bytes items)) (sent link.lost link.down messages)) (sym stands.lost)
-        (goes_down compose link.lost term.rest bytes.down link.down messages items term.down fit
-        (subst (λ (l : List WireItem). Pairwise RepresentsDown l messages) (sym (all_spoken items messages said)) said));
+    down = subst (λ (l : Bool). BytesDownBy ignored term.rest (sent l bytes.down (sent_bytes items)) (sent link.lost link.down messages)) (sym stands.lost)
+        (goes_down ignored compose link.lost term.rest bytes.down link.down messages items term.down fit said);
   };
 }
 
-nop_can_come : CanCome record_limit no_operation
+pub host_sends : {heard : List WireItem → List WireItem} {Up : WireItem → ToHost → Type 0} → RepresentsCompose without_nops RepresentsDown → HostSendsBy heard Up
+host_sends compose bytes link conn items messages stands fit said =
+    items_are_sent compose bytes link conn items messages stands fit (subst (λ (l : List WireItem). Pairwise RepresentsDown l messages) (sym (all_spoken items messages said)) said)
+
+pub nop_can_come : CanCome record_limit no_operation
 nop_can_come = (λ e. absurd (omega (arith, e)), omega arith)
 
 pub nop_stands : {heard : List WireItem → List WireItem} {Up : WireItem → ToHost → Type 0} → RepresentsCompose without_nops RepresentsDown → NopRepresentsBy heard Up
@@ -507,26 +513,26 @@ nop_stands compose bytes link stands = record {
     silent = term.silent;
     down = subst (λ (l : Bool). BytesDown term.rest (sent l bytes.down (sent_bytes (no_operation ∷ []))) link.down) (sym stands.lost)
         (subst (λ (m : List ToTerminal). BytesDown term.rest (sent link.lost bytes.down (sent_bytes (no_operation ∷ []))) m) (sym (sent_nothing link.lost link.down))
-        (goes_down compose link.lost term.rest bytes.down link.down [] (no_operation ∷ []) term.down (nop_can_come, tt) tt));
+        (goes_down is_nop compose link.lost term.rest bytes.down link.down [] (no_operation ∷ []) term.down (nop_can_come, tt) tt));
   };
 }
 
-same_term : (bytes with_bytes : ByteLink) (link with_link : Link) → TermRepresents bytes link
-    → with_bytes.tracked ≡ bytes.tracked → with_bytes.down ≡ bytes.down → with_link.term ≡ link.term → with_link.down ≡ link.down → TermRepresents with_bytes with_link
-same_term bytes with_bytes link with_link term a b c d = record {
+same_term : {ignored : WireItem → Bool} (bytes with_bytes : ByteLink) (link with_link : Link) → TermRepresentsBy ignored bytes link
+    → with_bytes.tracked ≡ bytes.tracked → with_bytes.down ≡ bytes.down → with_link.term ≡ link.term → with_link.down ≡ link.down → TermRepresentsBy ignored with_bytes with_link
+same_term {ignored} bytes with_bytes link with_link term a b c d = record {
   rest = term.rest;
   holds = subst (λ (s : TrackedTerminal). Holds term.rest s with_link.term) (sym a) (subst (λ (e : TermEnd). Holds term.rest bytes.tracked e) (sym c) term.holds);
   silent = ap (λ (s : TrackedTerminal). s.terminal.out) a ∙ term.silent;
-  down = subst (λ (q : List ℕ). BytesDown term.rest q with_link.down) (sym b) (subst (λ (m : List ToTerminal). BytesDown term.rest bytes.down m) (sym d) term.down);
+  down = subst (λ (q : List ℕ). BytesDownBy ignored term.rest q with_link.down) (sym b) (subst (λ (m : List ToTerminal). BytesDownBy ignored term.rest bytes.down m) (sym d) term.down);
 }
 
 -- Where the host is there, its decoder holds what was read.
-pub up_behind_rest : {heard : List WireItem → List WireItem} {Up : WireItem → ToHost → Type 0} (bytes : ByteLink) (link : Link) → LinkRepresentsBy heard Up bytes link → link.host_here ≡ true
+pub up_behind_rest : {heard : List WireItem → List WireItem} {Up : WireItem → ToHost → Type 0} {ignored : WireItem → Bool} (bytes : ByteLink) (link : Link) → LinkRepresentsBy heard Up ignored bytes link → link.host_here ≡ true
     → BytesRepresent heard Up bytes.host_rest bytes.up link.up
-up_behind_rest {heard} {Up} bytes link stands here = subst (λ (r : Rest). BytesRepresent heard Up r bytes.up link.up) (sym (stands.host here).rest_is) stands.up
+up_behind_rest {heard} {Up} {ignored} bytes link stands here = subst (λ (r : Rest). BytesRepresent heard Up r bytes.up link.up) (sym (stands.host here).rest_is) stands.up
 
-pub up_stands : {heard : List WireItem → List WireItem} {Up : WireItem → ToHost → Type 0} → RepresentsGoOn heard Up → UpRepresentsBy heard Up
-up_stands {heard} {Up} goes_on bytes link front behind items to stands here queue delivers =
+pub up_stands : {heard : List WireItem → List WireItem} {Up : WireItem → ToHost → Type 0} {ignored : WireItem → Bool} → RepresentsGoOn heard Up → UpRepresentsBy heard Up ignored
+up_stands {heard} {Up} {ignored} goes_on bytes link front behind items to stands here queue delivers =
     let host = stands.host here in
     let some = goes_on bytes.host_rest to front behind items link.up
     (subst (λ (b : List ℕ). BytesRepresent heard Up bytes.host_rest b link.up) queue (up_behind_rest bytes link stands here)) delivers in

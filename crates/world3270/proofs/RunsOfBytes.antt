@@ -12,6 +12,7 @@ use Rattle.keyboard.specs.declared.key.Refusal.TheVariants.{Locked}
 use Rattle.lu_pool.specs.Pool.{Holds, entry}
 use Rattle.lu_pool.specs.declared.entry.Entry.{Entry}
 use Rattle.panels.specs.Panel.{AreSound, HasItemsApart, HaveNumbersApart, IsLaidOut, IsOfCharacters, IsOtherwise, PanelParts, ShowsItsValues, target_at, target_of}
+use Rattle.telnet_wire.specs.Laws.{ItemsAreRead}
 use Rattle.telnet_wire.specs.Reading.{nothing}
 use Rattle.tn3270e_msg.specs.Device.{device_for, device_of}
 use Rattle.host_core.specs.Application.{application_of}
@@ -29,7 +30,8 @@ use Rattle.world3270.specs.model.Terminal.{new_display}
 use Rattle.world3270.specs.model.World.{World, new_world}
 use Rattle.world3270.specs.refinement.MessageLaws.{MessageLaws}
 use Rattle.world3270.specs.refinement.Readings.{IsReadAs}
-use Rattle.world3270.specs.refinement.Represents.{RepresentsDown, without_commands, without_nops}
+use Rattle.world3270.specs.refinement.Represents.{RepresentsDown, without}
+use Rattle.world3270.specs.refinement.Ignored.{is_ignored_by_terminal, without_ignored}
 use Rattle.world3270.specs.statement.EveryTerminal.{FirstPaint, LinkWithReport}
 use Rattle.world3270.specs.statement.EveryTerminalBytes.{IsHost, Represents}
 use Rattle.world3270.specs.statement.Instances.{IsAgreedOn}
@@ -38,6 +40,7 @@ use Rattle.world3270.specs.statement.Rules.{Binds}
 use Rattle.world3270.proofs.ExampleGiven.{is_pool}
 use Rattle.world3270.proofs.Represents.{nothing_stands}
 use Rattle.world3270.proofs.RunsOfByteWorlds.{is_reached}
+use Rattle.world3270.proofs.RunsOfOptions.{offers_are_refused}
 use Rattle.world3270.proofs.Sendable.{blank_sendable}
 use Rattle.world3270.proofs.SignedOn.{acted_on, agree, agreeing, agreement_taken, asks, request_taken}
 
@@ -170,7 +173,7 @@ represents known panels = record {
     host_here = refl;
     term_here = refl;
     read = nothing;
-    up = nothing_stands without_commands IsReadAs refl known.links.no_bytes known.links.start;
+    up = nothing_stands without_ignored IsReadAs refl known.links.no_bytes known.links.start;
     host = λ here. record { host = refl; rest_is = refl };
     term = λ number is. record {
       rest = nothing;
@@ -180,7 +183,7 @@ represents known panels = record {
         is_end = record { talk_is = refl; screen_is = refl; keyboard_is = refl; last_restored_is = refl; before_restored_is = refl; erased_is = refl };
       };
       silent = refl;
-      down = nothing_stands without_nops RepresentsDown refl known.links.no_bytes known.links.start;
+      down = nothing_stands (without is_ignored_by_terminal) RepresentsDown refl known.links.no_bytes known.links.start;
     };
   };
   waits = refl;
@@ -221,8 +224,8 @@ just_agreed = record {
 goes_on : GoOnAt 0 (event.Key 0 Enter ∷ []) agreed_byte_world enter_refused
 goes_on = (stepped.Refused Locked, enter_refused, (tt, tt), Presses.done refl refl, is_host, refl, refl)
 
-pub a_begin : MessageLaws → PanelsAreShown → ServedIsMarked → ABeginIsThere
-a_begin known panels served = record {
+pub a_begin : MessageLaws → ItemsAreRead → PanelsAreShown → ServedIsMarked → ABeginIsThere
+a_begin known written panels served = record {
   panels = sound_panels;
   begins = record {
     begin = begin;
@@ -232,6 +235,7 @@ a_begin known panels served = record {
     is_host = is_host;
     pool = known.worlds.given.pool.sound_granted example_pool 0 l1 (known.worlds.given.pool.sound example_pool is_pool);
   };
+  refuses = offers_are_refused written;
   agreed = has_agreed;
   reached = is_reached known sound_panels;
   is_host = is_host;

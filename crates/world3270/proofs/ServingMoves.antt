@@ -1,5 +1,5 @@
 -- A turn of serving is moves on the connection that it serves, and happens elsewhere for each other one.
-use Rattle.std.proofs.Common.{◌≡◌, ◌≢◌, ◌⊎◌, inl, inr, ℕ, zero, suc, Bool, true, false, Option, Some, None, List, [], ◌∷◌, ◌++◌, drop, take, length, set, get_or, refl, ap, sym, subst, ◌∙◌}
+use Rattle.std.proofs.Common.{◌≡◌, ◌≢◌, inl, inr, ℕ, zero, suc, Bool, true, false, Option, Some, None, List, [], ◌∷◌, ◌++◌, drop, take, set, get_or, refl, ap, sym, subst, ◌∙◌}
 use Rattle.std.proofs.Math.Seq.{drop-length}
 use Rattle.lu_pool.specs.HolderLaws.{IsSound as IsSoundPool, StaysSoundBack, StaysSoundGranted}
 use Rattle.lu_pool.specs.Holders.{granted_if}
@@ -14,7 +14,7 @@ use Rattle.host_core.specs.Application.{Application, application_of}
 use Rattle.host_core.specs.Bytes.{ConnectionAndPool, TakesByte, TakesBytes}
 use Rattle.host_core.specs.Does.{Does, acted_by, asks, with_asked, with_conn}
 use Rattle.host_core.specs.Feeds.{IsOpen, StopsFor, connection_and_pool_at}
-use Rattle.host_core.specs.Reports.{Reports, with_question}
+use Rattle.host_core.specs.Reports.{with_question}
 use Rattle.host_core.specs.Serves.{ActsHost, FeedsHost, Responds, SendsOut, Serves, sent_from, taken_by}
 use Rattle.host_core.specs.Session.{Session}
 use Rattle.host_core.specs.State.{Connection, Host, Service, connection_at, reports_at, state_at, unused}

@@ -20,7 +20,7 @@ use Rattle.world3270.specs.statement.WorldMoves.{IsLockedIf}
 use Rattle.world3270.proofs.AnyTerminal.{TakesLaws}
 use Rattle.world3270.proofs.ByteDown.{quiet_byte}
 use Rattle.world3270.proofs.Completed.{left_down}
-use Rattle.world3270.proofs.RepresentsLinks.{byte_came, stayed}
+use Rattle.world3270.proofs.RepresentsLinks.{byte_came, stayed, nops_have_none}
 
 -- ---- a terminal takes a byte
 
@@ -124,7 +124,7 @@ module _ (laws : TakesLaws) (app : Application) (number : ℕ) (host : Host) whe
   }
   all_taken (byte ∷ bytes) behind old new rest link waits holds down may none can held taken =
       let mid : TrackedTerminal = taken.0 in
-      let one = byte_came laws.takes laws.keeps laws.nop laws.down laws.final laws.marks byte (bytes ++ behind) old mid rest link holds down may none can taken.1 in
+      let one = byte_came laws.takes laws.keeps (nops_have_none laws.nop) laws.down laws.final laws.marks byte (bytes ++ behind) old mid rest link holds down may none can taken.1 in
       let came = one.came in
       let ran = came.ran in
       let now : Link = took_down came.taken came.others link in

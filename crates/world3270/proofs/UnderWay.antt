@@ -7,7 +7,7 @@ use Rattle.host_core.specs.Session.{Session}
 use Rattle.world3270.specs.model.ByteWorld.{Transit, under_way, came, cut, is_live, is_senders}
 use Rattle.world3270.specs.model.Link.{Link, sent}
 use Rattle.world3270.specs.refinement.Representation.{IsFlow}
-use Rattle.world3270.specs.refinement.Represents.{ByteLink, LinkRepresentsBy}
+use Rattle.world3270.specs.refinement.Represents.{ByteLink, LinkRepresentsBy, is_nop}
 use Rattle.world3270.specs.refinement.RepresentsLinks.{HostSendsBy, said_down, sent_down}
 
 -- ---- a sender says more
@@ -29,11 +29,11 @@ vanishes true queue some others is = refl
 vanishes false queue some others is = absurd (cc)
 
 pub lost_says : {heard : List WireItem → List WireItem} {Up : WireItem → ToHost → Type 0} → HostSendsBy heard Up → (bytes : ByteLink) (link : Link) (conn : Session) (items : List WireItem) (messages : List ToTerminal)
-    → LinkRepresentsBy heard Up bytes link → link.lost ≡ true → LinkRepresentsBy heard Up (said_down conn items bytes) (sent_down conn messages link)
+    → LinkRepresentsBy heard Up is_nop bytes link → link.lost ≡ true → LinkRepresentsBy heard Up is_nop (said_down conn items bytes) (sent_down conn messages link)
 lost_says {heard} {Up} sends bytes link conn items messages stands is =
-    subst (λ (down : List ℕ). LinkRepresentsBy heard Up (record bytes { host = conn; down = down }) (sent_down conn messages link))
+    subst (λ (down : List ℕ). LinkRepresentsBy heard Up is_nop (record bytes { host = conn; down = down }) (sent_down conn messages link))
     (vanishes bytes.lost bytes.down (sent_bytes []) (sent_bytes items) (stands.lost ∙ is))
-    (subst (λ (down : List ToTerminal). LinkRepresentsBy heard Up (said_down conn [] bytes) (record link { host = conn; down = down }))
+    (subst (λ (down : List ToTerminal). LinkRepresentsBy heard Up is_nop (said_down conn [] bytes) (record link { host = conn; down = down }))
     (vanishes link.lost link.down [] messages is)
     (sends bytes link conn [] [] stands tt tt))
 

@@ -1,5 +1,6 @@
 -- What happens on a connection of a world over bytes are moves over bytes.
 use Rattle.std.proofs.Common.{◌≡◌, ◌≢◌, ◌⊎◌, inl, inr, ◌<◌, ◌≤◌, ◌==◌, ◌||◌, not, ℕ, zero, suc, Bool, true, false, Option, None, Some, is_some, List, [], ◌∷◌, ◌++◌, drop, take, length, le_of_suc-le-suc, not-suc-le-zero, length-set, refl, ap, sym, subst, ◌∙◌}
+use Rattle.std.specs.List.{AllByRecursion}
 use Rattle.std.proofs.lemmas.Bool.{and_parts, eqb-true}
 use Rattle.std.proofs.lemmas.List.{take-append-drop}
 use Rattle.codes3270.specs.declared.attention.Aid.TheVariants.{Clear}
@@ -28,7 +29,7 @@ use Rattle.world3270.specs.model.ByteSteps.{ComesDown, ComesUp, ConnectsIf, Goes
 use Rattle.world3270.specs.model.ByteWorld.{ByteWorld, TerminalSlot, Transit, Transits, alone, came, cut, down_of, host_out, host_there, is_live, is_senders, is_there, model_at, new_slot, out_of, sender_gone, slot_at, terminal_at, transits_at, under_way, up_of, with_host, with_slot, with_transits}
 use Rattle.world3270.specs.model.Enabled.{is_queued}
 use Rattle.world3270.specs.model.Link.{Link}
-use Rattle.world3270.specs.model.Terminal.{TermEnd, TermStep, key_came}
+use Rattle.world3270.specs.model.Terminal.{TermEnd, TermStep, is_bound as is_bound_end, key_came, outcome_of}
 use Rattle.world3270.specs.model.TrackedTerminals.{TrackedTakes, TrackedTerminal, tracked_after_key}
 use Rattle.world3270.specs.model.World.{Place, World, display_at, new_world}
 use Rattle.world3270.specs.refinement.LowerLaws.{LowerLaws}
@@ -36,7 +37,8 @@ use Rattle.world3270.specs.refinement.MessageLaws.{MessageLaws}
 use Rattle.world3270.specs.refinement.Readings.{AreReadAs, IsReadAs}
 use Rattle.world3270.specs.refinement.Refines.{IsReached, IsValidEvent, StepsAreSimulated, after}
 use Rattle.world3270.specs.refinement.Representation.{with_out}
-use Rattle.world3270.specs.refinement.Represents.{BytesDown, RepresentsUp, TermRepresents, without_commands}
+use Rattle.world3270.specs.refinement.Represents.{BytesDown, RepresentsUp, TermRepresents}
+use Rattle.world3270.specs.refinement.Ignored.{without_ignored}
 use Rattle.world3270.specs.refinement.RepresentsEnds.{SameKey, TermPresses}
 use Rattle.world3270.specs.refinement.Sendable.{CanBeSent}
 use Rattle.world3270.specs.statement.EveryTerminal.{key_pressed}
@@ -57,7 +59,8 @@ use Rattle.world3270.proofs.Keys.{waits as key_waits}
 use Rattle.world3270.proofs.Known.{Facts, facts_now, is_application}
 use Rattle.world3270.proofs.Moved.{edits_in_wait, queued_waits}
 use Rattle.world3270.proofs.OneOfMany.{differs as is_other}
-use Rattle.world3270.proofs.Represents.{all_heard, written_stand}
+use Rattle.world3270.proofs.AnyIgnored.{IsNoTalk, all_heard, data_no_talk}
+use Rattle.world3270.proofs.Represents.{written_stand}
 use Rattle.world3270.proofs.TakenMoves.{all_taken, joined}
 use Rattle.world3270.proofs.Worlds.{GoodWorld, new_good, run_good}
 
@@ -394,10 +397,13 @@ module _ (known : MessageLaws) (takes : TakesLaws) (presses : TermPresses) (rule
         })
         can_then
 
+    no_talk : AllByRecursion IsNoTalk step.sends
+    no_talk = data_no_talk (is_bound_end end) (outcome_of key end.display).answer end.display.size (outcome_of key end.display).screen
+
     read_so : AreReadAs says step.sends
     read_so = subst (λ (b : List ℕ). AreReadAs b step.sends) (sym same_key.sent)
-        (written_stand without_commands IsReadAs takes.written same_key.items step.sends same_key.fit
-        (subst (λ (items : List WireItem). Pairwise IsReadAs items step.sends) (sym (all_heard same_key.items step.sends same_key.said))
+        (written_stand without_ignored IsReadAs takes.written same_key.items step.sends same_key.fit
+        (subst (λ (items : List WireItem). Pairwise IsReadAs items step.sends) (sym (all_heard same_key.items step.sends no_talk same_key.said))
         (pairs_become RepresentsUp IsReadAs stands_read same_key.items step.sends same_key.said)))
 
     by_rules : (does : Operates end step) × (waits ≡ true → key_pressed does ≢ Clear)

@@ -4,6 +4,7 @@ pub mod View
 pub mod Phases
 pub mod Invariant
 pub mod Represents
+pub mod Ignored
 pub mod RepresentsEnds
 pub mod RepresentsLinks
 pub mod Readings

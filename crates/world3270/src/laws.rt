@@ -434,10 +434,11 @@ pub fn every_terminal()
 
 /// Law: `every_terminal` over bytes, in terms of the calls of `Host`, whatever other clients do. The host
 /// is fed the inbound bytes in pieces of any length; it hands over outbound bytes, acts, is answered by
-/// the application, and sends notes and NOPs; memory may be refused for these. The terminal takes each
-/// byte as RFC 1647 and GA23-0059 say, may spell what it sends in any way that the host reads alike, and
-/// may send NOPs and other commands that the host ignores. The bytes represent a connection over messages
-/// after moves that keep the rules, for which `every_terminal` holds.
+/// the application, and sends notes and NOPs; memory may be refused for these. It reports events. The
+/// terminal takes each byte as RFC 1647 and GA23-0059 say, and may spell what it sends in any way that the
+/// host reads alike. It may also send what the host ignores, or answers by refusing an option: commands,
+/// options but WONT TN3270E, subnegotiations of other options, and records of other types. The bytes
+/// represent a connection over messages after moves that keep the rules, for which `every_terminal` holds.
 pub fn every_terminal_over_bytes()
     ensures { EveryTerminalOverBytes }
 {
@@ -463,8 +464,9 @@ pub fn a_turn_is_moves<L: Links>()
 
 /// Law: the premises of `every_terminal_over_bytes` can be met. Just after the host has agreed on an LU on a connection of
 /// a world that isn't lost, and if it doesn't rely on the terminal's wait, host, terminal and the bytes under way are a
-/// begin as that theorem requires it. Also, a begin is there: of a host with one panel, and a terminal that is bound; a
-/// run of a world in which the host agrees; and a world over bytes just after agreement, which goes on.
+/// begin as that theorem requires it. Also, a begin is there: of a host with one panel, and a terminal that is bound, from
+/// where moves lead on; a run of a world in which the host agrees; and a world over bytes just after agreement, which goes
+/// on.
 /// What happens then on the connection, until it is lost, are moves over messages that keep the rules; so `every_terminal`
 /// holds of each such connection of a world. In a world over bytes its bytes represent it. And each event over bytes that
 /// neither loses nor closes the connection is moves over bytes there; so `every_terminal_over_bytes` holds of it after any

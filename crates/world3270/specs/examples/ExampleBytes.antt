@@ -1,13 +1,15 @@
 -- A begin of `EveryTerminalOverBytes`: a host for any terminal with one panel, and a bound terminal; and a world over
 -- bytes that has both. Readers and proofs need them, and nothing rests on them (our profile).
-use Rattle.std.specs.Prelude.{◌≡◌, codes, ℕ, Bool, true, false, List, [], ◌∷◌, Option, None, Some, replicate}
+use Rattle.std.specs.Prelude.{◌≡◌, codes, ℕ, Bool, true, false, List, [], ◌∷◌, Option, None, Some, drop, replicate}
 use Rattle.codes3270.specs.Size.{cells_in, model_2}
 use Rattle.codes3270.specs.declared.size.Model.TheVariants.{M2, M5}
 use Rattle.datastream.specs.Screen.{blank_screen}
 use Rattle.keyboard.specs.declared.key.Key.TheVariants.{Enter}
 use Rattle.panels.specs.Panel.{AreSound, PanelParts, Panels}
 use Rattle.presentation.specs.Sizes.{blank_of}
+use Rattle.telnet_wire.specs.Items.{WireItem, Opt, Record, Sub, sent_bytes}
 use Rattle.telnet_wire.specs.Reading.{nothing}
+use Rattle.telnet_wire.specs.declared.wire.Verb.TheVariants.{Dont, Will}
 use Rattle.term_core.specs.State.{Attached, waiting}
 use Rattle.tn3270e_msg.specs.Device.{device_for}
 use Rattle.tn3270e_msg.specs.Talk.{start_at}
@@ -17,7 +19,7 @@ use Rattle.tn3270e_msg.specs.declared.term_talk.TermState.TheVariants.{Agreed}
 use Rattle.host_core.specs.Application.{application_of}
 use Rattle.host_core.specs.Reports.{no_reports}
 use Rattle.host_core.specs.Session.{Session, agreed_lu, new_conn}
-use Rattle.host_core.specs.State.{Host, Service, no_sessions, unused}
+use Rattle.host_core.specs.State.{Host, Service, connection_at, no_sessions, unused, with_connection}
 use Rattle.host_core.specs.Takes.{may_have_changed}
 use Rattle.host_core.specs.declared.terminals.Terminals.TheVariants.{Any}
 use Rattle.world3270.specs.declared.event.Event.TheVariants as event
@@ -28,7 +30,7 @@ use Rattle.world3270.specs.model.Steps.{run}
 use Rattle.world3270.specs.model.TrackedTerminals.{TrackedTerminal, tracked_after_key}
 use Rattle.world3270.specs.model.World.{World, new_world}
 use Rattle.world3270.specs.refinement.Refines.{IsReached}
-use Rattle.world3270.specs.statement.EveryTerminalBytes.{BeginsOverBytes, IsHost, OverBytes}
+use Rattle.world3270.specs.statement.EveryTerminalBytes.{BeginsOverBytes, IsHost, LeadTo, OverBytes}
 use Rattle.world3270.specs.statement.Instances.{IsAgreedOn}
 use Rattle.world3270.specs.statement.WorldMoves.{GoOnAt}
 
@@ -89,6 +91,34 @@ bound_terminal = record {
 abbrev pub agreed_bytes : OverBytes
 agreed_bytes = record { host = agreed_host; down = []; up = []; tracked = bound_terminal; waits = true }
 
+-- The client offers NAWS (option 31, RFC 1073), and sends a subnegotiation of TERMINAL-TYPE (24, RFC 1091) and a record of
+-- NVT-DATA.
+abbrev pub client_says : List WireItem
+client_says = Opt Will 31 ∷ Sub (24 ∷ 0 ∷ []) ∷ Record (5 ∷ 0 ∷ 0 ∷ 0 ∷ 0 ∷ 65 ∷ []) ∷ []
+
+-- all this is under way
+abbrev pub client_said : OverBytes
+client_said = record agreed_bytes { up = sent_bytes client_says }
+
+-- what is under way behind the offer
+abbrev pub behind_offer : List ℕ
+behind_offer = drop 3 client_said.up
+
+-- the host's refusal, DONT NAWS
+abbrev pub refusal : List ℕ
+refusal = sent_bytes (Opt Dont 31 ∷ [])
+
+-- the host has taken the offer, and will send its refusal
+abbrev pub offer_refused : OverBytes
+offer_refused = record agreed_bytes {
+  host = with_connection 0 (record (connection_at 0 agreed_host) { out = refusal }) agreed_host;
+  up = behind_offer;
+}
+
+-- the refusal is under way
+abbrev pub refusal_sent : OverBytes
+refusal_sent = record agreed_bytes { down = refusal; up = behind_offer }
+
 -- ---- a world
 
 -- what `ConnectionsAreMoved` asks of a connection: whether it is lost, the LU on which the host agreed, and whether the
@@ -128,11 +158,14 @@ enter_refused =
 -- ---- they are there
 
 -- Holds if these bytes are a begin, of a host with sound panels, and if the host of that world has agreed: so the
--- premises of `EveryTerminalOverBytes` and of `ConnectionsAreMoved` can be met. And if that world over bytes, in which
--- the host has just agreed, represents one over messages, and goes on: so can those of `WorldsMoveOverBytes`.
+-- premises of `EveryTerminalOverBytes` and of `ConnectionsAreMoved` can be met. And if moves lead on from there: the
+-- client offers an option, the host is fed that, keeps no event, and hands its refusal over. And if that world over bytes,
+-- in which the host has just agreed, represents one over messages, and goes on: so can those of `WorldsMoveOverBytes`.
 pub record ABeginIsThere : Type 0 where
   pub panels : AreSound one_panel
   pub begins : BeginsOverBytes (application_of one_panel) 0 l1 agreed_bytes
+  pub refuses : LeadTo (application_of one_panel) 0 (client_said ∷ offer_refused ∷ offer_refused ∷ refusal_sent ∷ [])
+      agreed_bytes refusal_sent
   pub agreed : agreed_seen agreed_world ≡ record { lost = false; lu = Some l1; any = true }
   pub reached : IsReached agreed_byte_world
   pub is_host : IsHost agreed_host

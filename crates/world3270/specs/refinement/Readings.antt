@@ -17,7 +17,8 @@ use Rattle.host_core.specs.Messages.{ToHost, Verdict}
 use Rattle.host_core.specs.Session.{Session}
 use Rattle.host_core.specs.Takes.{form_awaited}
 use Rattle.world3270.specs.statement.Forms.{IsAwaitedBy}
-use Rattle.world3270.specs.refinement.Represents.{BytesRepresent, without_commands}
+use Rattle.world3270.specs.refinement.Ignored.{without_ignored}
+use Rattle.world3270.specs.refinement.Represents.{BytesRepresent}
 use Rattle.world3270.specs.refinement.RepresentsEnds.{IsSaid}
 
 -- ---- which items
@@ -49,9 +50,10 @@ IsReadAs item (ToHost.TalksUp saying) = item ≡ item_of saying
 IsReadAs item (ToHost.Data parts) = IsData item parts
 IsReadAs item (ToHost.Response number verdict) = IsResponse item number verdict
 
--- Holds if the bytes are whole items which the host reads as these messages, apart from commands that it ignores.
+-- Holds if the bytes are whole items which the host reads as these messages, apart from items that it only answers, by
+-- refusing an option, or ignores.
 abbrev pub AreReadAs : List ℕ → List ToHost → Type 0
-AreReadAs bytes messages = BytesRepresent without_commands IsReadAs nothing bytes messages
+AreReadAs bytes messages = BytesRepresent without_ignored IsReadAs nothing bytes messages
 
 -- ---- what may come next
 

@@ -1,6 +1,6 @@
 -- When bytes represent messages: the bytes under way in each direction spell the messages, one item
--- for each, apart from NOPs to the terminal and commands that the host ignores (RFC 854; RFC 1647,
--- sections 8.1 and 10.4; what is sent when is our profile).
+-- for each, apart from those that the receiver ignores, as NOP (RFC 854; RFC 1647, sections 8.1 and
+-- 10.4; what is sent when is our profile).
 use Rattle.std.specs.Prelude.{◌≡◌, ◌≢◌, ◌<◌, ◌^◌, ◌==◌, not, ℕ, Bool, true, false, List, [], filter, Option, Some}
 use Rattle.datastream.specs.declared.command_code.CommandCode.TheVariants.{Write}
 use Rattle.presentation.specs.Sizes.{SizedScreen}
@@ -99,21 +99,13 @@ is_nop (Record bytes) = false
 is_nop (Opt verb code) = false
 is_nop (Sub bytes) = false
 
+-- the items but those that a receiver ignores
+abbrev pub without : (WireItem → Bool) → List WireItem → List WireItem
+without ignored items = filter (λ item. not (ignored item)) items
+
 -- the items to a terminal that represent messages: all but NOPs
 abbrev pub without_nops : List WireItem → List WireItem
-without_nops items = filter (λ item. not (is_nop item)) items
-
--- whether an item is a command that the host ignores: any but those of options and subnegotiations, as NOP, BREAK,
--- INTERRUPT PROCESS or ABORT OUTPUT (RFC 854, "TELNET Command Structure"; our profile)
-abbrev pub is_bare_command : WireItem → Bool
-is_bare_command (Other code) = true
-is_bare_command (Record bytes) = false
-is_bare_command (Opt verb code) = false
-is_bare_command (Sub bytes) = false
-
--- the items to the host of any terminal that represent messages: all but such commands
-abbrev pub without_commands : List WireItem → List WireItem
-without_commands items = filter (λ item. not (is_bare_command item)) items
+without_nops = without is_nop
 
 -- the items to the host of our terminal that represent messages: all
 abbrev pub all_items : List WireItem → List WireItem
@@ -131,8 +123,11 @@ pub record BytesRepresent {X : Type 0} (spoken : List WireItem → List WireItem
   pub delivers : Delivers record_limit rest bytes items nothing
   pub each : Pairwise Means (spoken items) messages
 
+abbrev pub BytesDownBy : (WireItem → Bool) → Rest → List ℕ → List ToTerminal → Type 0
+BytesDownBy ignored rest bytes messages = BytesRepresent (without ignored) RepresentsDown rest bytes messages
+
 abbrev pub BytesDown : Rest → List ℕ → List ToTerminal → Type 0
-BytesDown rest bytes messages = BytesRepresent without_nops RepresentsDown rest bytes messages
+BytesDown = BytesDownBy is_nop
 
 abbrev pub BytesUp : Rest → List ℕ → List ToHost → Type 0
 BytesUp rest bytes messages = BytesRepresent all_items RepresentsUp rest bytes messages
@@ -175,19 +170,23 @@ pub record HostRepresents (bytes : ByteLink) (link : Link) (rest : Rest) : Type 
   pub host : bytes.host ≡ link.host
   pub rest_is : bytes.host_rest ≡ rest
 
--- Holds if the terminal's end is the one over messages, and the bytes to it represent the messages to it. The
--- terminal's own output counts as under way.
-pub record TermRepresents (bytes : ByteLink) (link : Link) : Type 0 where
+-- Holds if the terminal's end is the one over messages, and the bytes to it represent the messages to it, apart from
+-- items that it ignores. The terminal's own output counts as under way.
+pub record TermRepresentsBy (ignored : WireItem → Bool) (bytes : ByteLink) (link : Link) : Type 0 where
   pub rest : Rest
   pub holds : Holds rest bytes.tracked link.term
   pub silent : bytes.tracked.terminal.out ≡ []
-  pub down : BytesDown rest bytes.down link.down
+  pub down : BytesDownBy ignored rest bytes.down link.down
+
+abbrev pub TermRepresents : ByteLink → Link → Type 0
+TermRepresents = TermRepresentsBy is_nop
 
 -- Holds if a connection over bytes represents one over messages. After `read`, the bytes under way to the host spell
 -- the messages under way to it, also if the host has left: each item that `heard` selects represents one as `Up` says.
--- While the host is attached, `read` is what its decoder holds. Nothing else is required of an end that has left, or of
+-- The terminal ignores the items `ignored`. While the host is attached, `read` is what its decoder holds. Nothing else is required of an end that has left, or of
 -- what is under way to a terminal that has left: no step reads these.
 pub record LinkRepresentsBy (heard : List WireItem → List WireItem) (Up : WireItem → ToHost → Type 0)
+    (ignored : WireItem → Bool)
     (bytes : ByteLink) (link : Link) : Type 0 where
   pub lost : bytes.lost ≡ link.lost
   pub host_here : bytes.host_here ≡ link.host_here
@@ -195,8 +194,8 @@ pub record LinkRepresentsBy (heard : List WireItem → List WireItem) (Up : Wire
   pub read : Rest
   pub up : BytesRepresent heard Up read bytes.up link.up
   pub host : link.host_here ≡ true → HostRepresents bytes link read
-  pub term : (terminal : ℕ) → link.term_here ≡ Some terminal → TermRepresents bytes link
+  pub term : (terminal : ℕ) → link.term_here ≡ Some terminal → TermRepresentsBy ignored bytes link
 
 -- Holds if a connection over bytes of our terminal represents one over messages.
 abbrev pub LinkRepresents : ByteLink → Link → Type 0
-LinkRepresents bytes link = LinkRepresentsBy all_items RepresentsUp bytes link
+LinkRepresents bytes link = LinkRepresentsBy all_items RepresentsUp is_nop bytes link

@@ -108,6 +108,11 @@ abbrev pub NopHasNoEffect : Type 0
 NopHasNoEffect = (old : ByteEnd) (end : TermEnd) (step : ByteStep)
     → IsOpen end.talk.talk.state → IsEnd old end → EndTakes old no_operation step → IsUnmoved end step
 
+-- No such item has an effect while the connection isn't closed.
+abbrev pub HaveNoEffect : (WireItem → Bool) → Type 0
+HaveNoEffect ignored = (item : WireItem) (old : ByteEnd) (end : TermEnd) (step : ByteStep)
+    → ignored item ≡ true → IsOpen end.talk.talk.state → IsEnd old end → EndTakes old item step → IsUnmoved end step
+
 -- whether the message is a paint and the terminal is bound
 abbrev pub is_painted : TermEnd → ToTerminal → Bool
 is_painted end (ToTerminal.TalksDown saying) = false

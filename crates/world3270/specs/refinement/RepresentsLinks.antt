@@ -20,7 +20,7 @@ use Rattle.host_core.specs.Session.{Session, new_conn}
 use Rattle.world3270.specs.statement.Always.{is_refusal}
 use Rattle.world3270.specs.model.Link.{Link, begun, sent, host_left, term_left, term_stepped}
 use Rattle.world3270.specs.model.TrackedTerminals.{TrackedTerminal, TrackedTakesByte, TrackedTakes, newly_tracked, tracked_after_key}
-use Rattle.world3270.specs.refinement.Represents.{RepresentsDown, RepresentsUp, BytesRepresent, ByteLink, LinkRepresents, LinkRepresentsBy, all_items}
+use Rattle.world3270.specs.refinement.Represents.{RepresentsDown, RepresentsUp, BytesRepresent, ByteLink, LinkRepresents, LinkRepresentsBy, all_items, is_nop, without}
 use Rattle.world3270.specs.refinement.RepresentsEnds.{IsOpen, MayCome, is_painted}
 use Rattle.world3270.specs.model.Terminal.{TermEnd, took, key_came}
 use Rattle.world3270.specs.model.World.{World}
@@ -194,43 +194,52 @@ said_down conn items bytes = record bytes { host = conn; down = sent bytes.lost 
 abbrev pub sent_down : Session → List ToTerminal → Link → Link
 sent_down conn messages link = record link { host = conn; down = sent link.lost link.down messages }
 
+-- A connection represents one over messages after the host sends items of which those that the terminal doesn't ignore
+-- represent its messages.
+abbrev pub ItemsAreSentBy : (List WireItem → List WireItem) → (WireItem → ToHost → Type 0) → (WireItem → Bool) → Type 0
+ItemsAreSentBy heard Up ignored = (bytes : ByteLink) (link : Link) (conn : Session) (items : List WireItem)
+    (messages : List ToTerminal)
+    → LinkRepresentsBy heard Up ignored bytes link → AllByRecursion (CanCome record_limit) items
+    → Pairwise RepresentsDown (without ignored items) messages
+    → LinkRepresentsBy heard Up ignored (said_down conn items bytes) (sent_down conn messages link)
+
 -- A connection represents one over messages after the host sends items that represent its messages.
 abbrev pub HostSendsBy : (List WireItem → List WireItem) → (WireItem → ToHost → Type 0) → Type 0
 HostSendsBy heard Up = (bytes : ByteLink) (link : Link) (conn : Session) (items : List WireItem)
     (messages : List ToTerminal)
-    → LinkRepresentsBy heard Up bytes link → AllByRecursion (CanCome record_limit) items
+    → LinkRepresentsBy heard Up is_nop bytes link → AllByRecursion (CanCome record_limit) items
     → Pairwise RepresentsDown items messages
-    → LinkRepresentsBy heard Up (said_down conn items bytes) (sent_down conn messages link)
+    → LinkRepresentsBy heard Up is_nop (said_down conn items bytes) (sent_down conn messages link)
 
 abbrev pub HostSends : Type 0
 HostSends = HostSendsBy all_items RepresentsUp
 
 -- A connection represents the same connection over messages after the host sends NOP.
 abbrev pub NopRepresentsBy : (List WireItem → List WireItem) → (WireItem → ToHost → Type 0) → Type 0
-NopRepresentsBy heard Up = (bytes : ByteLink) (link : Link) → LinkRepresentsBy heard Up bytes link
-    → LinkRepresentsBy heard Up (said_down bytes.host (no_operation ∷ []) bytes) link
+NopRepresentsBy heard Up = (bytes : ByteLink) (link : Link) → LinkRepresentsBy heard Up is_nop bytes link
+    → LinkRepresentsBy heard Up is_nop (said_down bytes.host (no_operation ∷ []) bytes) link
 
 abbrev pub NopRepresents : Type 0
 NopRepresents = NopRepresentsBy all_items RepresentsUp
 
 -- Holds if the items represent the first messages to the host, and the others are still under way.
-pub record CameUp (heard : List WireItem → List WireItem) (Up : WireItem → ToHost → Type 0)
+pub record CameUp (heard : List WireItem → List WireItem) (Up : WireItem → ToHost → Type 0) (ignored : WireItem → Bool)
     (bytes : ByteLink) (link : Link) (items : List WireItem) : Type 0 where
   pub taken : List ToHost
   pub others : List ToHost
   pub whole : link.up ≡ taken ++ others
   pub each : Pairwise Up (heard items) taken
-  pub stands : LinkRepresentsBy heard Up bytes (record link { up = others })
+  pub stands : LinkRepresentsBy heard Up ignored bytes (record link { up = others })
 
 -- The items that arrive at the host represent the first messages, and the connection represents one with the others.
-abbrev pub UpRepresentsBy : (List WireItem → List WireItem) → (WireItem → ToHost → Type 0) → Type 0
-UpRepresentsBy heard Up = (bytes : ByteLink) (link : Link) (front behind : List ℕ) (items : List WireItem) (to : Rest)
-    → LinkRepresentsBy heard Up bytes link → link.host_here ≡ true → bytes.up ≡ front ++ behind
+abbrev pub UpRepresentsBy : (List WireItem → List WireItem) → (WireItem → ToHost → Type 0) → (WireItem → Bool) → Type 0
+UpRepresentsBy heard Up ignored = (bytes : ByteLink) (link : Link) (front behind : List ℕ) (items : List WireItem) (to : Rest)
+    → LinkRepresentsBy heard Up ignored bytes link → link.host_here ≡ true → bytes.up ≡ front ++ behind
     → Delivers record_limit bytes.host_rest front items to
-    → CameUp heard Up (record bytes { host_rest = to; up = behind }) link items
+    → CameUp heard Up ignored (record bytes { host_rest = to; up = behind }) link items
 
 abbrev pub UpRepresents : Type 0
-UpRepresents = UpRepresentsBy all_items RepresentsUp
+UpRepresents = UpRepresentsBy all_items RepresentsUp is_nop
 
 -- A connection represents one over messages after it is lost, and after an end leaves it.
 abbrev pub LossRepresents : Type 0

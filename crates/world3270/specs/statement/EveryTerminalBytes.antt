@@ -31,7 +31,8 @@ use Rattle.world3270.specs.refinement.Readings.{AreReadAs, IsReadAs}
 use Rattle.world3270.specs.statement.Rules.{Operates}
 use Rattle.world3270.specs.refinement.Sendable.{CanBeSent}
 use Rattle.world3270.specs.refinement.Representation.{conn_of, rest_of, with_out}
-use Rattle.world3270.specs.refinement.Represents.{ByteLink, LinkRepresentsBy, sized, without_commands}
+use Rattle.world3270.specs.refinement.Represents.{ByteLink, LinkRepresentsBy, sized}
+use Rattle.world3270.specs.refinement.Ignored.{is_ignored_by_terminal, without_ignored}
 use Rattle.world3270.specs.model.Terminal.{Display, TermEnd, TermStep}
 use Rattle.world3270.specs.model.TrackedTerminals.{TrackedTerminal, TrackedTakesByte}
 
@@ -139,7 +140,8 @@ pub record IsElsewhere (number : ℕ) (old new : Host) : Type 0 where
 -- One move. Bytes under way are fed to the host, which may stop before the last of them; it hands bytes over; it acts,
 -- is answered by the application, or sends a note (memory may be refused for these); it keeps the connection alive; the
 -- connection's unreported events change, as when one is handed out; something happens on other connections. The
--- terminal takes a byte, its operator does something, or it sends NOPs and other commands that the host ignores.
+-- terminal takes a byte, its operator does something, or it sends what the host only answers, by refusing an option, or
+-- ignores: commands, options but WONT TN3270E, subnegotiations of other options, and records of other types.
 pub data Moves (app : Application) (number : ℕ) (old new : OverBytes) : Type 0 where
   feeds : (bytes behind : List ℕ) (fed : Fed) (counter : ConnectionAndPool) → old.up ≡ bytes ++ behind
       → Feeds number (connection_and_pool_at number old.host) bytes fed counter
@@ -166,7 +168,7 @@ pub data Moves (app : Application) (number : ℕ) (old new : OverBytes) : Type 0
   elsewhere : (host : Host) → IsElsewhere number old.host host → new ≡ with_host host old → Moves app number old new
   takes : Takes old new → Moves app number old new
   operates : (step : TermStep) → IsOperated step old new → Moves app number old new
-  sends_commands : (bytes : List ℕ) → AreReadAs bytes [] → new ≡ record old { up = old.up ++ bytes }
+  sends_ignored : (bytes : List ℕ) → AreReadAs bytes [] → new ≡ record old { up = old.up ++ bytes }
       → Moves app number old new
 
 -- Holds if moves lead from `old` through these states to `new`.
@@ -214,7 +216,7 @@ AreMovesOf (Moves.reports events is) moves = moves ≡ []
 AreMovesOf (Moves.elsewhere host other is) moves = moves ≡ []
 AreMovesOf (Moves.takes comes) moves = All IsDown moves
 AreMovesOf (Moves.operates step does) moves = moves ≡ Move.Operate step ∷ []
-AreMovesOf (Moves.sends_commands bytes commands is) moves = moves ≡ []
+AreMovesOf (Moves.sends_ignored bytes ignored is) moves = moves ≡ []
 
 -- Holds if a list of moves over bytes is these moves over messages.
 abbrev pub AreMoves : (app : Application) (number : ℕ) (states : List OverBytes) (old new : OverBytes)
@@ -239,10 +241,11 @@ link_over number bytes = record {
   tracked = bytes.tracked;
 }
 
--- Holds if the bytes represent the connection over messages: the ends are equal, and the bytes spell its messages.
+-- Holds if the bytes represent the connection over messages: the ends are equal, and the bytes spell its messages, apart
+-- from what each end ignores.
 pub record Represents (number : ℕ) (bytes : OverBytes) (told : LinkWithReport) : Type 0 where
   pub is_open : IsOpen (state_at number bytes.host)
-  pub stands : LinkRepresentsBy without_commands IsReadAs (link_over number bytes) told.link
+  pub stands : LinkRepresentsBy without_ignored IsReadAs is_ignored_by_terminal (link_over number bytes) told.link
   pub waits : bytes.waits ≡ told.waits
   pub unnamed : told.link.term.waits ≡ false
   pub stored : CanBeSent told.link.term.display.size told.link.term.display.screen

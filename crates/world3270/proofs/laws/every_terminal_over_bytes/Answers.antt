@@ -6,4 +6,4 @@ pub returns : goal.returns
 returns c =
     let stands = c.bytes_stand_for_messages.ensures in
     let painted = c.painted_fields_are_there.ensures in
-    every_terminal_over_bytes (any_laws c.what_is_known.ensures stands.takes stands.sendable stands.nop stands.marks stands.down_taken stands.down_more c.one_reading.ensures.written c.sent_is_read.ensures painted.written painted.kept)
+    every_terminal_over_bytes (any_laws c.what_is_known.ensures stands.takes stands.sendable stands.nop stands.marks stands.down_taken c.one_reading.ensures.written c.sent_is_read.ensures painted.written painted.kept)
