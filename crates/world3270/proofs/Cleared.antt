@@ -124,6 +124,7 @@ hears_of_clear app told k any no_pa drops unpainted = by_moment k.moment k.sizes
         unreturned = k.unreturned;
         as_left = k.as_left;
         exact = k.exact;
+        unrestored = k.unrestored;
         wanted = k.wanted;
         moment = moment;
         sizes = record { host = s.host; screen = s.screen; same = s.same };
