@@ -7,6 +7,7 @@ ghost use Rattle.world3270.specs.statement.EveryTerminalBytes.{EveryTerminalOver
 ghost use Rattle.world3270.specs.statement.Instances.{ConnectionsAreMoved, WorldsBeginOverBytes, WorldsGoOnOverBytes};
 ghost use Rattle.world3270.specs.examples.Example.{TheRunsEndSo};
 ghost use Rattle.world3270.specs.examples.ExampleBytes.{ABeginIsThere};
+ghost use Rattle.world3270.specs.examples.ExampleServing.{ATurnIsThere};
 ghost use Rattle.world3270.specs.statement.Forms.{FormsAreAwaited};
 ghost use Rattle.world3270.specs.statement.Leading.{KeysLeadToOne};
 ghost use Rattle.world3270.specs.refinement.LowerLaws.{LowerLaws};
@@ -463,8 +464,8 @@ pub fn a_turn_is_moves<L: Links>()
 /// Law: the premises of `every_terminal_over_bytes` can be met. Just after the host has agreed on an LU on a connection of
 /// a world that isn't lost, and if it doesn't rely on the terminal's wait, host, terminal and the bytes under way are a
 /// begin as that theorem requires it. Also, a begin is there: of a host with one panel, and a terminal that is bound, from
-/// where moves lead on; a run of a world in which the host agrees; and a world over bytes just after agreement, which goes
-/// on.
+/// where moves lead on, and a turn of serving; a run of a world in which the host agrees; and a world over bytes just after
+/// agreement, which goes on.
 /// What happens then on the connection, until it is lost, are moves over messages that keep the rules; so `every_terminal`
 /// holds of each such connection of a world. In a world over bytes its bytes represent it. And each event over bytes that
 /// neither loses nor closes the connection is moves over bytes there; so `every_terminal_over_bytes` holds of it after any
@@ -472,6 +473,7 @@ pub fn a_turn_is_moves<L: Links>()
 pub fn worlds_begin_so()
     ensures worlds { WorldsBeginOverBytes }
     ensures example { ABeginIsThere }
+    ensures turn { ATurnIsThere }
     ensures moves { AlwaysOf ConnectionsAreMoved }
     ensures bytes { WorldsGoOnOverBytes }
     ensures events { EventsAreMoves }
