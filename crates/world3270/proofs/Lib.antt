@@ -121,3 +121,4 @@ pub mod EventsElsewhere
 pub mod WorldMoves
 pub mod RunsOfByteWorlds
 pub mod ServingMoves
+pub mod Agreeing

@@ -1,5 +1,5 @@
 -- The turn of serving of the example.
-use Rattle.std.proofs.Common.{◌≡◌, ℕ, Bool, true, false, Option, None, Some, is_some, List, [], ◌∷◌, ◌++◌, take, refl, ap, sym}
+use Rattle.std.proofs.Common.{◌≡◌, ℕ, true, Option, None, Some, is_some, List, [], ◌∷◌, ◌++◌, take, refl, ap, sym}
 use Rattle.telnet_wire.specs.Items.{sent_bytes}
 use Rattle.tn3270e_msg.specs.declared.cause.Stop.TheVariants.{Going as FeedGoing}
 use Rattle.host_core.specs.Acts.{Sent}
