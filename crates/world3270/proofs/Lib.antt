@@ -46,6 +46,7 @@ pub mod RunsOfQuestions
 pub mod RunsOfLosses
 pub mod RunsOfBytes
 pub mod RunsOfOptions
+pub mod RunsOfServing
 pub mod Runs
 pub mod RepresentsFits
 pub mod Represents
@@ -126,3 +127,4 @@ pub mod Cleared
 pub mod ClearedHost
 pub mod ClearedDown
 pub mod ClearedKeys
+pub mod Agreeing

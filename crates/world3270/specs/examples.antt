@@ -10,4 +10,5 @@ pub mod ExampleTargets
 pub mod ExampleQuestions
 pub mod ExampleLosses
 pub mod ExampleBytes
+pub mod ExampleServing
 pub mod Example

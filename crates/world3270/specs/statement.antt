@@ -26,3 +26,4 @@ pub mod EveryTerminalBytes
 pub mod Instances
 pub mod WorldMoves
 pub mod Serving
+pub mod Agreeing

@@ -7,6 +7,7 @@ ghost use Rattle.world3270.specs.statement.EveryTerminalBytes.{EveryTerminalOver
 ghost use Rattle.world3270.specs.statement.Instances.{ConnectionsAreMoved, WorldsBeginOverBytes, WorldsGoOnOverBytes};
 ghost use Rattle.world3270.specs.examples.Example.{TheRunsEndSo};
 ghost use Rattle.world3270.specs.examples.ExampleBytes.{ABeginIsThere};
+ghost use Rattle.world3270.specs.examples.ExampleServing.{ATurnIsThere};
 ghost use Rattle.world3270.specs.statement.Forms.{FormsAreAwaited};
 ghost use Rattle.world3270.specs.statement.Leading.{KeysLeadToOne};
 ghost use Rattle.world3270.specs.refinement.LowerLaws.{LowerLaws};
@@ -21,6 +22,7 @@ ghost use Rattle.world3270.specs.statement.RuleLaws.{TerminalsKeepTheRules};
 ghost use Rattle.world3270.specs.model.Places.{EndsAgree, UpIsHeld, HoldersAreHere, LinksStay, HoldersStay, PoolIsSound};
 ghost use Rattle.world3270.specs.refinement.Refines.{BeginIsReached, HeadlineIsSeen, RunsAreSimulated, SameSkips, StepsAreSimulated};
 ghost use Rattle.world3270.specs.model.TrackedTerminals.{HistoryFollows};
+ghost use Rattle.world3270.specs.statement.Agreeing.{BytesNegotiate, OnlyNegotiates};
 ghost use Rattle.world3270.specs.statement.Serving.{EveryTerminalServed, TurnsAreElsewhere, TurnsAreMoves};
 ghost use Rattle.world3270.specs.statement.WorldMoves.{EventsAreMoves, WorldsMoveOverBytes};
 ghost use Rattle.world3270.specs.refinement.Sendable.{AlwaysTyped, DataCanBeSpelt, PaintsAreScreens, PaintsAreSpelt, ScreensAreSendable, ScreensHaveASize, ValuesAreTexts};
@@ -449,6 +451,14 @@ pub fn every_terminal_over_bytes()
     telnet_wire::laws::one_reading();
 }
 
+/// Law: the host's half of a begin. Until the host has agreed on an LU it sends nothing by itself, and its session is as at
+/// the begin of the connection, but for the negotiation. So it is at the byte by which the host agrees, as `FirstPaint`
+/// requires it.
+pub fn hosts_agree_so()
+    ensures negotiate { BytesNegotiate }
+    ensures only { OnlyNegotiates }
+{}
+
 /// Law: a turn of serving a connection, as `host_core::serve_turn` promises it, is moves of `every_terminal_over_bytes`
 /// there: the host is fed the bytes that the read got, acts, keeps the event that it asks, and hands over what the write
 /// took. For each other connection it happens elsewhere. So that theorem holds after any turns of serving, with any moves
@@ -465,8 +475,8 @@ pub fn a_turn_is_moves<L: Links>()
 /// Law: the premises of `every_terminal_over_bytes` can be met. Just after the host has agreed on an LU on a connection of
 /// a world that isn't lost, and if it doesn't rely on the terminal's wait, host, terminal and the bytes under way are a
 /// begin as that theorem requires it. Also, a begin is there: of a host with one panel, and a terminal that is bound, from
-/// where moves lead on; a run of a world in which the host agrees; and a world over bytes just after agreement, which goes
-/// on.
+/// where moves lead on, and a turn of serving; a run of a world in which the host agrees; and a world over bytes just after
+/// agreement, which goes on.
 /// What happens then on the connection, until it is lost, are moves over messages that keep the rules; so `every_terminal`
 /// holds of each such connection of a world. In a world over bytes its bytes represent it. And each event over bytes that
 /// neither loses nor closes the connection is moves over bytes there; so `every_terminal_over_bytes` holds of it after any
@@ -474,6 +484,7 @@ pub fn a_turn_is_moves<L: Links>()
 pub fn worlds_begin_so()
     ensures worlds { WorldsBeginOverBytes }
     ensures example { ABeginIsThere }
+    ensures turn { ATurnIsThere }
     ensures moves { AlwaysOf ConnectionsAreMoved }
     ensures bytes { WorldsGoOnOverBytes }
     ensures events { EventsAreMoves }

@@ -119,6 +119,21 @@ offer_refused = record agreed_bytes {
 abbrev pub refusal_sent : OverBytes
 refusal_sent = record agreed_bytes { down = refusal; up = behind_offer }
 
+-- the terminal has taken these bytes of it
+abbrev pub refusal_begun : (taken behind : List ℕ) → OverBytes
+refusal_begun taken behind = record refusal_sent {
+  down = behind;
+  tracked = record bound_terminal {
+    terminal = record bound_terminal.terminal {
+      link = Attached (record { unfinished = []; partial = taken }) bound_talk;
+    };
+  };
+}
+
+-- it has taken the last one, and ignored the refusal
+abbrev pub refusal_ignored : OverBytes
+refusal_ignored = record agreed_bytes { up = behind_offer }
+
 -- ---- a world
 
 -- what `ConnectionsAreMoved` asks of a connection: whether it is lost, the LU on which the host agreed, and whether the
@@ -159,13 +174,15 @@ enter_refused =
 
 -- Holds if these bytes are a begin, of a host with sound panels, and if the host of that world has agreed: so the
 -- premises of `EveryTerminalOverBytes` and of `ConnectionsAreMoved` can be met. And if moves lead on from there: the
--- client offers an option, the host is fed that, keeps no event, and hands its refusal over. And if that world over bytes,
--- in which the host has just agreed, represents one over messages, and goes on: so can those of `WorldsMoveOverBytes`.
+-- client offers an option, the host is fed that, reports no event, and hands its refusal over, of which the terminal takes
+-- the three bytes. And if that world over bytes, in which the host has just agreed, represents one over messages, and goes
+-- on: so can those of `WorldsMoveOverBytes`.
 pub record ABeginIsThere : Type 0 where
   pub panels : AreSound one_panel
   pub begins : BeginsOverBytes (application_of one_panel) 0 l1 agreed_bytes
-  pub refuses : LeadTo (application_of one_panel) 0 (client_said ∷ offer_refused ∷ offer_refused ∷ refusal_sent ∷ [])
-      agreed_bytes refusal_sent
+  pub refuses : LeadTo (application_of one_panel) 0
+      (client_said ∷ offer_refused ∷ offer_refused ∷ refusal_sent ∷ refusal_begun (255 ∷ []) (254 ∷ 31 ∷ [])
+      ∷ refusal_begun (255 ∷ 254 ∷ []) (31 ∷ []) ∷ refusal_ignored ∷ []) agreed_bytes refusal_ignored
   pub agreed : agreed_seen agreed_world ≡ record { lost = false; lu = Some l1; any = true }
   pub reached : IsReached agreed_byte_world
   pub is_host : IsHost agreed_host

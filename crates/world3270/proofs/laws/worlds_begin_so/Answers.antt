@@ -2,6 +2,7 @@ use Rattle.world3270.proofs.AnyEvery.{takes_laws}
 use Rattle.world3270.proofs.Instances.{worlds_begin}
 use Rattle.world3270.proofs.Moved.{connections_are_moved, worlds_go_on}
 use Rattle.world3270.proofs.RunsOfBytes.{a_begin}
+use Rattle.world3270.proofs.RunsOfServing.{a_turn}
 use Rattle.world3270.proofs.WorldMoves.{events_are_moves, worlds_move}
 use Rattle.world3270.proofs.laws.worlds_begin_so.Goals as goal
 
@@ -10,6 +11,9 @@ returns-clause-worlds c = worlds_begin c.what_is_given.ensures c.panels_are_show
 
 pub returns-clause-example : goal.returns-clause-example
 returns-clause-example c = a_begin c.what_is_known.ensures c.one_reading.ensures.written c.panels_are_shown.ensures.application c.what_is_served_is_marked.ensures
+
+pub returns-clause-turn : goal.returns-clause-turn
+returns-clause-turn c = a_turn
 
 pub returns-clause-moves : goal.returns-clause-moves
 returns-clause-moves c = connections_are_moved c.what_is_given.ensures c.every_terminal.ensures c.terminals_keep_the_rules.ensures.ours c.sent_keys_wait.ensures.sends
