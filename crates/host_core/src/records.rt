@@ -28,8 +28,12 @@ use crate::unheard::Unheard;
 use arrayvec::ArrayVec;
 use codes3270::{Addr, Aid, Size, aid_byte, aid_from_byte};
 use datastream::laws::escapes_are_replaced;
-use datastream::{Command, CommandCode, Form, Inbound, WithoutEscapes, has_escapes, read_command, read_inbound};
-use shadow::laws::{what_is_believed_can_be_stored, what_is_believed_has_a_size, what_is_in_doubt_is_allowed};
+use datastream::{
+    Command, CommandCode, Form, Inbound, WithoutEscapes, has_escapes, read_command, read_inbound,
+};
+use shadow::laws::{
+    what_is_believed_can_be_stored, what_is_believed_has_a_size, what_is_in_doubt_is_allowed,
+};
 use shadow::{Rule, RuleBreak, Shadow};
 use tn3270e_msg::{Cause, DataType, HEADER_LENGTH, Header, POSITIVE, RECORD_LIMIT, read_header};
 

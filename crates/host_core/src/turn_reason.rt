@@ -5,8 +5,8 @@ use codes3270::Aid;
 pub enum TurnReason {
     /// The ends agreed on a session.
     Agreement,
-    /// A key was pressed; the flag says whether its screen was read since, by Read Buffer. `NoAid` stands for a key
-    /// without a meaning for panels, as a light pen's.
+    /// A key was pressed; the flag says whether its screen was read since, by Read Buffer. A key without a meaning for
+    /// panels, as a light pen's, is `NoAid`.
     Key(Aid, bool),
     /// The terminal refused the last command, by a negative response.
     Refusal,

@@ -222,9 +222,7 @@ impl fmt::Display for Notice {
                 };
                 write!(f, "{client} event=rule-broken rule={rule} cell={cell}")
             }
-            Notice::CharacterReplaced(client) => {
-                write!(f, "{client} event=character-replaced")
-            }
+            Notice::CharacterReplaced(client) => { write!(f, "{client} event=character-replaced") }
             Notice::ScreenRestored(client, why) => {
                 let reason = match why {
                     Disbelief::Unreadable => "unreadable",
