@@ -3,6 +3,7 @@ use Rattle.std.proofs.Common.{◌≡◌, ◌<◌, ◌∙◌, arith, ℕ, Bool, t
 use Rattle.std.proofs.lemmas.List.{get_or-set_same, length-set, set-set, set-get_or}
 use Rattle.host_core.specs.Reports.{Reports, events_of, oldest, without_oldest}
 use Rattle.host_core.specs.State.{Host, connection_at, reports_at, unused, with_reports}
+use Rattle.host_core.specs.declared.disbelief.Disbelief.{Disbelief}
 use Rattle.host_core.specs.declared.dropped_key.DroppedKey.{DroppedKey}
 use Rattle.host_core.specs.declared.event.HostEvent.{HostEvent}
 use Rattle.host_core.specs.declared.event.HostEvent.TheVariants as event
@@ -94,6 +95,7 @@ told_same client conn one other (event.Bound lu) same = refl
 told_same client conn one other (event.KeyDropped key) same = refl
 told_same client conn one other (event.RuleBroken broken) same = refl
 told_same client conn one other event.CharacterReplaced same = refl
+told_same client conn one other (event.ScreenRestored why) same = refl
 told_same client conn one other event.Asked same = refl
 told_same client conn one other event.Shown same = ap (λ (host : Host). Showed host conn ∷ []) (same refl)
 told_same client conn one other (event.Closed cause) same = refl
