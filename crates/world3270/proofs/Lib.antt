@@ -122,3 +122,4 @@ pub mod WorldMoves
 pub mod RunsOfByteWorlds
 pub mod ServingMoves
 pub mod Agreeing
+pub mod AgreeingTurns
