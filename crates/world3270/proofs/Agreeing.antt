@@ -70,7 +70,7 @@ data Becomes (app : Application) (serves : Terminals) (service : Service) : Type
   is_still : (rest : Rest) (conn : Session) → service ≡ Service.Open rest conn → IsFresh app serves conn → Becomes app serves service
   closes : (cause : Cause) → service ≡ Service.Closed cause → Becomes app serves service
 
-open_parts : (rest to : Rest) (conn other : Session) → Service.Open rest conn ≡ Service.Open to other → conn ≡ other
+pub open_parts : (rest to : Rest) (conn other : Session) → Service.Open rest conn ≡ Service.Open to other → conn ≡ other
 open_parts rest to conn other e = cc
 
 still_fresh : (app : Application) (serves : Terminals) (conn now : Session) → IsFresh app serves conn → now ≡ record conn { talk = now.talk } → IsFresh app serves now

@@ -128,3 +128,4 @@ pub mod ClearedHost
 pub mod ClearedDown
 pub mod ClearedKeys
 pub mod Agreeing
+pub mod AgreeingTurns

@@ -13,7 +13,7 @@ use Rattle.host_core.specs.Acts.{Sent}
 use Rattle.host_core.specs.Application.{Application, application_of}
 use Rattle.host_core.specs.Bytes.{ConnectionAndPool, TakesByte, TakesBytes}
 use Rattle.host_core.specs.Does.{Does, acted_by, asks, with_asked, with_conn}
-use Rattle.host_core.specs.Feeds.{IsOpen, StopsFor, connection_and_pool_at}
+use Rattle.host_core.specs.Feeds.{Feeds, IsOpen, StopsFor, connection_and_pool_at, with_connection_and_pool}
 use Rattle.host_core.specs.Reports.{with_question}
 use Rattle.host_core.specs.Serves.{ActsHost, FeedsHost, Responds, SendsOut, Serves, sent_from, taken_by}
 use Rattle.host_core.specs.Session.{Session}
@@ -34,7 +34,7 @@ use Rattle.world3270.proofs.AnyHosts.{lead_on, lead_panels}
 -- ---- what a turn leaves of a number that is open
 
 -- a number's service stays, if its connection changes elsewhere
-same_service : (connections : List Connection) (number : ℕ) (connection : Connection) → connection.service ≡ (get_or connections number unused).service
+pub same_service : (connections : List Connection) (number : ℕ) (connection : Connection) → connection.service ≡ (get_or connections number unused).service
     → (get_or (set connections number connection) number unused).service ≡ (get_or connections number unused).service
 same_service [] number connection same = refl
 same_service (first ∷ rest) zero connection same = same
@@ -46,7 +46,7 @@ open_before conn (Service.Open rest old) is = tt
 open_before conn (Service.Closed cause) is = is
 
 -- what is open after an act was open before
-acts_open : (what : Option Sent) (old : Connection) (did : Acted) (new : Connection) → Does what old did new → IsOpen new.service → IsOpen old.service
+pub acts_open : (what : Option Sent) (old : Connection) (did : Acted) (new : Connection) → Does what old did new → IsOpen new.service → IsOpen old.service
 acts_open None old did new does is = subst (λ (c : Connection). IsOpen c.service) does.1 is
 acts_open (Some sending) old acted_as.Sent new does is = open_before sending.conn old.service (subst (λ (c : Connection). IsOpen c.service) does is)
 acts_open (Some sending) old acted_as.Memory new does is = subst (λ (c : Connection). IsOpen c.service) does.0 is
@@ -137,8 +137,27 @@ module _ (granted : StaysSoundGranted) (back : StaysSoundBack) where
 -- ---- the moves
 
 -- these bytes are under way
-abbrev at_host : Host → (down up : List ℕ) → TrackedTerminal → Bool → OverBytes
+abbrev pub at_host : Host → (down up : List ℕ) → TrackedTerminal → Bool → OverBytes
 at_host host down up tracked waits = record { host = host; down = down; up = up; tracked = tracked; waits = waits }
+
+-- the host is fed bytes, and changes nowhere else
+pub record FedSo (number : ℕ) (old : Host) (bytes : List ℕ) (fed : Fed) (new : Host) : Type 0 where
+  pub feeds : Feeds number (connection_and_pool_at number old) bytes fed (connection_and_pool_at number new)
+  pub others : new ≡ with_connection_and_pool number (connection_and_pool_at number new) old
+
+-- the response to them, as in `Responds`
+pub data RespondsSo (number : ℕ) (old : Host) (bytes : List ℕ) (sound : Bool) (new : Host) : Type 0 where
+  is_unfed : (fed : Fed) → FedSo number old bytes fed new → sound ≡ false → RespondsSo number old bytes sound new
+  is_idle : (fed : Fed) (mid : Host) → FedSo number old bytes fed mid → ActsHost number mid acted_as.Memory new → sound ≡ false → RespondsSo number old bytes sound new
+  is_acting : (fed : Fed) (mid done : Host) (did : Acted) → FedSo number old bytes fed mid → (fed.stop ≢ stop.Memory) → ActsHost number mid did done → new ≡ with_asked number done → RespondsSo number old bytes sound new
+
+pub fed_so : (number : ℕ) (old : Host) (bytes : List ℕ) (fed : Fed) (new : Host) → FeedsHost number old bytes fed new → FedSo number old bytes fed new
+fed_so number old bytes fed new feeds = record { feeds = feeds.feeds; others = feeds.others }
+
+responds_so : (number : ℕ) (old : Host) (bytes : List ℕ) (sound : Bool) (new : Host) → Responds number old bytes sound new → RespondsSo number old bytes sound new
+responds_so number old bytes sound new (Responds.unfed fed feeds memory short) = RespondsSo.is_unfed fed (fed_so number old bytes fed new feeds) short
+responds_so number old bytes sound new (Responds.idle fed mid feeds more acts short) = RespondsSo.is_idle fed mid (fed_so number old bytes fed mid feeds) acts short
+responds_so number old bytes sound new (Responds.acts fed mid done did feeds more acts able asked whole) = RespondsSo.is_acting fed mid done did (fed_so number old bytes fed mid feeds) more acts asked
 
 module _ (app : Application) (number : ℕ) (tracked : TrackedTerminal) (waits : Bool) where
   -- moves that the host's response is, and what it leaves unread
@@ -148,7 +167,7 @@ module _ (app : Application) (number : ℕ) (tracked : TrackedTerminal) (waits :
     lead : LeadTo app number states (at_host old down (bytes ++ behind) tracked waits) (at_host new down (unread ++ behind) tracked waits)
     all_read : sound ≡ true → IsOpen (state_at number new) → unread ≡ []
 
-  feeds_move : (old : Host) (bytes : List ℕ) (fed : Fed) (new : Host) (down behind : List ℕ) → FeedsHost number old bytes fed new
+  feeds_move : (old : Host) (bytes : List ℕ) (fed : Fed) (new : Host) (down behind : List ℕ) → FedSo number old bytes fed new
       → Moves app number (at_host old down (bytes ++ behind) tracked waits) (at_host new down (drop fed.taken bytes ++ behind) tracked waits)
   feeds_move old bytes fed new down behind feeds =
       Moves.feeds bytes behind fed (connection_and_pool_at number new) refl feeds.feeds (ap (λ (h : Host). at_host h down (drop fed.taken bytes ++ behind) tracked waits) feeds.others)
@@ -163,14 +182,14 @@ module _ (app : Application) (number : ℕ) (tracked : TrackedTerminal) (waits :
   asks_move old new down up is =
       Moves.reports (with_question (asks (application_of old.panels) (state_at number old)) (reports_at number old)) (ap (λ (h : Host). at_host h down up tracked waits) is)
 
-  responds_moves : (old : Host) (bytes : List ℕ) (sound : Bool) (new : Host) (down behind : List ℕ) → application_of old.panels ≡ app → Responds number old bytes sound new → Responded old new bytes down behind sound
-  responds_moves old bytes sound new down behind same (Responds.unfed fed feeds memory short) = record {
+  responds_moves : (old : Host) (bytes : List ℕ) (sound : Bool) (new : Host) (down behind : List ℕ) → application_of old.panels ≡ app → RespondsSo number old bytes sound new → Responded old new bytes down behind sound
+  responds_moves old bytes sound new down behind same (RespondsSo.is_unfed fed feeds short) = record {
     unread = drop fed.taken bytes;
     states = at_host new down (drop fed.taken bytes ++ behind) tracked waits ∷ [];
     lead = (feeds_move old bytes fed new down behind feeds, refl);
     all_read = λ whole. absurd (let both = sym whole ∙ short in cc);
   }
-  responds_moves old bytes sound new down behind same (Responds.idle fed mid feeds more acts short) =
+  responds_moves old bytes sound new down behind same (RespondsSo.is_idle fed mid feeds acts short) =
       let up : List ℕ = drop fed.taken bytes ++ behind in
       let panels : application_of mid.panels ≡ app = ap (λ (h : Host). application_of h.panels) feeds.others ∙ same in
       record {
@@ -179,7 +198,7 @@ module _ (app : Application) (number : ℕ) (tracked : TrackedTerminal) (waits :
         lead = (feeds_move old bytes fed mid down behind feeds, (acts_move mid _ new down up panels acts, refl));
         all_read = λ whole. absurd (let both = sym whole ∙ short in cc);
       }
-  responds_moves old bytes sound new down behind same (Responds.acts fed mid done did feeds more acts able asked whole) =
+  responds_moves old bytes sound new down behind same (RespondsSo.is_acting fed mid done did feeds more acts asked) =
       let up : List ℕ = drop fed.taken bytes ++ behind in
       let panels : application_of mid.panels ≡ app = ap (λ (h : Host). application_of h.panels) feeds.others ∙ same in
       record {
@@ -222,6 +241,35 @@ module _ {L : Type 0} (gave : L → ℕ → ℕ → List ℕ → LinkRead → L 
         still = λ here. subst IsOpen (ap (state_at number) is ∙ same_service old.connections number _ refl) here;
       }
 
+  -- what a turn does once it has read these bytes
+  pub starved_from : (old : Host) (links : L) (bytes : List ℕ) (answer : Served) (new : Host) (left : L) → RespondsSo number old bytes false new → down left ≡ down links → answer ≡ served.Memory
+      → IsTurn number (at_host old (down links) (bytes ++ up left) tracked waits) (over_queues gave took up down new left tracked waits) answer
+  starved_from old links bytes answer new left responds same memory =
+      let app : Application = application_of old.panels in
+      let one = responds_moves app number tracked waits old bytes false new (down links) (up left) refl responds in
+      record {
+        unread = one.unread;
+        states = one.states;
+        lead = subst (λ (d : List ℕ). LeadTo app number one.states (at_host old (down links) (bytes ++ up left) tracked waits) (at_host new d (one.unread ++ up left) tracked waits)) (sym same) one.lead;
+        all_read = λ here able. absurd (able memory);
+      }
+
+  pub served_from : (old : Host) (links : L) (bytes : List ℕ) (mid : Host) (between : L) (answer : Served) (new : Host) (left : L) → RespondsSo number old bytes true mid → down between ≡ down links
+      → SendsOut gave took number mid between new left → IsTurn number (at_host old (down links) (bytes ++ up between) tracked waits) (over_queues gave took up down new left tracked waits) answer
+  served_from old links bytes mid between answer new left responds same sends =
+      let app : Application = application_of old.panels in
+      let one = responds_moves app number tracked waits old bytes true mid (down links) (up between) refl responds in
+      let out = sends_moves app mid between new left one.unread sends in
+      let first : LeadTo app number one.states (at_host old (down links) (bytes ++ up between) tracked waits) (at_host mid (down between) (one.unread ++ up between) tracked waits) =
+      subst (λ (d : List ℕ). LeadTo app number one.states (at_host old (down links) (bytes ++ up between) tracked waits) (at_host mid d (one.unread ++ up between) tracked waits)) (sym same) one.lead in
+      record {
+        unread = one.unread;
+        states = one.states ++ out.states;
+        lead = lead_on app number one.states out.states (at_host old (down links) (bytes ++ up between) tracked waits) (at_host mid (down between) (one.unread ++ up between) tracked waits)
+            (at_host new (down left) (one.unread ++ up left) tracked waits) first out.lead;
+        all_read = λ here able. one.all_read refl (out.still here);
+      }
+
   turn_is_moves : (old : Host) (links : L) (answer : Served) (new : Host) (left : L) → Serves gave took number old links answer new left
       → IsTurn number (over_queues gave took up down old links tracked waits) (over_queues gave took up down new left tracked waits) answer
   turn_is_moves old links answer new left (Serves.over got gives goes same lost) =
@@ -235,31 +283,13 @@ module _ {L : Type 0} (gave : L → ℕ → ℕ → List ℕ → LinkRead → L 
         all_read = λ here able. refl;
       }
   turn_is_moves old links answer new left (Serves.starved got bytes gives goes responds memory) =
-      let app : Application = application_of old.panels in
       let read = queues.reads links left _ bytes got gives in
-      let one = responds_moves app number tracked waits old bytes false new (down links) (up left) refl responds in
-      record {
-        unread = one.unread;
-        states = one.states;
-        lead = subst (λ (u : List ℕ). LeadTo app number one.states (at_host old (down links) u tracked waits) (at_host new (down left) (one.unread ++ up left) tracked waits)) (sym read.0)
-            (subst (λ (d : List ℕ). LeadTo app number one.states (at_host old (down links) (bytes ++ up left) tracked waits) (at_host new d (one.unread ++ up left) tracked waits)) (sym read.1) one.lead);
-        all_read = λ here able. absurd (able memory);
-      }
+      subst (λ (u : List ℕ). IsTurn number (at_host old (down links) u tracked waits) (over_queues gave took up down new left tracked waits) answer) (sym read.0)
+      (starved_from old links bytes answer new left (responds_so number old bytes false new responds) read.1 memory)
   turn_is_moves old links answer new left (Serves.served got bytes mid between gives goes responds sends other) =
-      let app : Application = application_of old.panels in
       let read = queues.reads links between _ bytes got gives in
-      let one = responds_moves app number tracked waits old bytes true mid (down links) (up between) refl responds in
-      let out = sends_moves app mid between new left one.unread sends in
-      let first : LeadTo app number one.states (at_host old (down links) (up links) tracked waits) (at_host mid (down between) (one.unread ++ up between) tracked waits) =
-      subst (λ (u : List ℕ). LeadTo app number one.states (at_host old (down links) u tracked waits) (at_host mid (down between) (one.unread ++ up between) tracked waits)) (sym read.0)
-      (subst (λ (d : List ℕ). LeadTo app number one.states (at_host old (down links) (bytes ++ up between) tracked waits) (at_host mid d (one.unread ++ up between) tracked waits)) (sym read.1) one.lead) in
-      record {
-        unread = one.unread;
-        states = one.states ++ out.states;
-        lead = lead_on app number one.states out.states (at_host old (down links) (up links) tracked waits) (at_host mid (down between) (one.unread ++ up between) tracked waits)
-            (at_host new (down left) (one.unread ++ up left) tracked waits) first out.lead;
-        all_read = λ here able. one.all_read refl (out.still here);
-      }
+      subst (λ (u : List ℕ). IsTurn number (at_host old (down links) u tracked waits) (over_queues gave took up down new left tracked waits) answer) (sym read.0)
+      (served_from old links bytes mid between answer new left (responds_so number old bytes true mid responds) read.1 sends)
 
 pub turns_are_moves : {L : Type 0} (gave : L → ℕ → ℕ → List ℕ → LinkRead → L → Type 0) (took : L → ℕ → List ℕ → LinkWrite → L → Type 0) → TurnsAreMoves gave took
 turns_are_moves gave took number up down queues old links answer new left serves tracked waits =

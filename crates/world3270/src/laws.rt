@@ -22,7 +22,7 @@ ghost use Rattle.world3270.specs.statement.RuleLaws.{TerminalsKeepTheRules};
 ghost use Rattle.world3270.specs.model.Places.{EndsAgree, UpIsHeld, HoldersAreHere, LinksStay, HoldersStay, PoolIsSound};
 ghost use Rattle.world3270.specs.refinement.Refines.{BeginIsReached, HeadlineIsSeen, RunsAreSimulated, SameSkips, StepsAreSimulated};
 ghost use Rattle.world3270.specs.model.TrackedTerminals.{HistoryFollows};
-ghost use Rattle.world3270.specs.statement.Agreeing.{BytesNegotiate, OnlyNegotiates};
+ghost use Rattle.world3270.specs.statement.Agreeing.{BytesNegotiate, OnlyNegotiates, TurnsNegotiate};
 ghost use Rattle.world3270.specs.statement.Serving.{EveryTerminalServed, TurnsAreElsewhere, TurnsAreMoves};
 ghost use Rattle.world3270.specs.statement.WorldMoves.{EventsAreMoves, WorldsMoveOverBytes};
 ghost use Rattle.world3270.specs.refinement.Sendable.{AlwaysTyped, DataCanBeSpelt, PaintsAreScreens, PaintsAreSpelt, ScreensAreSendable, ScreensHaveASize, ValuesAreTexts};
@@ -453,10 +453,11 @@ pub fn every_terminal_over_bytes()
 
 /// Law: the host's half of a begin. Until the host has agreed on an LU it sends nothing by itself, and its session is as at
 /// the begin of the connection, but for the negotiation. So it is at the byte by which the host agrees, as `FirstPaint`
-/// requires it.
-pub fn hosts_agree_so()
+/// requires it; and what a turn of serving does after that byte is moves.
+pub fn hosts_agree_so<L: Links>()
     ensures negotiate { BytesNegotiate }
     ensures only { OnlyNegotiates }
+    ensures turns { TurnsNegotiate L.gave L.took }
 {}
 
 /// Law: a turn of serving a connection, as `host_core::serve_turn` promises it, is moves of `every_terminal_over_bytes`
