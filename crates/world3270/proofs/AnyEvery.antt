@@ -148,6 +148,7 @@ module _ (laws : AnyLaws) (app : Application) (is : IsApplication app) (asks : W
         none = may.1;
         same = same_now given app is sizes lu t good.simulated;
         agreed = ap (λ (c : Session). is_agreed c.talk.state) good.simulated.simulates.host ∙ agrees_now good.simulated;
+        uncleared = good.simulated.uncleared;
         comes_up = queue.comes_up t good.simulated good.texts good.queued;
         hears = hears_now given app is sizes lu t good.simulated;
         acts = acts_encodable paint bounded given app is asks sizes lu t good.simulated good.texts;

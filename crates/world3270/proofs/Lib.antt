@@ -118,7 +118,9 @@ pub mod WorldMoves
 pub mod RunsOfByteWorlds
 pub mod WithoutClear
 pub mod ClearedQueue
+pub mod ClearsDue
 pub mod Cleared
 pub mod ClearedHost
 pub mod ClearedDown
 pub mod ClearedKeys
+pub mod Repeating

@@ -19,7 +19,7 @@ use Rattle.tn3270e_msg.specs.declared.cause.Cause.{Cause}
 use Rattle.host_core.specs.Application.{Application, IsApplication, message_place}
 use Rattle.host_core.specs.Messages.{ToHost, ToTerminal, Verdict}
 use Rattle.host_core.specs.Takes.{is_after_pa, is_read_believed}
-use Rattle.world3270.specs.statement.EveryTerminal.{LinkWithReport, is_pa, paint_executed, told_if}
+use Rattle.world3270.specs.statement.EveryTerminal.{LinkWithReport, is_pa, once_shown, paint_executed, told_after, told_if}
 use Rattle.world3270.specs.refinement.LowerLaws.{LowerLaws}
 use Rattle.world3270.specs.model.Link.{Link, sent, term_left_if, term_stepped}
 use Rattle.world3270.specs.refinement.Invariant.{ConnectionInvariant}
@@ -48,6 +48,13 @@ module _ (given : LowerLaws) (app : Application) (is : IsApplication app) (lu : 
   -- once the message is taken
   abbrev taken_so : Bool → ToTerminal → TermStep → List ToTerminal → LinkWithReport
   taken_so is_bound message step rest = told_if is_bound message t (term_stepped (once_bound is_bound step now.term) rest now)
+
+  -- once a paint is taken
+  abbrev shown_so : Bool → ℕ → WantedScreen → Shadow → TermStep → List ToTerminal → LinkWithReport
+  shown_so cleared number wanted over step rest =
+      let message : ToTerminal = ToTerminal.Paint number wanted over in
+      let link : Link = term_stepped step rest now in
+      record { link = link; told = told_after message cleared t.told link.term.display; waits = once_shown message cleared t.waits; cleared = once_shown message cleared cleared }
 
   -- at a bound terminal
   bound_now : is_bound end.term ≡ true → is_bound now.term ≡ true
@@ -126,7 +133,7 @@ module _ (given : LowerLaws) (app : Application) (is : IsApplication app) (lu : 
       let kept : ConnectionInvariant app (view_of (term_view step rest end)) =
       paints_on given app is end rest s.kept comes.lu number comes.command wanted over comes.at comes.fact comes.asked comes.left screen meets (λ waits. absurd (let wrong : false ≡ true = sym s.unsure ∙ waits in cc)) in
       let cells : length wanted.cells ≡ cells_in wanted.size = comes.fact.paintable.showable.cells ∙ ap (λ (shape : ScreenSize). cells_in shape) (sym comes.fact.paintable.showable.size) in
-      let goes : Simulated app lu (taken_so true (ToTerminal.Paint number wanted over) (paint_came number wanted now.term) rest) =
+      let goes : Simulated app lu (shown_so false number wanted over (paint_came number wanted now.term) rest) =
       record {
         told = term_view step rest end;
         kept = kept;
@@ -152,7 +159,8 @@ module _ (given : LowerLaws) (app : Application) (is : IsApplication app) (lu : 
         };
       } in
       subst (λ (b : Bool). Simulated app lu (taken_so b (ToTerminal.Paint number wanted over) (paint_executed number wanted over now.term) rest)) (sym (bound_now (bound end s.kept.wanted comes.lu _ comes.at)))
-      (subst (λ (drawn : Screen). Simulated app lu (taken_so true (ToTerminal.Paint number wanted over) (drawn_so number wanted drawn) rest)) (sym (given.belief.painted over wanted screen cells comes.fact.paintable.fits meets)) goes)
+      (subst (λ (cleared : Bool). Simulated app lu (shown_so cleared number wanted over (paint_executed number wanted over now.term) rest)) (sym s.uncleared)
+      (subst (λ (drawn : Screen). Simulated app lu (shown_so false number wanted over (drawn_so number wanted drawn) rest)) (sym (given.belief.painted over wanted screen cells comes.fact.paintable.fits meets)) goes))
 
   -- ---- a Read Buffer
 
