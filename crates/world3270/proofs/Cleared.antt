@@ -1,9 +1,10 @@
 -- A terminal at which Clear was pressed in the wait, beside one that waits and displays what was told: the screens differ, but the host paints
 -- the next panel whole.
-use Rattle.std.proofs.Common.{◌≡◌, ◌||◌, not, ℕ, Bool, true, false, Some, List, [], ◌∷◌, refl, ap, sym, subst, ◌∙◌}
+use Rattle.std.proofs.Common.{◌≡◌, ◌||◌, not, ℕ, Bool, true, false, Some, List, [], ◌∷◌, length, refl, ap, sym, subst, ◌∙◌}
 use Rattle.std.specs.Prelude.{is_some}
 use Rattle.codes3270.specs.Size.{ScreenSize}
 use Rattle.codes3270.specs.declared.attention.Aid.{Aid}
+use Rattle.datastream.specs.Fields.{fields}
 use Rattle.datastream.specs.Grammar.{CommandParts}
 use Rattle.datastream.specs.Screen.{Screen}
 use Rattle.keyboard.specs.declared.key.Lock.TheVariants.{Wait}
@@ -49,6 +50,11 @@ pub data Stage (t : LinkWithReport) (told : Link) (said : List ToHost) : Type 0 
   gone : t.cleared ≡ true → told.term.display.keyboard.lock ≡ Wait → is_pa t.told.screen.aid ≡ false → Fate told said t.link → Stage t told said
   erased : t.cleared ≡ false → erases told.host.pending ≡ true → told.down ≡ [] → Since told.term.display t.link.term.display → Stage t told said
 
+-- A screen that Clear nulled has no fields, whatever was typed since; or an erase over nothing is under way.
+pub data IsPlain (told : Link) (screen : Screen) : Type 0 where
+  bare : fields screen.cells ≡ [] → length screen.cells ≡ length told.term.display.screen.cells → IsPlain told screen
+  over_nothing : told.host.shadow ≡ Shadow.NothingKnown → is_painting told.host.pending ≡ true → told.up ≡ [] → IsPlain told screen
+
 -- What is displayed differs in the screen alone, unless the screen was painted again by a paint that Clear crossed, and the next one is under
 -- way.
 abbrev pub DisplaysAlike : (told now : Link) → Type 0
@@ -78,6 +84,7 @@ pub record Cleared (app : Application) (lu : List ℕ) (t : LinkWithReport) : Ty
   pub stage : Stage t told up.said
   pub model : t.link.term.display.model ≡ told.term.display.model
   pub rest : DisplaysAlike told t.link
+  pub plain : t.cleared ≡ true → IsPlain told t.link.term.display.screen
 
 -- the terminal beside which one waits: Clear was pressed in the wait, or not
 pub data Follows (app : Application) (lu : List ℕ) (t : LinkWithReport) : Type 0 where
@@ -234,8 +241,8 @@ paint_answers app link first others k paints e = by_moment k.moment k.at k.fact 
 pub still_cleared : (app : Application) (lu : List ℕ) (t : LinkWithReport) (c : Cleared app lu t) (told link : Link) (clears : Bool) → told.term ≡ c.told.term → link.term ≡ t.link.term → link.term_here ≡ t.link.term_here → link.host_here ≡ t.link.host_here
     → ConnectionInvariant app (view_of told) → told.host.talk ≡ c.told.host.talk → may_have_changed told.host.unheard ≡ true → HostsAlike told link.host → link.lost ≡ told.lost → link.down ≡ told.down
     → HostReturns told.host → (says : SaysToo clears t.cleared told.host told.up link.up) → Stage (record t { link = link }) told says.said
-    → ((is_painting told.host.pending ≡ true → told.up ≡ [] → ⊥) → is_painting c.told.host.pending ≡ true → c.told.up ≡ [] → ⊥) → Cleared app lu (record t { link = link })
-still_cleared app lu t c told link clears told_term link_term term_here host_here kept talk any host lost down returning up stage before = record {
+    → ((is_painting told.host.pending ≡ true → told.up ≡ [] → ⊥) → is_painting c.told.host.pending ≡ true → c.told.up ≡ [] → ⊥) → (IsPlain c.told t.link.term.display.screen → IsPlain told t.link.term.display.screen) → Cleared app lu (record t { link = link })
+still_cleared app lu t c told link clears told_term link_term term_here host_here kept talk any host lost down returning up stage before plain = record {
   told = told;
   kept = kept;
   agreed = ap (λ talk. agreed_lu talk.state) talk ∙ c.agreed;
@@ -259,4 +266,5 @@ still_cleared app lu t c told link clears told_term link_term term_here host_her
   rest = λ shown.
       subst (λ (term : TermEnd). link.term.display ≡ record term.display { screen = link.term.display.screen; keyboard = link.term.display.keyboard; erased = link.term.display.erased }) (sym told_term)
       (subst (λ (term : TermEnd). term.display ≡ record c.told.term.display { screen = term.display.screen; keyboard = term.display.keyboard; erased = term.display.erased }) (sym link_term) (c.rest (before shown)));
+  plain = λ cleared. subst (λ (term : TermEnd). IsPlain told term.display.screen) (sym link_term) (plain (c.plain cleared));
 }

@@ -1,10 +1,13 @@
 -- What comes down after Clear in the wait: a paint over nothing erases, so that both terminals display the same then.
-use Rattle.std.proofs.Common.{◌≡◌, ◌<◌, inr, ℕ, Bool, true, false, None, List, [], ◌∷◌, ◌++◌, length, refl, ap, sym, subst, ◌∙◌, if◌then◌else◌}
+use Rattle.std.proofs.Common.{◌≡◌, ◌<◌, inr, ℕ, Bool, true, false, None, Option, List, [], ◌∷◌, ◌++◌, length, refl, ap, sym, subst, ◌∙◌, if◌then◌else◌}
 use Rattle.std.specs.Prelude.{is_some}
 use Rattle.codes3270.specs.Size.{ScreenSize, cells_in}
 use Rattle.datastream.specs.Grammar.{CommandParts}
 use Rattle.datastream.specs.Meaning.{after_command}
-use Rattle.datastream.specs.Screen.{Screen}
+use Rattle.datastream.proofs.FieldViews.{no_attribute, none_listed}
+use Rattle.datastream.specs.Screen.{Screen, is_char}
+use Rattle.std.specs.List.{list_all}
+use Rattle.host_core.specs.NoteLaws.{TakesNotes}
 use Rattle.datastream.specs.Wanted.{WantedScreen}
 use Rattle.codes3270.specs.declared.size.Model.{Model}
 use Rattle.keyboard.specs.State.{Keyboard, freed}
@@ -12,6 +15,7 @@ use Rattle.keyboard.specs.declared.key.Lock.TheVariants.{Wait}
 use Rattle.shadow.specs.Belief.{Shadow}
 use Rattle.shadow.specs.Exactness.{is_erase}
 use Rattle.shadow.specs.Meets.{Meets}
+use Rattle.shadow.specs.Paint.{paint}
 use Rattle.shadow.specs.Painted.{plainly_painted}
 use Rattle.tn3270e_msg.specs.Talk.{NegotiationMessage}
 use Rattle.tn3270e_msg.specs.TermTable.{Term}
@@ -19,7 +23,7 @@ use Rattle.host_core.specs.Application.{Application, IsApplication}
 use Rattle.host_core.specs.Messages.{ToHost, ToTerminal, Verdict}
 use Rattle.host_core.specs.Session.{Pending, Session}
 use Rattle.host_core.specs.Takes.{may_be_read}
-use Rattle.world3270.specs.statement.EveryTerminal.{LinkWithReport, is_pa, once_shown, paint_executed, told_after, told_if}
+use Rattle.world3270.specs.statement.EveryTerminal.{IsWithoutFields, LinkWithReport, is_pa, once_shown, paint_executed, told_after, told_if}
 use Rattle.world3270.specs.statement.Shown.{is_painting}
 use Rattle.world3270.specs.refinement.LowerLaws.{LowerLaws}
 use Rattle.world3270.specs.model.Link.{Link, sent, term_stepped}
@@ -27,17 +31,17 @@ use Rattle.world3270.specs.refinement.Invariant.{ConnectionInvariant}
 use Rattle.world3270.specs.refinement.Phases.{IsAt, IsInFlight, LinkPhase, SessionPhase}
 use Rattle.world3270.specs.model.Terminal.{Display, TermEnd, TermStep, bound_to, is_bound, note_came, once_bound, paint_came, talked}
 use Rattle.world3270.specs.refinement.View.{view_of}
-use Rattle.world3270.proofs.Cleared.{Cleared, HostsAlike, Stage, agrees_still}
-use Rattle.world3270.proofs.ClearedHost.{nothing_erases}
+use Rattle.world3270.proofs.Cleared.{Cleared, HostsAlike, IsPlain, Stage, agrees_still}
 use Rattle.world3270.proofs.ClearedQueue.{AddsKeys, SaysToo, any_later, both_say_too, erases, says_last}
 use Rattle.world3270.proofs.ClearsDue.{Fate, clears_due, clears_in, due_answered}
 use Rattle.world3270.proofs.ComesDown.{NoteComes, PaintComes, note_comes, paint_comes}
 use Rattle.world3270.proofs.Down.{bound, paints_on, shape_of_model, showing, term_view}
+use Rattle.world3270.proofs.NotesHeld.{bare_held, no_attributes}
 use Rattle.world3270.proofs.Obeys.{obeys}
 use Rattle.world3270.proofs.Queues.{empty_queue, front, nothing}
 use Rattle.world3270.proofs.SecondKeys.{SaysAlike, alike_silent}
 use Rattle.world3270.proofs.Simulation.{Since, since_same}
-use Rattle.world3270.proofs.TalkStates.{talking_unbound}
+use Rattle.world3270.proofs.SimulatedDown.{talk_over}
 
 unpainted_erases : (pending : Pending) → is_painting pending ≡ false → erases pending ≡ false
 unpainted_erases Pending.Nothing unpainted = refl
@@ -45,35 +49,9 @@ unpainted_erases (Pending.Reading number) unpainted = refl
 unpainted_erases (Pending.Noting number command) unpainted = refl
 unpainted_erases (Pending.Writing number command) unpainted = absurd (cc)
 
--- ---- where a terminal is bound, nothing of the talk comes down
+-- ---- what is under way
 
-talk_over : (app : Application) (link : Link) → ConnectionInvariant app (view_of link) → is_bound link.term ≡ true → (saying : NegotiationMessage) (rest : List ToTerminal) → link.down ≡ ToTerminal.TalksDown saying ∷ rest → ⊥
-talk_over app link k bound_here saying rest e = by_moment k.moment k.at
-  where
-    message : ToTerminal
-    message = ToTerminal.TalksDown saying
-
-    by_serving : (lu : List ℕ) (serving : SessionPhase) → IsAt (view_of link) k.wanted (LinkPhase.InSession lu serving) → ⊥
-    by_serving lu (SessionPhase.Reading number) at = absurd (let clash = (front link.lost link.down message rest _ [] e at.goes_down).0 in cc)
-    by_serving lu (SessionPhase.DecidingNoteSent number command) at = absurd (let clash = (front link.lost link.down message rest _ [] e at.goes_down).0 in cc)
-    by_serving lu (SessionPhase.Painting number command wanted over) at = absurd (let clash = (front link.lost link.down message rest _ [] e at.goes_down).0 in cc)
-    by_serving lu (SessionPhase.Noting number command) at = absurd (let clash = (front link.lost link.down message rest _ [] e at.goes_down).0 in cc)
-    by_serving lu (SessionPhase.KeyCrossingNote number command parts) at = absurd (let clash = (front link.lost link.down message rest _ [] e at.goes_down).0 in cc)
-    by_serving lu SessionPhase.Deciding at = nothing link.lost link.down message rest e at.goes_down
-    by_serving lu (SessionPhase.BufferReturning number parts) at = nothing link.lost link.down message rest e at.goes_down
-    by_serving lu (SessionPhase.DecidingNoteAnswered number command) at = nothing link.lost link.down message rest e at.goes_down
-    by_serving lu (SessionPhase.AwaitingWriteResponse kind number command) at = nothing link.lost link.down message rest e at.goes_down
-    by_serving lu SessionPhase.OperatorTyping at = nothing link.lost link.down message rest e at.goes_down
-    by_serving lu (SessionPhase.KeySent parts) at = nothing link.lost link.down message rest e at.goes_down
-    by_serving lu (SessionPhase.KeySentAfterResponse kind number command parts) at = nothing link.lost link.down message rest e at.goes_down
-    by_serving lu (SessionPhase.KeyBeforeNoteResponse number command parts) at = nothing link.lost link.down message rest e at.goes_down
-
-    by_moment : (moment : LinkPhase) → IsAt (view_of link) k.wanted moment → ⊥
-    by_moment (LinkPhase.Negotiating talking) at = talking_unbound link.term.display.model k.wanted talking link.term.talk at.term_talk bound_here
-    by_moment (LinkPhase.FirstPaint lu number command wanted over) at = absurd (let wrong : false ≡ true = sym (ap (λ state. is_some (bound_to state)) at.term_talk) ∙ bound_here in cc)
-    by_moment (LinkPhase.InSession lu serving) at = by_serving lu serving at
-
--- while a note is under way, unpainted paint waits for its answer
+-- while a note is under way, no paint waits for its answer
 note_unpainted : (app : Application) (link : Link) (number : ℕ) (command : CommandParts) (rest : List ToTerminal) → link.down ≡ ToTerminal.Note number command ∷ rest → ConnectionInvariant app (view_of link) → is_bound link.term ≡ true
     → is_painting link.host.pending ≡ false
 note_unpainted app link number command rest e k bound_here = by_moment k.moment k.at
@@ -163,13 +141,13 @@ module _ (given : LowerLaws) (app : Application) (is : IsApplication app) (lu : 
       by_stage (Stage.gone cleared locked no_pa fate) = (cleared, locked, no_pa, fate)
       by_stage (Stage.erased uncleared erasing silent since) = absurd (let wrong = sym silent ∙ (sym c.down ∙ e) in cc)
 
-  -- A paint over nothing erases; what comes up before its answer does no harm then.
-  pub painted_cleared : (number : ℕ) (wanted : WantedScreen) (over : Shadow) (rest : List ToTerminal) → now.down ≡ ToTerminal.Paint number wanted over ∷ rest → over ≡ Shadow.NothingKnown
+  -- An erase over nothing, or over a screen without fields; what comes up before its answer does no harm.
+  pub painted_cleared : (number : ℕ) (wanted : WantedScreen) (over : Shadow) (rest : List ToTerminal) → now.down ≡ ToTerminal.Paint number wanted over ∷ rest → is_erase (paint (cells_in wanted.size) over wanted).code ≡ true → IsWithoutFields over
       → Cleared app lu (taken_so (is_bound now.term) (ToTerminal.Paint number wanted over) (paint_executed number wanted over now.term) rest)
-  painted_cleared number wanted over rest e nothing_known =
+  painted_cleared number wanted over rest e erases_it without =
       subst (λ (b : Bool). Cleared app lu (taken_so b (ToTerminal.Paint number wanted over) (paint_executed number wanted over now.term) rest)) (sym bound_now)
       (subst (λ (cleared : Bool). Cleared app lu (shown_so cleared number wanted over (paint_executed number wanted over now.term) rest)) (sym gone.0)
-      (subst (λ (shown : Bool). Cleared app lu (shown_if shown number wanted over (paint_executed number wanted over now.term) rest)) (sym (nothing_erases over wanted nothing_known))
+      (subst (λ (shown : Bool). Cleared app lu (shown_if shown number wanted over (paint_executed number wanted over now.term) rest)) (sym erases_it)
       (subst (λ (drawn : Screen). Cleared app lu (shown_if true number wanted over (drawn_so number wanted drawn) rest)) (sym (given.belief.painted over wanted screen cells comes.fact.paintable.fits meets)) goes)))
     where
       gone : Gone
@@ -184,8 +162,20 @@ module _ (given : LowerLaws) (app : Application) (is : IsApplication app) (lu : 
       new : Screen
       new = plainly_painted wanted screen
 
+      -- a screen without fields differs from the told one in input alone
+      meets_bare : (known : List (Option ℕ)) → over ≡ Shadow.Unformatted known → Meets (Shadow.Unformatted known) end.term.display.screen → IsPlain end screen → Meets over screen
+      meets_bare known is_over meets (IsPlain.bare none size) =
+          comes.fact.doubts c.any false screen
+          (bare_held given.keys.round false end.term.display.screen.cells screen.cells (no_attribute end.term.display.screen.cells 0 end.term.display.screen.cells meets.0) (no_attribute screen.cells 0 screen.cells none) size)
+      meets_bare known is_over meets (IsPlain.over_nothing nothing paints silent) = absurd (let wrong = sym is_over ∙ (comes.fact.over_is ∙ nothing) in cc)
+
+      meets_by : (shadow : Shadow) → over ≡ shadow → IsWithoutFields shadow → Meets over screen
+      meets_by Shadow.NothingKnown is_over without = subst (λ (s : Shadow). Meets s screen) (sym is_over) tt
+      meets_by (Shadow.Unformatted known) is_over without = meets_bare known is_over (subst (λ (s : Shadow). Meets s end.term.display.screen) is_over comes.fact.meets) (c.plain gone.0)
+      meets_by (Shadow.Formatted beliefs) is_over without = absurd without
+
       meets : Meets over screen
-      meets = subst (λ (s : Shadow). Meets s screen) (sym nothing_known) tt
+      meets = meets_by over refl without
 
       step : TermStep
       step = paint_came number wanted (showing screen end.term)
@@ -195,7 +185,7 @@ module _ (given : LowerLaws) (app : Application) (is : IsApplication app) (lu : 
 
       erasing : erases end.host.pending ≡ true
       erasing = ap erases pending ∙ ap (λ (command : CommandParts). is_erase command.code) comes.fact.command_is
-          ∙ nothing_erases over wanted nothing_known
+          ∙ erases_it
 
       silent : end.up ≡ []
       silent = empty_queue end.lost end.up comes.at.goes_up
@@ -248,6 +238,7 @@ module _ (given : LowerLaws) (app : Application) (is : IsApplication app) (lu : 
         stage = Stage.erased refl erasing (empty_queue end.lost rest comes.left) since;
         model = c.model;
         rest = λ shown. since.rest;
+        plain = λ cleared. absurd (cc);
       }
 
   -- ---- a note
@@ -284,6 +275,20 @@ module _ (given : LowerLaws) (app : Application) (is : IsApplication app) (lu : 
         says = says_last c.clears t.cleared end.host end.up now.up answer (λ paints. absurd (let wrong : false ≡ true = sym unpainted ∙ paints in cc)) c.up;
         fate = by_fate (c.lost ∙ is) fate;
       }
+
+  -- a note leaves a screen without fields
+  still_plain : (number : ℕ) (command : CommandParts) (rest : List ToTerminal) → NoteComes end command → is_painting end.host.pending ≡ false → IsPlain end now.term.display.screen → IsPlain (term_view (note_came number command end.term) rest end) (after_command command now.term.display.screen)
+  still_plain number command rest comes unpainted (IsPlain.over_nothing nothing paints silent) = absurd (let wrong : false ≡ true = sym unpainted ∙ paints in cc)
+  still_plain number command rest comes unpainted (IsPlain.bare none size) =
+      let screen : Screen = now.term.display.screen in
+      let shape = shape_of_model app end.term.display.model end.host.size is c.kept.sizes.host in
+      let chars : list_all is_char screen.cells ≡ true = no_attribute screen.cells 0 screen.cells none in
+      let whole : length screen.cells ≡ cells_in end.host.size = size ∙ c.kept.whole ∙ ap (λ (s : ScreenSize). cells_in s) comes.same in
+      let note = (given.notes.are_notes end.host.size command shape comes.note).note in
+      let after : Screen = after_command command screen in
+      IsPlain.bare
+      (none_listed after.cells 0 after.cells (no_attributes screen.cells after.cells (given.notes.form command screen (given.notes.over_characters end.host.size command screen.cells shape comes.note whole (TakesNotes.unformatted chars))).attributes chars))
+      ((given.notes.bounds command screen note).size ∙ size ∙ sym (given.notes.bounds command end.term.display.screen note).size)
 
   hosts_noted : (up : List ToHost) (down : List ToTerminal) (term : TermEnd) → is_painting end.host.pending ≡ false → HostsAlike end now.host → HostsAlike (record end { up = up; down = down; term = term }) now.host
   hosts_noted up down term unpainted (HostsAlike.same same) = HostsAlike.same same
@@ -322,4 +327,5 @@ module _ (given : LowerLaws) (app : Application) (is : IsApplication app) (lu : 
         stage = Stage.gone gone.0 gone.1 (ap is_pa (given.notes.bounds command t.told.screen note).aid ∙ gone.2) both.fate;
         model = c.model;
         rest = λ shown. ap (λ (d : Display). record d { screen = after_command command now.term.display.screen }) (c.rest (λ paints. absurd (let wrong : false ≡ true = sym unpainted ∙ paints in cc)));
+        plain = λ cleared. still_plain number command rest comes unpainted (c.plain cleared);
       })

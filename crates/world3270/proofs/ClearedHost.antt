@@ -1,6 +1,7 @@
 -- What the host hears, and what it sends, after Clear in the wait: it can't tell the terminal from one that waits and displays what was told.
 use Rattle.std.proofs.Common.{◌≡◌, ◌<◌, ◌⊎◌, inl, inr, ◌&&◌, Bool, true, false, ℕ, Option, None, Some, List, [], ◌∷◌, refl, ap, sym, subst, ◌∙◌, if◌then◌else◌}
 use Rattle.std.specs.Option.{option_and_then}
+use Rattle.std.specs.Prelude.{is_some}
 use Rattle.codes3270.specs.declared.attention.Aid.{Aid}
 use Rattle.codes3270.specs.declared.attention.Aid.TheVariants.{NoAid, Enter, Clear, Pf, Pa}
 use Rattle.datastream.specs.Grammar.{CommandParts}
@@ -30,12 +31,12 @@ use Rattle.world3270.specs.statement.EveryTerminal.{LinkWithReport, is_clear, is
 use Rattle.world3270.specs.statement.Shown.{is_painting}
 use Rattle.world3270.specs.refinement.LowerLaws.{LowerLaws}
 use Rattle.world3270.specs.model.Link.{Link, cut, host_left_if, host_sent, host_stepped, sent}
-use Rattle.world3270.specs.model.Terminal.{Display, TermEnd}
+use Rattle.world3270.specs.model.Terminal.{Display, TermEnd, bound_to}
 use Rattle.world3270.specs.refinement.Invariant.{ConnectionInvariant}
 use Rattle.world3270.specs.refinement.Phases.{Kind}
 use Rattle.world3270.specs.refinement.View.{view_of}
 use Rattle.world3270.proofs.Acting.{acts, answers_are_shown, asking_parts, loses, may_act_at, may_act_when}
-use Rattle.world3270.proofs.Cleared.{Cleared, Follows, HearsOfClear, HostsAlike, PaintAnswered, Stage, agrees_still, but_unheard, hearing_clear, hears_of_clear, may_change, paint_answers, still_cleared}
+use Rattle.world3270.proofs.Cleared.{Cleared, Follows, HearsOfClear, HostsAlike, IsPlain, PaintAnswered, Stage, agrees_still, but_unheard, hearing_clear, hears_of_clear, may_change, paint_answers, still_cleared}
 use Rattle.world3270.proofs.ClearedQueue.{AddsKeys, DoesNoHarm, IsAnyKey, SaysToo, alike_cleared, clear_dropped, clears_behind, erases, noted_keys, only_keys, second_keys, second_of}
 use Rattle.world3270.proofs.ClearsDue.{Fate, clears_due, clears_in, due_behind, due_dropped, erases_no_more}
 use Rattle.world3270.proofs.HeardTurns.{GoesOn, goes_on}
@@ -130,12 +131,16 @@ module _ (given : LowerLaws) (app : Application) (is_app : IsApplication app) (l
   heard_by conn closes sends rest = record t { link = host_left_if closes (record now { up = rest; host = conn; down = sent now.lost now.down sends }) }
 
   -- the host is this one then, and the waiting terminal's that one
-  dropped_so : (waiting : Session) (conn : Session) (rest : List ToHost) → ConnectionInvariant app (view_of (record told { host = waiting })) → waiting.talk ≡ told.host.talk → waiting.pending ≡ told.host.pending → may_have_changed waiting.unheard ≡ true
+  dropped_so : (waiting : Session) (conn : Session) (rest : List ToHost) → ConnectionInvariant app (view_of (record told { host = waiting })) → waiting.talk ≡ told.host.talk → waiting.pending ≡ told.host.pending → waiting.shadow ≡ told.host.shadow → may_have_changed waiting.unheard ≡ true
       → HostsAlike (record told { host = waiting }) conn → HostReturns waiting → (says : SaysToo c.clears t.cleared waiting told.up rest) → (Fate told c.up.said now → Fate (record told { host = waiting }) says.said (heard_by conn None [] rest).link) → Cleared app lu (heard_by conn None [] rest)
-  dropped_so waiting conn rest kept talk pending any alike returns says fate =
+  dropped_so waiting conn rest kept talk pending shadow any alike returns says fate =
       still_cleared app lu t c (record told { host = waiting }) (heard_by conn None [] rest).link c.clears refl refl refl refl kept talk any alike c.lost (nothing_sent now.lost now.down ∙ c.down) returns says (by_stage c.stage)
-      (λ shown paints none. shown (ap is_painting pending ∙ paints) none)
+      (λ shown paints none. shown (ap is_painting pending ∙ paints) none) by_plain
     where
+      by_plain : IsPlain told now.term.display.screen → IsPlain (record told { host = waiting }) now.term.display.screen
+      by_plain (IsPlain.bare none size) = IsPlain.bare none size
+      by_plain (IsPlain.over_nothing nothing paints silent) = IsPlain.over_nothing (shadow ∙ nothing) (ap is_painting pending ∙ paints) silent
+
       by_stage : Stage t told c.up.said → Stage (heard_by conn None [] rest) (record told { host = waiting }) says.said
       by_stage (Stage.gone cleared locked no_pa was) = Stage.gone cleared locked no_pa (fate was)
       by_stage (Stage.erased uncleared erasing silent since) = Stage.erased uncleared (ap erases pending ∙ erasing) silent since
@@ -147,7 +152,7 @@ module _ (given : LowerLaws) (app : Application) (is_app : IsApplication app) (l
       let is : host_took pool now.host message ≡ dropping second.parts.aid now.host =
       second_key_dropped pool now.host message second agreed_now (may_change told now.host c.host c.any) (ap (λ (s : Session). is_dropping s.turn s.pending) (but_unheard told now.host c.host) ∙ drops) in
       subst (λ (step : HostStep). Cleared app lu (record t { link = host_stepped step rest now })) (sym is)
-      (dropped_so told.host now.host rest c.kept refl refl c.any c.host c.returning (record { said = c.up.said; alike = c.up.alike; up = x }) fate)
+      (dropped_so told.host now.host rest c.kept refl refl refl c.any c.host c.returning (record { said = c.up.said; alike = c.up.alike; up = x }) fate)
     where
       fate : Fate told c.up.said now → Fate told c.up.said (heard_by now.host None [] rest).link
       fate (Fate.is_lost is) = Fate.is_lost is
@@ -199,13 +204,13 @@ module _ (given : LowerLaws) (app : Application) (is_app : IsApplication app) (l
 
       by_painting : (paints : Bool) → is_painting told.host.pending ≡ paints → Cleared app lu (record t { link = host_stepped (host_took pool now.host message) rest now })
       by_painting true paints =
-          goes (dropped_so told.host (hearing_clear now.host) rest c.kept refl refl c.any
+          goes (dropped_so told.host (hearing_clear now.host) rest c.kept refl refl refl c.any
           (HostsAlike.crossed paints harmless hearing_alike) c.returning
           (record { said = c.up.said; alike = c.up.alike; up = x }) (fate_at told.host refl (erases told.host.pending) refl))
           (λ none. absurd (let wrong : true ≡ false = sym (painting_now ∙ paints) ∙ none in cc))
       by_painting false none =
           let hears : HearsOfClear app told = hears_of_clear app told c.kept c.any (no_pa none c.stage) drops none in
-          goes (dropped_so (hearing_clear told.host) (hearing_clear now.host) rest hears.kept refl refl refl (HostsAlike.same hearing_alike) c.returning
+          goes (dropped_so (hearing_clear told.host) (hearing_clear now.host) rest hears.kept refl refl refl refl (HostsAlike.same hearing_alike) c.returning
           (record { said = c.up.said; alike = alike_cleared told.host told.up c.up.said c.any c.up.alike; up = x }) (fate_at (hearing_clear told.host) refl (erases told.host.pending) refl))
           (λ unpainted. ap (λ (s : Session). is_unread s.turn_reason) (but_unheard told now.host c.host) ∙ hears.read)
 
@@ -273,10 +278,14 @@ module _ (given : LowerLaws) (app : Application) (is_app : IsApplication app) (l
       shown_before : is_painting told.host.pending ≡ true → told.up ≡ [] → ⊥
       shown_before paints silent = absurd (let wrong = sym silent ∙ alike.is in cc)
 
+      by_plain : IsPlain told now.term.display.screen → IsPlain (host_view step others told) now.term.display.screen
+      by_plain (IsPlain.bare none size) = IsPlain.bare none size
+      by_plain (IsPlain.over_nothing nothing paints silent) = absurd (shown_before paints silent)
+
       by_stage : Stage t told c.up.said → Follows app lu (heard_by step.conn None step.sends rest)
       by_stage (Stage.gone cleared locked no_pa was) =
           Follows.cleared (still_cleared app lu t c (host_view step others told) (heard_by step.conn None step.sends rest).link (clears_behind message c.clears t.cleared) refl refl refl refl heard.kept goes.talk any
-          (HostsAlike.same refl) c.lost down returns (record { said = others; alike = SaysAlike.same refl; up = up }) (Stage.gone cleared locked no_pa (fate was)) (λ shown. shown_before))
+          (HostsAlike.same refl) c.lost down returns (record { said = others; alike = SaysAlike.same refl; up = up }) (Stage.gone cleared locked no_pa (fate was)) (λ shown. shown_before) by_plain)
       by_stage (Stage.erased uncleared erasing silent since) = Follows.simulated (record {
         told = host_view step others told;
         kept = heard.kept;
@@ -288,6 +297,7 @@ module _ (given : LowerLaws) (app : Application) (is_app : IsApplication app) (l
         display = c.display;
         waits = c.waits;
         uncleared = uncleared;
+        blank = λ unbound. absurd (let wrong : false ≡ true = sym unbound ∙ (ap (λ talk. is_some (bound_to talk.talk.state)) c.talk ∙ c.bound) in cc);
         host_here = c.host_here;
         term_here = c.term_here;
         simulates = record {
@@ -425,7 +435,11 @@ module _ (given : LowerLaws) (app : Application) (is : IsApplication app) (lu : 
       still_cleared app lu t c (host_sent (Some sending) end) (host_sent (Some sending) t.link) c.clears refl refl refl refl kept talk any (HostsAlike.same refl) c.lost
       (ap (λ (lost : Bool). sent lost t.link.down (sending.message ∷ [])) c.lost ∙ ap (λ (down : List ToTerminal). sent end.lost down (sending.message ∷ [])) c.down) returning
       (record { said = end.up; alike = SaysAlike.same refl; up = up }) (gone_now unpainted c.stage refl refl refl fate)
-      (λ shown paints none. absurd (let wrong : false ≡ true = sym unpainted ∙ paints in cc))
+      (λ shown paints none. absurd (let wrong : false ≡ true = sym unpainted ∙ paints in cc)) by_plain
+    where
+      by_plain : IsPlain end t.link.term.display.screen → IsPlain (host_sent (Some sending) end) t.link.term.display.screen
+      by_plain (IsPlain.bare none size) = IsPlain.bare none size
+      by_plain (IsPlain.over_nothing nothing paints silent) = absurd (let wrong : false ≡ true = sym unpainted ∙ paints in cc)
 
   -- A host that has heard of Clear knows nothing when it paints.
   fate_acted : (act : Act) → t.link.host ≡ end.host → end.host.pending ≡ Pending.Nothing → end.up ≡ [] → Fate end c.up.said t.link
@@ -522,8 +536,12 @@ module _ (given : LowerLaws) (app : Application) (is : IsApplication app) (lu : 
               (subst (λ (b : Bool). clears_due b c.up.said < clears_due b t.link.up) (ap erases pends) due))
 
   pub loses_cleared : Cleared app lu (record t { link = cut t.link })
-  loses_cleared = still_cleared app lu t c (cut end) (cut t.link) c.clears refl refl refl refl (loses app (view_of end) c.kept) refl c.any (hosts_lost c.host) refl c.down c.returning c.up (lost_stage c.stage) (λ shown. shown)
+  loses_cleared = still_cleared app lu t c (cut end) (cut t.link) c.clears refl refl refl refl (loses app (view_of end) c.kept) refl c.any (hosts_lost c.host) refl c.down c.returning c.up (lost_stage c.stage) (λ shown. shown) lost_plain
     where
+      lost_plain : IsPlain end t.link.term.display.screen → IsPlain (cut end) t.link.term.display.screen
+      lost_plain (IsPlain.bare none size) = IsPlain.bare none size
+      lost_plain (IsPlain.over_nothing nothing paints silent) = IsPlain.over_nothing nothing paints silent
+
       lost_stage : Stage t end c.up.said → Stage (record t { link = cut t.link }) (cut end) c.up.said
       lost_stage (Stage.gone cleared locked no_pa fate) = Stage.gone cleared locked no_pa (Fate.is_lost refl)
       lost_stage (Stage.erased uncleared erasing silent since) = Stage.erased uncleared erasing silent since

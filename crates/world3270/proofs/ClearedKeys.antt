@@ -1,9 +1,12 @@
 -- Clear is pressed in the wait; and what an operator does after that, until the answer to the next paint is heard.
 use Rattle.std.proofs.Common.{◌≡◌, ◌<◌, ◌||◌, ◌&&◌, inr, Bool, true, false, ℕ, Some, List, [], ◌∷◌, ◌++◌, length, refl, ap, sym, subst, ◌∙◌, if◌then◌else◌}
-use Rattle.std.specs.Prelude.{is_some}
+use Rattle.std.specs.Prelude.{is_some, replicate}
 use Rattle.codes3270.specs.declared.attention.Aid.{Aid}
 use Rattle.codes3270.specs.declared.attention.Aid.TheVariants.{NoAid, Enter, Clear, Pf, Pa}
 use Rattle.codes3270.specs.declared.attribute.Cell.{Cell}
+use Rattle.codes3270.specs.declared.attribute.Cell.TheVariants.{Char}
+use Rattle.datastream.specs.Fields.{fields}
+use Rattle.shadow.proofs.HeardOthers.{no_field}
 use Rattle.datastream.specs.InboundFields.{modified_data}
 use Rattle.datastream.specs.InboundText.{InboundParts}
 use Rattle.datastream.specs.KeptByKeys.{KeptByKeys}
@@ -18,7 +21,7 @@ use Rattle.host_core.specs.Laws.{MarksInput}
 use Rattle.host_core.specs.Messages.{ToHost, ToTerminal, Verdict}
 use Rattle.host_core.specs.Session.{Pending, Session, agreed_lu}
 use Rattle.host_core.specs.Takes.{may_have_changed}
-use Rattle.world3270.specs.statement.EveryTerminal.{LinkWithReport, MayClear, is_clear, is_pa, key_pressed, operated, sends_clear}
+use Rattle.world3270.specs.statement.EveryTerminal.{LinkWithReport, is_clear, is_pa, key_pressed, operated, sends_clear}
 use Rattle.world3270.specs.statement.Shown.{is_painting}
 use Rattle.world3270.specs.refinement.Invariant.{ConnectionInvariant}
 use Rattle.world3270.specs.refinement.LowerLaws.{LowerLaws}
@@ -27,18 +30,19 @@ use Rattle.world3270.specs.model.Link.{Link, sent, term_stepped}
 use Rattle.world3270.specs.model.Enabled.{is_queued}
 use Rattle.world3270.specs.statement.Rules.{Operates, after_sending, data_by, edited, shows, with_aid}
 use Rattle.world3270.specs.model.Terminal.{Display, TermEnd, TermStep, bound_to, data_of, is_bound}
-use Rattle.world3270.proofs.Cleared.{Cleared, DisplaysAlike, Follows, HostsAlike, PaintAnswered, Stage, hearing_clear, paint_answers}
+use Rattle.world3270.proofs.Cleared.{Cleared, DisplaysAlike, Follows, HostsAlike, IsPlain, PaintAnswered, Stage, hearing_clear, paint_answers}
 use Rattle.world3270.proofs.ClearedHost.{IsClearOr, clear_or, paints_so}
 use Rattle.world3270.proofs.ClearedQueue.{AddsKeys, SaysToo, any_keys, any_last, both_say_too, erases, is_any_key, with_clears}
 use Rattle.world3270.proofs.ClearsDue.{Fate, clears_after, clears_due, due_after, due_in, due_still, is_clear_data}
 use Rattle.world3270.proofs.Queues.{nothing_sent}
+use Rattle.world3270.proofs.ReadsInput.{still_unformatted}
 use Rattle.world3270.proofs.Returning.{HostReturns}
 use Rattle.world3270.proofs.RuleKeys.{edited_link, edits_kept, sends_kept, sent_link, with_aid-aid, with_aid-cursor, with_aid-whole}
 use Rattle.world3270.proofs.SecondKeys.{SaysAlike, drops_behind, waits_drop}
 use Rattle.world3270.proofs.Sent.{key_aid, key_form}
-use Rattle.world3270.proofs.SimulatedKeys.{keys_but_clear, operates_still, or_again, same_cells}
+use Rattle.world3270.proofs.SimulatedKeys.{clears_unbound, keys_but_clear, operates_still, or_again, same_cells}
 use Rattle.world3270.proofs.Simulation.{Simulated, Since, is_waiting, since_same}
-use Rattle.world3270.proofs.WithoutClear.{operated_none}
+use Rattle.world3270.proofs.WithoutClear.{both_no, operated_none}
 
 pub any_key : (aid : Aid) → (aid ≡ NoAid → ⊥) → is_any_key aid ≡ true
 any_key NoAid some = absurd (some refl)
@@ -51,6 +55,20 @@ is_locked : (lock : Lock) → true ≡ is_waiting lock → lock ≡ Wait
 is_locked Wait is = refl
 is_locked Free is = absurd (cc)
 is_locked Error is = absurd (cc)
+
+nulled : (aid : Aid) (screen : Screen) → aid ≡ Clear → fields (with_aid aid screen).cells ≡ []
+nulled Clear screen clear = no_field (replicate (length screen.cells) (Char 0)) 0 (length screen.cells)
+nulled NoAid screen clear = absurd (cc)
+nulled Enter screen clear = absurd (cc)
+nulled (Pf number) screen clear = absurd (cc)
+nulled (Pa number) screen clear = absurd (cc)
+
+bare_key : (aid : Aid) (screen : Screen) → fields screen.cells ≡ [] → fields (with_aid aid screen).cells ≡ []
+bare_key Clear screen none = no_field (replicate (length screen.cells) (Char 0)) 0 (length screen.cells)
+bare_key NoAid screen none = none
+bare_key Enter screen none = none
+bare_key (Pf number) screen none = none
+bare_key (Pa number) screen none = none
 
 -- ---- in the wait
 
@@ -119,9 +137,9 @@ module _ (app : Application) (lu : List ℕ) (t : LinkWithReport) (l : IsLocked 
   FateBehind sends = Fate told l.said (record now { up = sent now.lost now.up sends })
 
   -- whatever the operator changes
-  changes : (screen : Screen) (keyboard : Keyboard) (erased : Bool) (up : List ToHost) → AddsKeys true true told.host.turn told.host.pending l.said up → Fate told l.said (record now { up = up })
+  changes : (screen : Screen) (keyboard : Keyboard) (erased : Bool) (up : List ToHost) → AddsKeys true true told.host.turn told.host.pending l.said up → Fate told l.said (record now { up = up }) → IsPlain told screen
       → Cleared app lu (record { link = record now { term = record now.term { display = record now.term.display { screen = screen; keyboard = keyboard; erased = erased } }; up = up }; told = t.told; waits = true; cleared = true })
-  changes screen keyboard erased up keys fate = record {
+  changes screen keyboard erased up keys fate plain = record {
     told = told;
     kept = l.kept;
     agreed = l.agreed;
@@ -143,6 +161,7 @@ module _ (app : Application) (lu : List ℕ) (t : LinkWithReport) (l : IsLocked 
     stage = Stage.gone refl l.locked l.no_pa (by_fate fate);
     model = l.model;
     rest = λ shown. ap (λ (d : Display). record d { screen = screen; keyboard = keyboard; erased = erased }) (l.rest shown);
+    plain = λ cleared. plain;
   }
     where
       link : Link
@@ -154,23 +173,23 @@ module _ (app : Application) (lu : List ℕ) (t : LinkWithReport) (l : IsLocked 
       by_fate (Fate.was_heard none unheard) = Fate.was_heard none unheard
       by_fate (Fate.erases_next erasing silent) = Fate.erases_next erasing silent
 
-  does_so : (step : TermStep) → Operates now.term step → FateBehind step.sends → Cleared app lu (untold step)
-  does_so step (Operates.edits keyboard cells cursor nulls held on is) fate =
+  does_so : (step : TermStep) → Operates now.term step → FateBehind step.sends → IsPlain told step.end.display.screen → Cleared app lu (untold step)
+  does_so step (Operates.edits keyboard cells cursor nulls held on is) fate plain =
       subst (λ (s : TermStep). Cleared app lu (untold s)) (sym is)
       (changes (record now.term.display.screen { cells = cells; cursor = cursor }) keyboard (now.term.display.erased || nulls) (sent now.lost now.up [])
       (subst (λ (up : List ToHost). AddsKeys true true told.host.turn told.host.pending l.said up) (sym (nothing_sent now.lost now.up)) l.keys)
-      (subst (λ (s : TermStep). FateBehind s.sends) is fate))
-  does_so step (Operates.sends keyboard aid some is) fate =
+      (subst (λ (s : TermStep). FateBehind s.sends) is fate) (subst (λ (s : TermStep). IsPlain told s.end.display.screen) is plain))
+  does_so step (Operates.sends keyboard aid some is) fate plain =
       subst (λ (s : TermStep). Cleared app lu (untold s)) (sym is)
       (changes (with_aid aid now.term.display.screen) keyboard now.term.display.erased (sent now.lost now.up (data_by aid now.term))
       (key_queued app told now true true l.said l.kept l.alike l.locked l.lost (is_bound now.term) now.lost aid some (λ clear. (refl, refl)) refl l.keys)
-      (subst (λ (s : TermStep). FateBehind s.sends) is fate))
+      (subst (λ (s : TermStep). FateBehind s.sends) is fate) (subst (λ (s : TermStep). IsPlain told s.end.display.screen) is plain))
 
-  does_locked : (step : TermStep) → Operates now.term step → FateBehind step.sends → (t.cleared || (t.waits && sends_clear step)) ≡ true → Cleared app lu (operated step t)
-  does_locked step does fate cleared =
+  does_locked : (step : TermStep) → Operates now.term step → FateBehind step.sends → IsPlain told step.end.display.screen → (t.cleared || (t.waits && sends_clear step)) ≡ true → Cleared app lu (operated step t)
+  does_locked step does fate plain cleared =
       subst (λ (b : Bool). Cleared app lu (record (operated step t) { cleared = b })) (sym cleared)
       (subst (λ (waits : Bool). Cleared app lu (record { link = term_stepped step now.down now; told = if waits then t.told else step.end.display; waits = waits || is_queued step.sends; cleared = true })) (sym l.waits)
-      (does_so step does fate))
+      (does_so step does fate plain))
 
   -- ---- Clear is pressed
 
@@ -219,10 +238,11 @@ module _ (app : Application) (lu : List ℕ) (t : LinkWithReport) (l : IsLocked 
           false_or : Bool
           false_or = erases told.host.pending
 
-  pub clears_now : (step : TermStep) (does : Operates now.term step) → key_pressed does ≡ Clear → is_bound now.term ≡ true → Cleared app lu (operated step t)
-  clears_now step (Operates.edits keyboard cells cursor nulls held on is) clear bound = absurd (cc)
-  clears_now step (Operates.sends keyboard aid some is) clear bound =
+  pub clears_now : length now.term.display.screen.cells ≡ length told.term.display.screen.cells → (step : TermStep) (does : Operates now.term step) → key_pressed does ≡ Clear → is_bound now.term ≡ true → Cleared app lu (operated step t)
+  clears_now size step (Operates.edits keyboard cells cursor nulls held on is) clear bound = absurd (cc)
+  clears_now size step (Operates.sends keyboard aid some is) clear bound =
       does_locked step (Operates.sends keyboard aid some is) (subst (λ (s : TermStep). FateBehind s.sends) (sym is) (fate_pressed (is_bound now.term) aid bound clear))
+      (subst (λ (s : TermStep). IsPlain told s.end.display.screen) (sym is) (IsPlain.bare (nulled aid now.term.display.screen clear) (with_aid-whole aid now.term.display.screen ∙ size)))
       (both t.cleared t.waits (sends_clear step) l.waits (ap sends_clear is ∙ clear_sends (is_bound now.term) aid now.term bound clear))
     where
       both : (cleared waits sends : Bool) → waits ≡ true → sends ≡ true → (cleared || (waits && sends)) ≡ true
@@ -230,8 +250,8 @@ module _ (app : Application) (lu : List ℕ) (t : LinkWithReport) (l : IsLocked 
       both false waits sends is_waits is_sent = ap (λ (b : Bool). b && sends) is_waits ∙ is_sent
 
 module _ (app : Application) (lu : List ℕ) (t : LinkWithReport) where
-  locked_first : Simulated app lu t → t.waits ≡ true → MayClear t → IsLocked app lu t
-  locked_first s waits may = record {
+  abbrev locked_first : Simulated app lu t → t.waits ≡ true → is_bound t.link.term ≡ true → is_pa t.told.screen.aid ≡ false → IsLocked app lu t
+  locked_first s waits bound no_pa = record {
     told = s.told;
     kept = s.kept;
     agreed = s.agreed;
@@ -242,8 +262,8 @@ module _ (app : Application) (lu : List ℕ) (t : LinkWithReport) where
     display = s.display;
     waits = waits;
     locked = is_locked s.told.term.display.keyboard.lock (sym waits ∙ s.waits);
-    no_pa = may.no_pa;
-    bound = sym (ap (λ talk. is_some (bound_to talk.talk.state)) s.simulates.talk) ∙ may.bound;
+    no_pa = no_pa;
+    bound = sym (ap (λ talk. is_some (bound_to talk.talk.state)) s.simulates.talk) ∙ bound;
     host_here = s.host_here;
     term_here = s.term_here;
     host = HostsAlike.same s.simulates.host;
@@ -295,9 +315,17 @@ module _ (app : Application) (lu : List ℕ) (t : LinkWithReport) where
       by_lost true = due
       by_lost false = due_still (erases c.told.host.pending) c.up.said t.link.up more due
 
-  pub operates_gone : (c : Cleared app lu t) → t.cleared ≡ true → c.told.term.display.keyboard.lock ≡ Wait → is_pa t.told.screen.aid ≡ false → Fate c.told c.up.said t.link → (step : TermStep) → Operates t.link.term step → Cleared app lu (operated step t)
-  operates_gone c gone locked no_pa fate step does =
-      does_locked app lu t (locked_again c (c.waits ∙ ap is_waiting locked) no_pa) step does (fate_still c step.sends fate) (ap (λ (b : Bool). b || (t.waits && sends_clear step)) gone)
+  -- without fields it stays
+  still_plain : LowerLaws → (c : Cleared app lu t) → IsPlain c.told t.link.term.display.screen → (step : TermStep) → Operates t.link.term step → IsPlain c.told step.end.display.screen
+  still_plain given c (IsPlain.over_nothing nothing paints silent) step does = IsPlain.over_nothing nothing paints silent
+  still_plain given c (IsPlain.bare none size) step (Operates.edits keyboard cells cursor nulls held on is) =
+      subst (λ (s : TermStep). IsPlain c.told s.end.display.screen) (sym is) (IsPlain.bare (still_unformatted given.keys.round nulls t.link.term.display.screen.cells cells held none) (held.same_length ∙ size))
+  still_plain given c (IsPlain.bare none size) step (Operates.sends keyboard aid some is) =
+      subst (λ (s : TermStep). IsPlain c.told s.end.display.screen) (sym is) (IsPlain.bare (bare_key aid t.link.term.display.screen none) (with_aid-whole aid t.link.term.display.screen ∙ size))
+
+  pub operates_gone : LowerLaws → (c : Cleared app lu t) → t.cleared ≡ true → c.told.term.display.keyboard.lock ≡ Wait → is_pa t.told.screen.aid ≡ false → Fate c.told c.up.said t.link → (step : TermStep) → Operates t.link.term step → Cleared app lu (operated step t)
+  operates_gone given c gone locked no_pa fate step does =
+      does_locked app lu t (locked_again c (c.waits ∙ ap is_waiting locked) no_pa) step does (fate_still c step.sends fate) (still_plain given c (c.plain gone) step does) (ap (λ (b : Bool). b || (t.waits && sends_clear step)) gone)
 
 -- ---- once a paint erased
 
@@ -341,6 +369,7 @@ module _ (given : LowerLaws) (app : Application) (lu : List ℕ) (t : LinkWithRe
     stage = Stage.erased refl (ap (λ (h : Session). erases h.pending) host_is ∙ erasing) (ap (λ (l : Link). l.down) end_is ∙ silent) since;
     model = ap (λ (d : Display). d.model) since.rest;
     rest = λ shown. since.rest;
+    plain = λ cleared. absurd (cc);
   }
     where
       host_is : end.host ≡ waiting.host
@@ -450,17 +479,20 @@ module _ (given : LowerLaws) (app : Application) (lu : List ℕ) (t : LinkWithRe
 
 module _ (given : LowerLaws) (app : Application) (lu : List ℕ) (t : LinkWithReport) where
   abbrev Rules : TermStep → Type 0
-  Rules step = (does : Operates t.link.term step) × (t.waits ≡ true → key_pressed does ≡ Clear → MayClear t)
+  Rules step = (does : Operates t.link.term step) × (t.waits ≡ true → key_pressed does ≡ Clear → is_pa t.told.screen.aid ≡ false)
 
   pub operates_cleared : (step : TermStep) → Rules step → (c : Cleared app lu t) → Cleared app lu (operated step t)
   operates_cleared step rules c = by_stage c.stage
     where
       by_stage : Stage t c.told c.up.said → Cleared app lu (operated step t)
-      by_stage (Stage.gone cleared locked no_pa fate) = operates_gone app lu t c cleared locked no_pa fate step rules.0
+      by_stage (Stage.gone cleared locked no_pa fate) = operates_gone app lu t given c cleared locked no_pa fate step rules.0
       by_stage (Stage.erased uncleared erasing silent since) = by_waits t.waits refl (clear_or (key_pressed rules.0))
         where
+          bound_here : is_bound t.link.term ≡ true
+          bound_here = ap (λ talk. is_some (bound_to talk.talk.state)) c.talk ∙ c.bound
+
           by_waits : (waits : Bool) → t.waits ≡ waits → IsClearOr (key_pressed rules.0) → Cleared app lu (operated step t)
-          by_waits true waits (IsClearOr.pressed_clear clear) = let may = rules.1 waits clear in clears_now app lu t (locked_again app lu t c waits may.no_pa) step rules.0 clear may.bound
+          by_waits true waits (IsClearOr.pressed_clear clear) = clears_now app lu t (locked_again app lu t c waits (rules.1 waits clear)) since.held.same_length step rules.0 clear bound_here
           by_waits true waits (IsClearOr.pressed_another unclear) = operates_erased given app lu t c uncleared erasing silent since step rules.0 (λ waits. unclear)
           by_waits false free key = operates_erased given app lu t c uncleared erasing silent since step rules.0 (λ waits. absurd (let wrong : false ≡ true = sym free ∙ waits in cc))
 
@@ -468,6 +500,23 @@ module _ (given : LowerLaws) (app : Application) (lu : List ℕ) (t : LinkWithRe
   operates_first step rules s = by_waits t.waits refl (clear_or (key_pressed rules.0))
     where
       by_waits : (waits : Bool) → t.waits ≡ waits → IsClearOr (key_pressed rules.0) → Follows app lu (operated step t)
-      by_waits true waits (IsClearOr.pressed_clear clear) = let may = rules.1 waits clear in Follows.cleared (clears_now app lu t (locked_first app lu t s waits may) step rules.0 clear may.bound)
+      by_waits true waits (IsClearOr.pressed_clear clear) = by_bound (is_bound t.link.term) refl
+        where
+          -- before the terminal is bound, nothing is sent
+          unbound : (step : TermStep) (does : Operates t.link.term step) → key_pressed does ≡ Clear → is_bound t.link.term ≡ false → Follows app lu (operated step t)
+          unbound step (Operates.edits keyboard cells cursor nulls held on is) clear not_bound = absurd (cc)
+          unbound step (Operates.sends keyboard aid some is) clear not_bound =
+              let so : step ≡ shows keyboard (after_sending Clear t.link.term.display) (data_by Clear t.link.term) t.link.term = is ∙ ap (λ (a : Aid). shows keyboard (after_sending a t.link.term.display) (data_by a t.link.term) t.link.term) clear in
+              let silent : sends_clear step ≡ false = ap sends_clear so ∙ ap (λ (bound : Bool). is_queued (data_of bound (Send Clear) t.link.term.display.size (with_aid Clear t.link.term.display.screen)) && true) not_bound in
+              let nothing : (t.cleared || (t.waits && sends_clear step)) ≡ false = ap (λ (b : Bool). b || (t.waits && sends_clear step)) s.uncleared ∙ both_no t.waits (sends_clear step) silent in
+              Follows.simulated
+              (subst (λ (b : Bool). Simulated app lu (record (operated step t) { cleared = b })) (sym nothing)
+              (subst (λ (waits : Bool). Simulated app lu (record { link = term_stepped step t.link.down t.link; told = if waits then t.told else step.end.display; waits = waits || is_queued step.sends; cleared = false })) (sym waits)
+              (subst (λ (step : TermStep). Simulated app lu (record { link = term_stepped step t.link.down t.link; told = t.told; waits = true; cleared = false })) (sym so)
+              (clears_unbound given app lu t s (is_locked s.told.term.display.keyboard.lock (sym waits ∙ s.waits)) not_bound keyboard))))
+
+          by_bound : (bound : Bool) → is_bound t.link.term ≡ bound → Follows app lu (operated step t)
+          by_bound true bound = Follows.cleared (clears_now app lu t (locked_first app lu t s waits bound (rules.1 waits clear)) s.simulates.since.held.same_length step rules.0 clear bound)
+          by_bound false not_bound = unbound step rules.0 clear not_bound
       by_waits true waits (IsClearOr.pressed_another unclear) = Follows.simulated (operates_still given app lu t s step rules.0 (λ waits. unclear))
       by_waits false free key = Follows.simulated (operates_still given app lu t s step rules.0 (λ waits. absurd (let wrong : false ≡ true = sym free ∙ waits in cc)))

@@ -149,6 +149,7 @@ module _ (given : LowerLaws) (app : Application) (is : IsApplication app) (lu : 
     display = sym (ap (λ (d : Display). record d { keyboard = blank.keyboard }) (b.told ∙ b.blank));
     waits = b.waits;
     uncleared = b.cleared;
+    blank = λ unbound. is_new.no_fields;
     host_here = b.host_here;
     term_here = b.term_here;
     simulates = record {
@@ -207,7 +208,7 @@ module _ (given : LowerLaws) (app : Application) (is : IsApplication app) (lu : 
       gone = gone_now given app is lu t c (ToTerminal.Paint number wanted over) rest is_down
 
       by_erase : (erases : Bool) → is_erase (paint (cells_in wanted.size) over wanted).code ≡ erases → IsBeside app lu (came_down (ToTerminal.Paint number wanted over ∷ rest) t)
-      by_erase true erases = IsBeside.follows (Follows.cleared (painted_cleared given app is lu t c number wanted over rest is_down (crosses gone.0 erases)))
+      by_erase true erases = IsBeside.follows (Follows.cleared (painted_cleared given app is lu t c number wanted over rest is_down erases (crosses gone.0 erases)))
       by_erase false keeps = IsBeside.repeats (paint_ruined app is lu t c gone.0 gone.1 gone.2 gone.3 number wanted over rest is_down keeps)
 
   move_cleared : (move : Move) (t : LinkWithReport) → IsByTheRules move t → Cleared app lu t → IsBeside app lu (moved app move t)

@@ -49,7 +49,7 @@ use Rattle.world3270.specs.statement.Rules.{Operates, after_sending, data_by, ed
 use Rattle.world3270.specs.statement.Showing.{IsDecided}
 use Rattle.world3270.specs.statement.Shown.{is_painting}
 use Rattle.world3270.proofs.Acting.{loses, model_here}
-use Rattle.world3270.proofs.Cleared.{Cleared, HostsAlike, Stage, agrees_still, but_unheard, hearing_clear, may_change}
+use Rattle.world3270.proofs.Cleared.{Cleared, HostsAlike, IsPlain, Stage, agrees_still, but_unheard, hearing_clear, may_change}
 use Rattle.world3270.proofs.ClearedHost.{IsClearOr, clear_or, key_unclear, no_act, no_answer, no_note, nothing_erases}
 use Rattle.world3270.proofs.ClearedQueue.{AddsKeys, DoesNoHarm, IsAnyKey, SaysToo, clear_dropped, erases, is_any_key, other_key}
 use Rattle.world3270.proofs.ClearsDue.{Fate, clears_due, clears_in, is_clear_data, one_more}
@@ -624,6 +624,7 @@ module _ (given : LowerLaws) (app : Application) (is : IsApplication app) (lu : 
     stage = Stage.gone r.cleared r.locked r.no_pa (Fate.erases_next (nothing_erases Shadow.NothingKnown wants refl) silent_up);
     model = r.model;
     rest = λ shown. absurd (shown refl silent_up);
+    plain = λ cleared. IsPlain.over_nothing refl refl silent_up;
   }
 
   -- or it waits for the answer to the paint, and sends nothing

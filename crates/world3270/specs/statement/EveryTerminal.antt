@@ -188,28 +188,29 @@ abbrev pub key_pressed : {end : TermEnd} {step : TermStep} → Operates end step
 key_pressed (Operates.edits keyboard cells cursor erases held on is) = NoAid
 key_pressed (Operates.sends keyboard aid some is) = aid
 
--- Holds if Clear may be pressed in the wait: the terminal is bound, and the first key wasn't PA, after which the host
--- would read the screen.
-pub record MayClear (t : LinkWithReport) : Type 0 where
-  pub bound : is_bound t.link.term ≡ true
-  pub no_pa : is_pa t.told.screen.aid ≡ false
+-- Holds if the host knew of no field when it sent a paint.
+abbrev pub IsWithoutFields : Shadow → Type 0
+IsWithoutFields Shadow.NothingKnown = ⊤
+IsWithoutFields (Shadow.Unformatted known) = ⊤
+IsWithoutFields (Shadow.Formatted beliefs) = ⊥
 
--- Holds if no Read Buffer, and no erase of a screen of which the host knew something, is next for the terminal: after
+-- Holds if no Read Buffer, and no erase of a screen of which the host knew the fields, is next for the terminal: after
 -- Clear in the wait these would have crossed it. Notes and other paints may.
 abbrev pub CrossesNoClear : List ToTerminal → Type 0
 CrossesNoClear [] = ⊤
 CrossesNoClear (ToTerminal.Paint number wanted over ∷ rest) =
-    is_erase (paint (cells_in wanted.size) over wanted).code ≡ true → over ≡ Shadow.NothingKnown
+    is_erase (paint (cells_in wanted.size) over wanted).code ≡ true → IsWithoutFields over
 CrossesNoClear (ToTerminal.ReadBuffer number ∷ rest) = ⊥
 CrossesNoClear (ToTerminal.Note number command ∷ rest) = ⊤
 CrossesNoClear (ToTerminal.TalksDown saying ∷ rest) = ⊤
 
 -- Holds if a move keeps the rules: the pool is sound, the operator does what `Operates` allows, and a note has a note's
--- text. Clear may be pressed in the wait where `MayClear` says so, and then crosses neither paint nor Read Buffer.
+-- text. Clear may be pressed in the wait, but not after PA, whose screen the host reads; what it may cross,
+-- `CrossesNoClear` says.
 abbrev pub IsByTheRules : Move → LinkWithReport → Type 0
 IsByTheRules (Move.Up pool) t = IsSound pool
 IsByTheRules (Move.Operate step) t = (does : Operates t.link.term step)
-    × (t.waits ≡ true → key_pressed does ≡ Clear → MayClear t)
+    × (t.waits ≡ true → key_pressed does ≡ Clear → is_pa t.told.screen.aid ≡ false)
 IsByTheRules (Move.Note text) t = IsNoteText text
 IsByTheRules Move.Down t = t.cleared ≡ true → CrossesNoClear t.link.down
 IsByTheRules Move.Act t = ⊤
