@@ -132,6 +132,7 @@ module _ (laws : AnyLaws) (app : Application) (is : IsApplication app) (asks : W
         agreed = ap (λ (c : Session). is_agreed c.talk.state) good.simulated.simulates.host ∙ agrees_now good.simulated;
         no_talk = no_talk_comes app lu t good.simulated;
         no_refusal = no_refusal_comes app lu t good.simulated;
+        uncleared = good.simulated.uncleared;
         comes_up = queue.comes_up t good.simulated good.texts good.queued;
         hears = hears_now given app is sizes lu t good.simulated;
         acts = acts_encodable paint bounded given app is asks sizes lu t good.simulated good.texts;

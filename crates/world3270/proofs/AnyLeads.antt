@@ -55,7 +55,7 @@ use Rattle.host_core.specs.Notes.{noted_as, may_note, noted}
 use Rattle.host_core.specs.Questions.{act_by, answered_on, has_its_panel, is_asking, panel_for}
 use Rattle.host_core.specs.declared.question.Answer.{Answer as ApplicationAnswer}
 use Rattle.host_core.specs.declared.turn_reason.TurnReason.{TurnReason}
-use Rattle.world3270.specs.statement.EveryTerminal.{LinkWithReport, came_up, is_pa, key_pressed, operated, sends_clear, told_if, Move, came_down, moved}
+use Rattle.world3270.specs.statement.EveryTerminal.{LinkWithReport, came_up, is_pa, is_shown, key_pressed, operated, sends_clear, told_if, Move, came_down, moved}
 use Rattle.world3270.specs.model.Enabled.{is_queued}
 use Rattle.world3270.specs.statement.Rules.{Operates, after_sending, data_by, edited, shows, with_aid}
 use Rattle.world3270.specs.refinement.RepresentsLinks.{HasTheSizes, NoneCloses}
@@ -412,7 +412,14 @@ module _ (given : LowerLaws) (app : Application) (is : IsApplication app) (sizes
       }
 
       by_paint : (b : Bool) (number : ℕ) (wanted : WantedScreen) (over : Shadow) → KeysStartWithAddress (told_if b (ToTerminal.Paint number wanted over) t (term_stepped (once_bound b (paint_came number wanted end) end) rest t.link))
-      by_paint true number wanted over = answered (painted wanted end.display) false false (record end { display = painted wanted end.display }) number
+      by_paint true number wanted over =
+          subst (λ (c : Bool). KeysStartWithAddress (record {
+            link = term_stepped (paint_came number wanted end) rest t.link;
+            told = if is_shown c wanted over then painted wanted end.display else t.told;
+            waits = if is_shown c wanted over then false else t.waits;
+            cleared = if is_shown c wanted over then false else c;
+          })) (sym s.uncleared)
+          (answered (painted wanted end.display) false false (record end { display = painted wanted end.display }) number)
       by_paint false number wanted over = silent end
 
       by_note : (b : Bool) (number : ℕ) (command : CommandParts) → KeysStartWithAddress (told_if b (ToTerminal.Note number command) t (term_stepped (once_bound b (note_came number command end) end) rest t.link))
@@ -524,7 +531,7 @@ module _ (given : LowerLaws) (app : Application) (is : IsApplication app) (sizes
   down_alive t s alive (message ∷ rest) e =
       let step : TermStep = took t.link.term message in
       let none = (subst (λ (d : List ToTerminal). NoneCloses t.link.term d) e (all_may_now given app is sizes lu t.link.down t s refl).1).0 in
-      let one = came_one app message rest t e (same_now given app is sizes lu t s message rest e) none in
+      let one = came_one app message rest t s.uncleared e (same_now given app is sizes lu t s message rest e) none in
       ap (λ (l : Link). l.lost) one.link
       ∙ ap (λ (c : Option Cause). (term_left_if c (record t.link { down = rest; term = step.end; up = sent t.link.lost t.link.up step.sends })).lost) none ∙ alive
 

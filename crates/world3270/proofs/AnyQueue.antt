@@ -336,7 +336,7 @@ module _ (given : LowerLaws) (app : Application) (is : IsApplication app) (sizes
   down_sized (message ∷ rest) e =
       let step : TermStep = took t.link.term message in
       let none = (subst (λ (d : List ToTerminal). NoneCloses t.link.term d) e (all_may_now given app is sizes lu t.link.down t s refl).1).0 in
-      let one = came_one app message rest t e (same_now given app is sizes lu t s message rest e) none in
+      let one = came_one app message rest t s.uncleared e (same_now given app is sizes lu t s message rest e) none in
       subst (IsSized app) (sym one.link)
       (term_left_sized app step.closes (record t.link { down = rest; term = step.end; up = sent t.link.lost t.link.up step.sends }) (record {
         model = z.model;

@@ -96,7 +96,7 @@ module _ (given : LowerLaws) (app : Application) (is : IsApplication app) (sizes
   all_may_now (message ∷ rest) t s e =
       let down : s.told.down ≡ message ∷ rest = sym s.simulates.down ∙ e in
       let closes = close_alike t.link.term s.told.term message s.simulates.talk (obeys given app is s.told message rest down s.kept).open_end in
-      let one = came_one app message rest t e (same_now t s message rest e) closes in
+      let one = came_one app message rest t s.uncleared e (same_now t s message rest e) closes in
       let others = all_may_now rest (moved app Move.Down t) (move_still given app is lu Move.Down t tt s) one.down in (
         (
           subst (λ (talk : Term). IsOpen talk.talk.state) (sym s.simulates.talk) (is_open app s.told s.kept),

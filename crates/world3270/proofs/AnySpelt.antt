@@ -19,7 +19,7 @@ use Rattle.host_core.specs.Questions.{act_by, answered_on, panel_for}
 use Rattle.host_core.specs.Session.{Session}
 use Rattle.host_core.specs.Takes.{HostStep, took as host_took}
 use Rattle.host_core.specs.declared.question.Answer.{Answer as ApplicationAnswer}
-use Rattle.world3270.specs.statement.EveryTerminal.{Move, LinkWithReport, came_down, came_up, is_pa, moved, sends_clear, told_after, told_if}
+use Rattle.world3270.specs.statement.EveryTerminal.{Move, LinkWithReport, came_down, came_up, is_pa, is_shown, moved, sends_clear, told_after, told_if}
 use Rattle.world3270.specs.refinement.LowerLaws.{LowerLaws}
 use Rattle.world3270.specs.model.Link.{Link, host_left_if, host_sent, sent, term_left_if, term_stepped}
 use Rattle.world3270.specs.model.Enabled.{is_queued}
@@ -157,17 +157,21 @@ NoteIsSendable (ToTerminal.TalksDown saying) told = ⊤
 NoteIsSendable (ToTerminal.Paint number wanted over) told = ⊤
 NoteIsSendable (ToTerminal.ReadBuffer number) told = ⊤
 
-told_sendable : (message : ToTerminal) (told now : Display) → IsSendable told.screen → IsSendable now.screen → NoteIsSendable message told → IsSendable (told_after message told now).screen
-told_sendable (ToTerminal.Paint number wanted over) told now was is noted = is
-told_sendable (ToTerminal.ReadBuffer number) told now was is noted = by_key (is_pa told.screen.aid)
+told_sendable : (message : ToTerminal) (cleared : Bool) (told now : Display) → IsSendable told.screen → IsSendable now.screen → NoteIsSendable message told → IsSendable (told_after message cleared told now).screen
+told_sendable (ToTerminal.Paint number wanted over) cleared told now was is noted = by_shown (is_shown cleared wanted over)
+  where
+    by_shown : (shown : Bool) → IsSendable (if shown then now else told).screen
+    by_shown true = is
+    by_shown false = was
+told_sendable (ToTerminal.ReadBuffer number) cleared told now was is noted = by_key (is_pa told.screen.aid)
   where
     by_key : (pa : Bool) → IsSendable (if pa then record now { screen = record now.screen { aid = told.screen.aid } } else told).screen
     by_key true = record { few = is.few; cursor = is.cursor; aid = was.aid; storable = is.storable }
     by_key false = was
-told_sendable (ToTerminal.Note number command) told now was is noted = noted
-told_sendable (ToTerminal.TalksDown saying) told now was is noted = was
+told_sendable (ToTerminal.Note number command) cleared told now was is noted = noted
+told_sendable (ToTerminal.TalksDown saying) cleared told now was is noted = was
 
-taken_texts : (bound : Bool) (message : ToTerminal) (t : LinkWithReport) (link : Link) → HasSendableContent (record t { link = link }) → IsSendable (told_after message t.told link.term.display).screen → HasSendableContent (told_if bound message t link)
+taken_texts : (bound : Bool) (message : ToTerminal) (t : LinkWithReport) (link : Link) → HasSendableContent (record t { link = link }) → IsSendable (told_after message t.cleared t.told link.term.display).screen → HasSendableContent (told_if bound message t link)
 taken_texts true message t link x told = record { values = x.values; numbered = x.numbered; writes = x.writes; told = told; now = x.now }
 taken_texts false message t link x told = x
 
@@ -206,7 +210,7 @@ module _ (read : SentIsRead) (given : LowerLaws) (app : Application) (is : IsApp
       let link : Link = term_stepped step rest t.link in
       let here = parted_texts step.closes stays t (record { values = x.values; numbered = x.numbered; writes = All-tail HasProperScreen message rest written; told = x.told; now = now }) in
       subst (λ (did : TermStep). HasSendableContent (told_if (is_bound t.link.term) message t (term_stepped did rest t.link))) (sym (same_now given app is sizes lu t s message rest e))
-      (taken_texts (is_bound t.link.term) message t link here (told_sendable message t.told link.term.display x.told here.now (noted_sendable t s x message first fits)))
+      (taken_texts (is_bound t.link.term) message t link here (told_sendable message t.cleared t.told link.term.display x.told here.now (noted_sendable t s x message first fits)))
 
   pub move_texts : (move : Move) (t : LinkWithReport) → Simulated app lu t → HasSendableContent t → IsWithoutClear move t → IsWellFormedMove move → HasSendableContent (moved app move t)
   move_texts (Move.Up pool) t s x rules typed = up_texts t x pool t.link.up

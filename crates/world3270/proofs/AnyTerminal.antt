@@ -27,7 +27,7 @@ use Rattle.host_core.specs.State.{connection_at}
 use Rattle.host_core.specs.Takes.{took as host_took}
 use Rattle.host_core.specs.declared.question.Answer.{Answer as ApplicationAnswer}
 use Rattle.keyboard.specs.State.{Keyboard}
-use Rattle.world3270.specs.statement.EveryTerminal.{Move, LinkWithReport, after_moves, came_down, executed, key_pressed, moved, operated, told_if}
+use Rattle.world3270.specs.statement.EveryTerminal.{Move, LinkWithReport, after_moves, came_down, executed, is_shown, key_pressed, moved, operated, told_if}
 use Rattle.world3270.specs.statement.EveryTerminalBytes.{IsDown, IsOperated, OverBytes, Represents, Takes, display_of, displaying, end_of, link_over}
 use Rattle.world3270.specs.model.Link.{Link, sent, term_left_if, term_stepped}
 use Rattle.world3270.specs.model.Enabled.{is_queued}
@@ -60,6 +60,7 @@ pub record Ready (app : Application) (t : LinkWithReport) : Type 0 where
   pub agreed : is_agreed t.link.host.talk.state ≡ true
   pub no_talk : AllByRecursion IsNoTalk t.link.up
   pub no_refusal : AllByRecursion IsNoRefusal t.link.down
+  pub uncleared : t.cleared ≡ false
   pub hears : (pool : List Entry) → IsSoundPool pool → (message : ToHost) (others : List ToHost) → t.link.up ≡ message ∷ others
       → (host_took (answer_to pool) t.link.host message).closes ≡ None
   pub acts : IfSome (acted app t.link.host) (λ sending. IsEncodable sending.message)
@@ -159,11 +160,11 @@ told_link_is true message t link = refl
 told_link_is false message t link = refl
 
 -- whether a 3278 would wait then
-waits_then : (message : ToTerminal) (t : LinkWithReport) (link : Link) → (told_if (is_bound t.link.term) message t link).waits ≡ (if is_painted t.link.term message then false else t.waits)
-waits_then message t link = by_message (is_bound t.link.term) message refl
+waits_then : (message : ToTerminal) (t : LinkWithReport) (link : Link) → t.cleared ≡ false → (told_if (is_bound t.link.term) message t link).waits ≡ (if is_painted t.link.term message then false else t.waits)
+waits_then message t link never = by_message (is_bound t.link.term) message refl
   where
     by_message : (bound : Bool) (message : ToTerminal) → is_bound t.link.term ≡ bound → (told_if bound message t link).waits ≡ (if is_painted t.link.term message then false else t.waits)
-    by_message true (ToTerminal.Paint number wanted over) e = ap (λ (b : Bool). if b then false else t.waits) (sym e)
+    by_message true (ToTerminal.Paint number wanted over) e = ap (λ (c : Bool). if is_shown c wanted over then false else t.waits) never ∙ ap (λ (b : Bool). if b then false else t.waits) (sym e)
     by_message false (ToTerminal.Paint number wanted over) e = ap (λ (b : Bool). if b then false else t.waits) (sym e)
     by_message true (ToTerminal.TalksDown saying) e = refl
     by_message false (ToTerminal.TalksDown saying) e = refl
@@ -186,9 +187,9 @@ pub record CameOne (app : Application) (message : ToTerminal) (others : List ToT
   pub down : (moved app Move.Down t).link.down ≡ others
   pub waits : (moved app Move.Down t).waits ≡ (if is_painted t.link.term message then false else t.waits)
 
-pub came_one : (app : Application) (message : ToTerminal) (others : List ToTerminal) (t : LinkWithReport) → t.link.down ≡ message ∷ others → executed t.link.term message ≡ took t.link.term message
+pub came_one : (app : Application) (message : ToTerminal) (others : List ToTerminal) (t : LinkWithReport) → t.cleared ≡ false → t.link.down ≡ message ∷ others → executed t.link.term message ≡ took t.link.term message
     → (took t.link.term message).closes ≡ None → CameOne app message others t
-came_one app message others t down same closes =
+came_one app message others t never down same closes =
     let step : TermStep = took t.link.term message in
     let stays : Link = record t.link { down = others; term = step.end; up = sent t.link.lost t.link.up step.sends } in
     let next : Link = term_stepped step others t.link in
@@ -199,7 +200,7 @@ came_one app message others t down same closes =
       link = link;
       term = ap (λ (l : Link). l.term) link ∙ left_term step.closes stays;
       down = ap (λ (l : Link). l.down) link ∙ ap (λ (c : Option Cause). (term_left_if c stays).down) closes;
-      waits = ap (λ (u : LinkWithReport). u.waits) went ∙ waits_then message t next;
+      waits = ap (λ (u : LinkWithReport). u.waits) went ∙ waits_then message t next never;
     }
 
 record CameDown (app : Application) (Good : LinkWithReport → Type 0) (taken others : List ToTerminal) (t : LinkWithReport) : Type 0 where
@@ -218,7 +219,7 @@ module _ (app : Application) (Good : LinkWithReport → Type 0) (kept : IsKept a
       let ready = kept.ready t good in
       let step : TermStep = took t.link.term message in
       let mid : LinkWithReport = moved app Move.Down t in
-      let one = came_one app message (taken ++ others) t down (ready.same message (taken ++ others) down) (subst (λ (d : List ToTerminal). NoneCloses t.link.term d) down ready.none).0 in
+      let one = came_one app message (taken ++ others) t ready.uncleared down (ready.same message (taken ++ others) down) (subst (λ (d : List ToTerminal). NoneCloses t.link.term d) down ready.none).0 in
       let more = all_came taken others mid (kept.goes_on Move.Down t good tt tt) one.down in
       record {
         moves = Move.Down ∷ more.moves;

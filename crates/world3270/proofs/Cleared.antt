@@ -1,9 +1,10 @@
 -- A terminal at which Clear was pressed in the wait, beside one that waits and displays what was told: the screens differ, but the host paints
 -- the next panel whole.
-use Rattle.std.proofs.Common.{◌≡◌, ◌<◌, ◌||◌, not, ℕ, Bool, true, false, Some, List, [], ◌∷◌, length, refl, ap, sym, subst, ◌∙◌}
+use Rattle.std.proofs.Common.{◌≡◌, ◌||◌, not, ℕ, Bool, true, false, Some, List, [], ◌∷◌, length, refl, ap, sym, subst, ◌∙◌}
 use Rattle.std.specs.Prelude.{is_some}
 use Rattle.codes3270.specs.Size.{ScreenSize}
 use Rattle.codes3270.specs.declared.attention.Aid.{Aid}
+use Rattle.datastream.specs.Fields.{fields}
 use Rattle.datastream.specs.Grammar.{CommandParts}
 use Rattle.datastream.specs.Screen.{Screen}
 use Rattle.keyboard.specs.declared.key.Lock.TheVariants.{Wait}
@@ -28,6 +29,7 @@ use Rattle.world3270.specs.statement.EveryTerminal.{LinkWithReport, is_pa}
 use Rattle.world3270.specs.statement.Shown.{is_painting}
 use Rattle.world3270.specs.statement.TurnReasons.{IsOccasion}
 use Rattle.world3270.proofs.ClearedQueue.{DoesNoHarm, SaysToo, erases}
+use Rattle.world3270.proofs.ClearsDue.{Fate}
 use Rattle.world3270.proofs.Returning.{HostReturns, pa_counts, unread_pa}
 use Rattle.world3270.proofs.SecondKeys.{is_dropping}
 use Rattle.world3270.proofs.Queues.{front, nothing}
@@ -42,10 +44,22 @@ pub data HostsAlike (told : Link) (now : Session) : Type 0 where
   same : now ≡ told.host → HostsAlike told now
   crossed : is_painting told.host.pending ≡ true → DoesNoHarm told.host.pending told.up → now ≡ hearing_clear told.host → HostsAlike told now
 
--- Clear was pressed in the wait, and the host paints the next panel whole; or such a paint was taken, and waits for its answer.
-pub data Stage (t : LinkWithReport) (told : Link) : Type 0 where
-  gone : t.cleared ≡ true → told.term.display.keyboard.lock ≡ Wait → is_pa t.told.screen.aid ≡ false → Stage t told
-  erased : t.cleared ≡ false → erases told.host.pending ≡ true → told.down ≡ [] → Since told.term.display t.link.term.display → Stage t told
+-- Clear was pressed in the wait, and the host hears of it, or paints the next panel whole; or such a paint was taken, and waits for its
+-- answer. `said`: what both say.
+pub data Stage (t : LinkWithReport) (told : Link) (said : List ToHost) : Type 0 where
+  gone : t.cleared ≡ true → told.term.display.keyboard.lock ≡ Wait → is_pa t.told.screen.aid ≡ false → Fate told said t.link → Stage t told said
+  erased : t.cleared ≡ false → erases told.host.pending ≡ true → told.down ≡ [] → Since told.term.display t.link.term.display → Stage t told said
+
+-- A screen that Clear nulled has no fields, whatever was typed since; or an erase over nothing is under way.
+pub data IsPlain (told : Link) (screen : Screen) : Type 0 where
+  bare : fields screen.cells ≡ [] → length screen.cells ≡ length told.term.display.screen.cells → IsPlain told screen
+  over_nothing : told.host.shadow ≡ Shadow.NothingKnown → is_painting told.host.pending ≡ true → told.up ≡ [] → IsPlain told screen
+
+-- What is displayed differs in the screen alone, unless the screen was painted again by a paint that Clear crossed, and the next one is under
+-- way.
+abbrev pub DisplaysAlike : (told now : Link) → Type 0
+DisplaysAlike told now = (is_painting told.host.pending ≡ true → told.up ≡ [] → ⊥)
+    → now.term.display ≡ record told.term.display { screen = now.term.display.screen; keyboard = now.term.display.keyboard; erased = now.term.display.erased }
 
 -- `told`: the connection of a terminal that waits and is at the same point, with the screen that the host was told
 pub record Cleared (app : Application) (lu : List ℕ) (t : LinkWithReport) : Type 0 where
@@ -67,9 +81,10 @@ pub record Cleared (app : Application) (lu : List ℕ) (t : LinkWithReport) : Ty
   pub talk : t.link.term.talk ≡ told.term.talk
   pub clears : Bool
   pub up : SaysToo clears t.cleared told.host told.up t.link.up
-  pub stage : Stage t told
-  pub rest : t.link.term.display ≡ record told.term.display { screen = t.link.term.display.screen; keyboard = t.link.term.display.keyboard; erased = t.link.term.display.erased }
-  pub cursor : t.link.term.display.screen.cursor < length t.link.term.display.screen.cells
+  pub stage : Stage t told up.said
+  pub model : t.link.term.display.model ≡ told.term.display.model
+  pub rest : DisplaysAlike told t.link
+  pub plain : t.cleared ≡ true → IsPlain told t.link.term.display.screen
 
 -- the terminal beside which one waits: Clear was pressed in the wait, or not
 pub data Follows (app : Application) (lu : List ℕ) (t : LinkWithReport) : Type 0 where
@@ -226,8 +241,9 @@ paint_answers app link first others k paints e = by_moment k.moment k.at k.fact 
 -- It leaves what is displayed.
 pub still_cleared : (app : Application) (lu : List ℕ) (t : LinkWithReport) (c : Cleared app lu t) (told link : Link) (clears : Bool) → told.term ≡ c.told.term → link.term ≡ t.link.term → link.term_here ≡ t.link.term_here → link.host_here ≡ t.link.host_here
     → ConnectionInvariant app (view_of told) → told.host.talk ≡ c.told.host.talk → may_have_changed told.host.unheard ≡ true → HostsAlike told link.host → link.lost ≡ told.lost → link.down ≡ told.down
-    → HostReturns told.host → SaysToo clears t.cleared told.host told.up link.up → Stage (record t { link = link }) told → Cleared app lu (record t { link = link })
-still_cleared app lu t c told link clears told_term link_term term_here host_here kept talk any host lost down returning up stage = record {
+    → HostReturns told.host → (says : SaysToo clears t.cleared told.host told.up link.up) → Stage (record t { link = link }) told says.said
+    → ((is_painting told.host.pending ≡ true → told.up ≡ [] → ⊥) → is_painting c.told.host.pending ≡ true → c.told.up ≡ [] → ⊥) → (IsPlain c.told t.link.term.display.screen → IsPlain told t.link.term.display.screen) → Cleared app lu (record t { link = link })
+still_cleared app lu t c told link clears told_term link_term term_here host_here kept talk any host lost down returning up stage before plain = record {
   told = told;
   kept = kept;
   agreed = ap (λ talk. agreed_lu talk.state) talk ∙ c.agreed;
@@ -247,7 +263,9 @@ still_cleared app lu t c told link clears told_term link_term term_here host_her
   clears = clears;
   up = up;
   stage = stage;
-  rest = subst (λ (term : TermEnd). link.term.display ≡ record term.display { screen = link.term.display.screen; keyboard = link.term.display.keyboard; erased = link.term.display.erased }) (sym told_term)
-      (subst (λ (term : TermEnd). term.display ≡ record c.told.term.display { screen = term.display.screen; keyboard = term.display.keyboard; erased = term.display.erased }) (sym link_term) c.rest);
-  cursor = subst (λ (term : TermEnd). term.display.screen.cursor < length term.display.screen.cells) (sym link_term) c.cursor;
+  model = ap (λ (term : TermEnd). term.display.model) link_term ∙ c.model ∙ ap (λ (term : TermEnd). term.display.model) (sym told_term);
+  rest = λ shown.
+      subst (λ (term : TermEnd). link.term.display ≡ record term.display { screen = link.term.display.screen; keyboard = link.term.display.keyboard; erased = link.term.display.erased }) (sym told_term)
+      (subst (λ (term : TermEnd). term.display ≡ record c.told.term.display { screen = term.display.screen; keyboard = term.display.keyboard; erased = term.display.erased }) (sym link_term) (c.rest (before shown)));
+  plain = λ cleared. subst (λ (term : TermEnd). IsPlain told term.display.screen) (sym link_term) (plain (c.plain cleared));
 }

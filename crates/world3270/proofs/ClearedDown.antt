@@ -1,25 +1,29 @@
 -- What comes down after Clear in the wait: a paint over nothing erases, so that both terminals display the same then.
-use Rattle.std.proofs.Common.{◌≡◌, ◌<◌, inr, ℕ, Bool, true, false, None, List, [], ◌∷◌, length, refl, ap, sym, subst, ◌∙◌, if◌then◌else◌}
+use Rattle.std.proofs.Common.{◌≡◌, ◌<◌, inr, ℕ, Bool, true, false, None, Option, List, [], ◌∷◌, ◌++◌, length, refl, ap, sym, subst, ◌∙◌, if◌then◌else◌}
 use Rattle.std.specs.Prelude.{is_some}
 use Rattle.codes3270.specs.Size.{ScreenSize, cells_in}
 use Rattle.datastream.specs.Grammar.{CommandParts}
 use Rattle.datastream.specs.Meaning.{after_command}
-use Rattle.datastream.specs.Screen.{Screen}
+use Rattle.datastream.proofs.FieldViews.{no_attribute, none_listed}
+use Rattle.datastream.specs.Screen.{Screen, is_char}
+use Rattle.std.specs.List.{list_all}
+use Rattle.host_core.specs.NoteLaws.{TakesNotes}
 use Rattle.datastream.specs.Wanted.{WantedScreen}
-use Rattle.datastream.specs.declared.command_code.CommandCode.TheVariants.{EraseWrite, EraseWriteAlternate}
-use Rattle.keyboard.specs.State.{freed}
+use Rattle.codes3270.specs.declared.size.Model.{Model}
+use Rattle.keyboard.specs.State.{Keyboard, freed}
 use Rattle.keyboard.specs.declared.key.Lock.TheVariants.{Wait}
 use Rattle.shadow.specs.Belief.{Shadow}
 use Rattle.shadow.specs.Exactness.{is_erase}
 use Rattle.shadow.specs.Meets.{Meets}
-use Rattle.shadow.specs.Paint.{erase_code, is_base_size, paint}
+use Rattle.shadow.specs.Paint.{paint}
 use Rattle.shadow.specs.Painted.{plainly_painted}
 use Rattle.tn3270e_msg.specs.Talk.{NegotiationMessage}
 use Rattle.tn3270e_msg.specs.TermTable.{Term}
 use Rattle.host_core.specs.Application.{Application, IsApplication}
 use Rattle.host_core.specs.Messages.{ToHost, ToTerminal, Verdict}
-use Rattle.host_core.specs.Session.{Pending}
-use Rattle.world3270.specs.statement.EveryTerminal.{LinkWithReport, is_pa, paint_executed, told_if}
+use Rattle.host_core.specs.Session.{Pending, Session}
+use Rattle.host_core.specs.Takes.{may_be_read}
+use Rattle.world3270.specs.statement.EveryTerminal.{IsWithoutFields, LinkWithReport, is_pa, once_shown, paint_executed, told_after, told_if}
 use Rattle.world3270.specs.statement.Shown.{is_painting}
 use Rattle.world3270.specs.refinement.LowerLaws.{LowerLaws}
 use Rattle.world3270.specs.model.Link.{Link, sent, term_stepped}
@@ -27,53 +31,27 @@ use Rattle.world3270.specs.refinement.Invariant.{ConnectionInvariant}
 use Rattle.world3270.specs.refinement.Phases.{IsAt, IsInFlight, LinkPhase, SessionPhase}
 use Rattle.world3270.specs.model.Terminal.{Display, TermEnd, TermStep, bound_to, is_bound, note_came, once_bound, paint_came, talked}
 use Rattle.world3270.specs.refinement.View.{view_of}
-use Rattle.world3270.proofs.Cleared.{Cleared, HostsAlike, Stage, agrees_still}
-use Rattle.world3270.proofs.ClearedQueue.{AddsKeys, any_later, both_say_too, erases}
+use Rattle.world3270.proofs.Cleared.{Cleared, HostsAlike, IsPlain, Stage, agrees_still}
+use Rattle.world3270.proofs.ClearedQueue.{AddsKeys, SaysToo, any_later, both_say_too, erases, says_last}
+use Rattle.world3270.proofs.ClearsDue.{Fate, clears_due, clears_in, due_answered}
 use Rattle.world3270.proofs.ComesDown.{NoteComes, PaintComes, note_comes, paint_comes}
 use Rattle.world3270.proofs.Down.{bound, paints_on, shape_of_model, showing, term_view}
+use Rattle.world3270.proofs.NotesHeld.{bare_held, no_attributes}
 use Rattle.world3270.proofs.Obeys.{obeys}
 use Rattle.world3270.proofs.Queues.{empty_queue, front, nothing}
 use Rattle.world3270.proofs.SecondKeys.{SaysAlike, alike_silent}
 use Rattle.world3270.proofs.Simulation.{Since, since_same}
-use Rattle.world3270.proofs.TalkStates.{talking_unbound}
+use Rattle.world3270.proofs.SimulatedDown.{talk_over}
 
--- the command of an erase erases
-erase_erases : (size : ScreenSize) → is_erase (erase_code size) ≡ true
-erase_erases size = by_base (is_base_size size)
-  where
-    by_base : (b : Bool) → is_erase (if b then EraseWrite else EraseWriteAlternate) ≡ true
-    by_base true = refl
-    by_base false = refl
+unpainted_erases : (pending : Pending) → is_painting pending ≡ false → erases pending ≡ false
+unpainted_erases Pending.Nothing unpainted = refl
+unpainted_erases (Pending.Reading number) unpainted = refl
+unpainted_erases (Pending.Noting number command) unpainted = refl
+unpainted_erases (Pending.Writing number command) unpainted = absurd (cc)
 
--- ---- where a terminal is bound, nothing of the talk comes down
+-- ---- what is under way
 
-talk_over : (app : Application) (link : Link) → ConnectionInvariant app (view_of link) → is_bound link.term ≡ true → (saying : NegotiationMessage) (rest : List ToTerminal) → link.down ≡ ToTerminal.TalksDown saying ∷ rest → ⊥
-talk_over app link k bound_here saying rest e = by_moment k.moment k.at
-  where
-    message : ToTerminal
-    message = ToTerminal.TalksDown saying
-
-    by_serving : (lu : List ℕ) (serving : SessionPhase) → IsAt (view_of link) k.wanted (LinkPhase.InSession lu serving) → ⊥
-    by_serving lu (SessionPhase.Reading number) at = absurd (let clash = (front link.lost link.down message rest _ [] e at.goes_down).0 in cc)
-    by_serving lu (SessionPhase.DecidingNoteSent number command) at = absurd (let clash = (front link.lost link.down message rest _ [] e at.goes_down).0 in cc)
-    by_serving lu (SessionPhase.Painting number command wanted over) at = absurd (let clash = (front link.lost link.down message rest _ [] e at.goes_down).0 in cc)
-    by_serving lu (SessionPhase.Noting number command) at = absurd (let clash = (front link.lost link.down message rest _ [] e at.goes_down).0 in cc)
-    by_serving lu (SessionPhase.KeyCrossingNote number command parts) at = absurd (let clash = (front link.lost link.down message rest _ [] e at.goes_down).0 in cc)
-    by_serving lu SessionPhase.Deciding at = nothing link.lost link.down message rest e at.goes_down
-    by_serving lu (SessionPhase.BufferReturning number parts) at = nothing link.lost link.down message rest e at.goes_down
-    by_serving lu (SessionPhase.DecidingNoteAnswered number command) at = nothing link.lost link.down message rest e at.goes_down
-    by_serving lu (SessionPhase.AwaitingWriteResponse kind number command) at = nothing link.lost link.down message rest e at.goes_down
-    by_serving lu SessionPhase.OperatorTyping at = nothing link.lost link.down message rest e at.goes_down
-    by_serving lu (SessionPhase.KeySent parts) at = nothing link.lost link.down message rest e at.goes_down
-    by_serving lu (SessionPhase.KeySentAfterResponse kind number command parts) at = nothing link.lost link.down message rest e at.goes_down
-    by_serving lu (SessionPhase.KeyBeforeNoteResponse number command parts) at = nothing link.lost link.down message rest e at.goes_down
-
-    by_moment : (moment : LinkPhase) → IsAt (view_of link) k.wanted moment → ⊥
-    by_moment (LinkPhase.Negotiating talking) at = talking_unbound link.term.display.model k.wanted talking link.term.talk at.term_talk bound_here
-    by_moment (LinkPhase.FirstPaint lu number command wanted over) at = absurd (let wrong : false ≡ true = sym (ap (λ state. is_some (bound_to state)) at.term_talk) ∙ bound_here in cc)
-    by_moment (LinkPhase.InSession lu serving) at = by_serving lu serving at
-
--- while a note is under way, unpainted paint waits for its answer
+-- while a note is under way, no paint waits for its answer
 note_unpainted : (app : Application) (link : Link) (number : ℕ) (command : CommandParts) (rest : List ToTerminal) → link.down ≡ ToTerminal.Note number command ∷ rest → ConnectionInvariant app (view_of link) → is_bound link.term ≡ true
     → is_painting link.host.pending ≡ false
 note_unpainted app link number command rest e k bound_here = by_moment k.moment k.at
@@ -115,6 +93,18 @@ module _ (given : LowerLaws) (app : Application) (is : IsApplication app) (lu : 
   abbrev taken_so : Bool → ToTerminal → TermStep → List ToTerminal → LinkWithReport
   taken_so is_bound message step rest = told_if is_bound message t (term_stepped (once_bound is_bound step now.term) rest now)
 
+  -- once a paint is taken
+  abbrev shown_so : (cleared : Bool) → ℕ → WantedScreen → Shadow → TermStep → List ToTerminal → LinkWithReport
+  shown_so cleared number wanted over step rest =
+      let message : ToTerminal = ToTerminal.Paint number wanted over in
+      let link : Link = term_stepped step rest now in
+      record { link = link; told = told_after message cleared t.told link.term.display; waits = once_shown message cleared t.waits; cleared = once_shown message cleared cleared }
+
+  abbrev shown_if : (erases : Bool) → ℕ → WantedScreen → Shadow → TermStep → List ToTerminal → LinkWithReport
+  shown_if erases number wanted over step rest =
+      let link : Link = term_stepped step rest now in
+      record { link = link; told = if erases then link.term.display else t.told; waits = if erases then false else t.waits; cleared = if erases then false else true }
+
   bound_now : is_bound now.term ≡ true
   bound_now = ap (λ (talk : Term). is_some (bound_to talk.talk.state)) c.talk ∙ c.bound
 
@@ -141,23 +131,28 @@ module _ (given : LowerLaws) (app : Application) (is : IsApplication app) (lu : 
   }
 
   -- the waiting terminal was gone
-  abbrev Gone : Type 0
-  Gone = (t.cleared ≡ true) × (end.term.display.keyboard.lock ≡ Wait) × (is_pa t.told.screen.aid ≡ false)
+  abbrev pub Gone : Type 0
+  Gone = (t.cleared ≡ true) × (end.term.display.keyboard.lock ≡ Wait) × (is_pa t.told.screen.aid ≡ false) × Fate end c.up.said now
 
   pub gone_now : (message : ToTerminal) (rest : List ToTerminal) → now.down ≡ message ∷ rest → Gone
   gone_now message rest e = by_stage c.stage
     where
-      by_stage : Stage t end → Gone
-      by_stage (Stage.gone cleared locked no_pa) = (cleared, locked, no_pa)
+      by_stage : Stage t end c.up.said → Gone
+      by_stage (Stage.gone cleared locked no_pa fate) = (cleared, locked, no_pa, fate)
       by_stage (Stage.erased uncleared erasing silent since) = absurd (let wrong = sym silent ∙ (sym c.down ∙ e) in cc)
 
-  -- A paint over nothing erases; what comes up before its answer does no harm then.
-  pub painted_cleared : (number : ℕ) (wanted : WantedScreen) (over : Shadow) (rest : List ToTerminal) → now.down ≡ ToTerminal.Paint number wanted over ∷ rest → over ≡ Shadow.NothingKnown
+  -- An erase over nothing, or over a screen without fields; what comes up before its answer does no harm.
+  pub painted_cleared : (number : ℕ) (wanted : WantedScreen) (over : Shadow) (rest : List ToTerminal) → now.down ≡ ToTerminal.Paint number wanted over ∷ rest → is_erase (paint (cells_in wanted.size) over wanted).code ≡ true → IsWithoutFields over
       → Cleared app lu (taken_so (is_bound now.term) (ToTerminal.Paint number wanted over) (paint_executed number wanted over now.term) rest)
-  painted_cleared number wanted over rest e nothing_known =
+  painted_cleared number wanted over rest e erases_it without =
       subst (λ (b : Bool). Cleared app lu (taken_so b (ToTerminal.Paint number wanted over) (paint_executed number wanted over now.term) rest)) (sym bound_now)
-      (subst (λ (drawn : Screen). Cleared app lu (taken_so true (ToTerminal.Paint number wanted over) (drawn_so number wanted drawn) rest)) (sym (given.belief.painted over wanted screen cells comes.fact.paintable.fits meets)) goes)
+      (subst (λ (cleared : Bool). Cleared app lu (shown_so cleared number wanted over (paint_executed number wanted over now.term) rest)) (sym gone.0)
+      (subst (λ (shown : Bool). Cleared app lu (shown_if shown number wanted over (paint_executed number wanted over now.term) rest)) (sym erases_it)
+      (subst (λ (drawn : Screen). Cleared app lu (shown_if true number wanted over (drawn_so number wanted drawn) rest)) (sym (given.belief.painted over wanted screen cells comes.fact.paintable.fits meets)) goes)))
     where
+      gone : Gone
+      gone = gone_now (ToTerminal.Paint number wanted over) rest e
+
       comes : PaintComes app end c.kept.wanted rest number wanted over
       comes = paint_comes app end number wanted over rest (sym c.down ∙ e) c.kept (agrees_still c)
 
@@ -167,8 +162,20 @@ module _ (given : LowerLaws) (app : Application) (is : IsApplication app) (lu : 
       new : Screen
       new = plainly_painted wanted screen
 
+      -- a screen without fields differs from the told one in input alone
+      meets_bare : (known : List (Option ℕ)) → over ≡ Shadow.Unformatted known → Meets (Shadow.Unformatted known) end.term.display.screen → IsPlain end screen → Meets over screen
+      meets_bare known is_over meets (IsPlain.bare none size) =
+          comes.fact.doubts c.any false screen
+          (bare_held given.keys.round false end.term.display.screen.cells screen.cells (no_attribute end.term.display.screen.cells 0 end.term.display.screen.cells meets.0) (no_attribute screen.cells 0 screen.cells none) size)
+      meets_bare known is_over meets (IsPlain.over_nothing nothing paints silent) = absurd (let wrong = sym is_over ∙ (comes.fact.over_is ∙ nothing) in cc)
+
+      meets_by : (shadow : Shadow) → over ≡ shadow → IsWithoutFields shadow → Meets over screen
+      meets_by Shadow.NothingKnown is_over without = subst (λ (s : Shadow). Meets s screen) (sym is_over) tt
+      meets_by (Shadow.Unformatted known) is_over without = meets_bare known is_over (subst (λ (s : Shadow). Meets s end.term.display.screen) is_over comes.fact.meets) (c.plain gone.0)
+      meets_by (Shadow.Formatted beliefs) is_over without = absurd without
+
       meets : Meets over screen
-      meets = subst (λ (s : Shadow). Meets s screen) (sym nothing_known) tt
+      meets = meets_by over refl without
 
       step : TermStep
       step = paint_came number wanted (showing screen end.term)
@@ -178,7 +185,7 @@ module _ (given : LowerLaws) (app : Application) (is : IsApplication app) (lu : 
 
       erasing : erases end.host.pending ≡ true
       erasing = ap erases pending ∙ ap (λ (command : CommandParts). is_erase command.code) comes.fact.command_is
-          ∙ ap (λ (s : Shadow). is_erase (paint (cells_in wanted.size) s wanted).code) nothing_known ∙ erase_erases wanted.size
+          ∙ erases_it
 
       silent : end.up ≡ []
       silent = empty_queue end.lost end.up comes.at.goes_up
@@ -197,15 +204,17 @@ module _ (given : LowerLaws) (app : Application) (is : IsApplication app) (lu : 
       hosts (HostsAlike.same same) = HostsAlike.same same
       hosts (HostsAlike.crossed paints harmless crossed) = HostsAlike.crossed paints (λ paints. inr erasing) crossed
 
-      drawn : now.term.display ≡ record end.term.display { screen = screen; keyboard = now.term.display.keyboard; erased = now.term.display.erased }
-      drawn = c.rest
+      -- whatever was displayed, but for the model
+      drawn : (k : Keyboard) → record now.term.display { size = wanted.size; screen = new; keyboard = k; last_restored = new; before_restored = screen; erased = false }
+          ≡ record end.term.display { size = wanted.size; screen = new; keyboard = k; last_restored = new; before_restored = screen; erased = false }
+      drawn k = ap (λ (m : Model). record end.term.display { model = m; size = wanted.size; screen = new; keyboard = k; last_restored = new; before_restored = screen; erased = false }) c.model
 
       since : Since step.end.display (paint_came number wanted now.term).end.display
       since = since_same given step.end.display (paint_came number wanted now.term).end.display
-          (ap (λ (d : Display). record d { size = wanted.size; screen = new; keyboard = freed now.term.display.keyboard; last_restored = new; before_restored = screen; erased = false }) drawn)
+          (drawn (freed now.term.display.keyboard))
           (subst (λ (size : ℕ). new.cursor < size) (sym kept.whole) kept.cursor)
 
-      goes : Cleared app lu (taken_so true (ToTerminal.Paint number wanted over) (paint_came number wanted now.term) rest)
+      goes : Cleared app lu (shown_if true number wanted over (paint_came number wanted now.term) rest)
       goes = record {
         told = term_view step rest end;
         kept = kept;
@@ -214,7 +223,7 @@ module _ (given : LowerLaws) (app : Application) (is : IsApplication app) (lu : 
         unsure = c.unsure;
         marks = c.marks;
         returning = c.returning;
-        display = sym (ap (λ (d : Display). record d { size = wanted.size; screen = new; keyboard = freed end.term.display.keyboard; last_restored = new; before_restored = screen; erased = false }) drawn);
+        display = sym (drawn (freed end.term.display.keyboard));
         waits = refl;
         bound = c.bound;
         host_here = c.host_here;
@@ -227,11 +236,59 @@ module _ (given : LowerLaws) (app : Application) (is : IsApplication app) (lu : 
         up = both_say_too c.clears false end.host end.lost now.lost end.up now.up (ToHost.Response number Verdict.Positive) c.lost (λ paints. erasing)
             (record { said = []; alike = SaysAlike.same (sym silent); up = keys });
         stage = Stage.erased refl erasing (empty_queue end.lost rest comes.left) since;
-        rest = since.rest;
-        cursor = since.cursor;
+        model = c.model;
+        rest = λ shown. since.rest;
+        plain = λ cleared. absurd (cc);
       }
 
   -- ---- a note
+
+  -- both answer
+  record BothAnswer (number : ℕ) (told_up up : List ToHost) (waiting link : Link) : Type 0 where
+    says : SaysToo c.clears t.cleared end.host told_up up
+    fate : Fate waiting says.said link
+
+  both_answer : (number : ℕ) → is_painting end.host.pending ≡ false → Fate end c.up.said now → (waiting link : Link) → waiting.host ≡ end.host → link.lost ≡ now.lost → link.host ≡ now.host
+      → link.up ≡ sent now.lost now.up (ToHost.Response number Verdict.Positive ∷ [])
+      → BothAnswer number (sent end.lost end.up (ToHost.Response number Verdict.Positive ∷ [])) (sent now.lost now.up (ToHost.Response number Verdict.Positive ∷ [])) waiting link
+  both_answer number unpainted fate waiting link waiting_host lost host up =
+      subst (λ (l : Bool). BothAnswer number (sent end.lost end.up (answer ∷ [])) (sent l now.up (answer ∷ [])) waiting link) (sym c.lost) (by_lost end.lost refl)
+    where
+      answer : ToHost
+      answer = ToHost.Response number Verdict.Positive
+
+      not_erasing : erases end.host.pending ≡ false
+      not_erasing = unpainted_erases end.host.pending unpainted
+
+      by_fate : now.lost ≡ false → Fate end c.up.said now → Fate waiting (c.up.said ++ answer ∷ []) link
+      by_fate live (Fate.is_lost is) = Fate.is_lost (lost ∙ is)
+      by_fate live (Fate.was_heard none unheard) = Fate.was_heard (ap (λ (h : Session). erases h.pending) waiting_host ∙ none) (ap (λ (h : Session). may_be_read h.unheard) host ∙ unheard)
+      by_fate live (Fate.erases_next erasing silent) = absurd (let wrong : false ≡ true = sym not_erasing ∙ erasing in cc)
+      by_fate live (Fate.is_due due) =
+          Fate.is_due (subst (λ (b : Bool). clears_due b (c.up.said ++ answer ∷ []) < clears_due b link.up) (sym (ap (λ (h : Session). erases h.pending) waiting_host ∙ not_erasing))
+          (subst (λ (l : List ToHost). clears_in (c.up.said ++ answer ∷ []) < clears_in l) (sym (up ∙ ap (λ (b : Bool). sent b now.up (answer ∷ [])) live))
+          (due_answered c.up.said now.up number Verdict.Positive (subst (λ (b : Bool). clears_due b c.up.said < clears_due b now.up) not_erasing due))))
+
+      by_lost : (b : Bool) → end.lost ≡ b → BothAnswer number (sent b end.up (answer ∷ [])) (sent b now.up (answer ∷ [])) waiting link
+      by_lost true is = record { says = c.up; fate = Fate.is_lost (lost ∙ c.lost ∙ is) }
+      by_lost false is = record {
+        says = says_last c.clears t.cleared end.host end.up now.up answer (λ paints. absurd (let wrong : false ≡ true = sym unpainted ∙ paints in cc)) c.up;
+        fate = by_fate (c.lost ∙ is) fate;
+      }
+
+  -- a note leaves a screen without fields
+  still_plain : (number : ℕ) (command : CommandParts) (rest : List ToTerminal) → NoteComes end command → is_painting end.host.pending ≡ false → IsPlain end now.term.display.screen → IsPlain (term_view (note_came number command end.term) rest end) (after_command command now.term.display.screen)
+  still_plain number command rest comes unpainted (IsPlain.over_nothing nothing paints silent) = absurd (let wrong : false ≡ true = sym unpainted ∙ paints in cc)
+  still_plain number command rest comes unpainted (IsPlain.bare none size) =
+      let screen : Screen = now.term.display.screen in
+      let shape = shape_of_model app end.term.display.model end.host.size is c.kept.sizes.host in
+      let chars : list_all is_char screen.cells ≡ true = no_attribute screen.cells 0 screen.cells none in
+      let whole : length screen.cells ≡ cells_in end.host.size = size ∙ c.kept.whole ∙ ap (λ (s : ScreenSize). cells_in s) comes.same in
+      let note = (given.notes.are_notes end.host.size command shape comes.note).note in
+      let after : Screen = after_command command screen in
+      IsPlain.bare
+      (none_listed after.cells 0 after.cells (no_attributes screen.cells after.cells (given.notes.form command screen (given.notes.over_characters end.host.size command screen.cells shape comes.note whole (TakesNotes.unformatted chars))).attributes chars))
+      ((given.notes.bounds command screen note).size ∙ size ∙ sym (given.notes.bounds command end.term.display.screen note).size)
 
   hosts_noted : (up : List ToHost) (down : List ToTerminal) (term : TermEnd) → is_painting end.host.pending ≡ false → HostsAlike end now.host → HostsAlike (record end { up = up; down = down; term = term }) now.host
   hosts_noted up down term unpainted (HostsAlike.same same) = HostsAlike.same same
@@ -243,9 +300,9 @@ module _ (given : LowerLaws) (app : Application) (is : IsApplication app) (lu : 
       let down : end.down ≡ ToTerminal.Note number command ∷ rest = sym c.down ∙ e in
       let comes : NoteComes end command = note_comes given app end number command rest down c.kept (agrees_still c) in
       let note = (given.notes.are_notes end.host.size command (shape_of_model app end.term.display.model end.host.size is c.kept.sizes.host) comes.note).note in
-      let bounds = given.notes.bounds command now.term.display.screen note in
       let gone : Gone = gone_now (ToTerminal.Note number command) rest e in
       let unpainted : is_painting end.host.pending ≡ false = note_unpainted app end number command rest down c.kept c.bound in
+      let both = both_answer number unpainted gone.3 (term_view (note_came number command end.term) rest end) (term_stepped (note_came number command now.term) rest now) refl refl refl refl in
       subst (λ (b : Bool). Cleared app lu (taken_so b (ToTerminal.Note number command) (note_came number command now.term) rest)) (sym bound_now)
       (record {
         told = term_view (note_came number command end.term) rest end;
@@ -266,8 +323,9 @@ module _ (given : LowerLaws) (app : Application) (is : IsApplication app) (lu : 
         down = refl;
         talk = c.talk;
         clears = c.clears;
-        up = both_say_too c.clears t.cleared end.host end.lost now.lost end.up now.up (ToHost.Response number Verdict.Positive) c.lost (λ paints. absurd (let wrong : false ≡ true = sym unpainted ∙ paints in cc)) c.up;
-        stage = Stage.gone gone.0 gone.1 (ap is_pa (given.notes.bounds command t.told.screen note).aid ∙ gone.2);
-        rest = ap (λ (d : Display). record d { screen = after_command command now.term.display.screen }) c.rest;
-        cursor = subst (λ (at : ℕ). at < length (after_command command now.term.display.screen).cells) (sym bounds.cursor) (subst (λ (size : ℕ). now.term.display.screen.cursor < size) (sym bounds.size) c.cursor);
+        up = both.says;
+        stage = Stage.gone gone.0 gone.1 (ap is_pa (given.notes.bounds command t.told.screen note).aid ∙ gone.2) both.fate;
+        model = c.model;
+        rest = λ shown. ap (λ (d : Display). record d { screen = after_command command now.term.display.screen }) (c.rest (λ paints. absurd (let wrong : false ≡ true = sym unpainted ∙ paints in cc)));
+        plain = λ cleared. still_plain number command rest comes unpainted (c.plain cleared);
       })

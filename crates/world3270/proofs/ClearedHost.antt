@@ -1,59 +1,66 @@
 -- What the host hears, and what it sends, after Clear in the wait: it can't tell the terminal from one that waits and displays what was told.
-use Rattle.std.proofs.Common.{◌≡◌, ◌⊎◌, inl, inr, ◌&&◌, Bool, true, false, ℕ, Option, None, Some, List, [], ◌∷◌, refl, ap, sym, subst, ◌∙◌, if◌then◌else◌}
+use Rattle.std.proofs.Common.{◌≡◌, ◌<◌, ◌⊎◌, inl, inr, ◌&&◌, Bool, true, false, ℕ, Option, None, Some, List, [], ◌∷◌, refl, ap, sym, subst, ◌∙◌, if◌then◌else◌}
 use Rattle.std.specs.Option.{option_and_then}
+use Rattle.std.specs.Prelude.{is_some}
 use Rattle.codes3270.specs.declared.attention.Aid.{Aid}
 use Rattle.codes3270.specs.declared.attention.Aid.TheVariants.{NoAid, Enter, Clear, Pf, Pa}
 use Rattle.datastream.specs.Grammar.{CommandParts}
+use Rattle.codes3270.specs.Size.{cells_in}
+use Rattle.datastream.specs.Wanted.{WantedScreen}
+use Rattle.datastream.specs.declared.command_code.CommandCode.TheVariants.{EraseWrite, EraseWriteAlternate}
+use Rattle.shadow.specs.Belief.{Shadow}
 use Rattle.shadow.specs.Exactness.{is_erase}
+use Rattle.shadow.specs.Paint.{is_base_size, paint}
 use Rattle.tn3270e_msg.specs.declared.cause.Cause.{Cause}
 use Rattle.lu_pool.specs.Asking.{answer_to}
 use Rattle.lu_pool.specs.HolderLaws.{IsSound}
 use Rattle.lu_pool.specs.declared.entry.Entry.{Entry}
-use Rattle.host_core.specs.Acts.{Act, Decision, Sent, acted, decided, decision_on, done, may_act}
+use Rattle.host_core.specs.Acts.{Act, Decision, Sent, acted, decided, decision_on, done, known_despite, may_act, values_shown, wanted_by, when_shown}
 use Rattle.host_core.specs.Application.{Application, IsApplication}
 use Rattle.host_core.specs.Messages.{ToHost, ToTerminal, Verdict}
 use Rattle.host_core.specs.Notes.{IsNoteText, may_note, note_command, noted, noted_as}
 use Rattle.host_core.specs.Questions.{act_by, answered_on, has_its_panel, is_asking, panel_for}
-use Rattle.host_core.specs.Session.{Session, Pending, agreed_lu, is_agreed}
+use Rattle.host_core.specs.Session.{Session, Pending, agreed_lu, is_agreed, model_in}
 use Rattle.host_core.specs.Takes.{Answers, HostStep, answered, dropping, if_answers, is_unread, may_be_read, may_have_changed, once_agreed, quiet, refused, response_came, took as host_took}
 use Rattle.host_core.specs.declared.question.Answer.{Answer as ApplicationAnswer}
 use Rattle.host_core.specs.declared.turn.Turn.{Turn}
 use Rattle.host_core.specs.declared.turn.Turn.TheVariants as whose
 use Rattle.host_core.specs.declared.unheard.Unheard.{Unheard}
 use Rattle.host_core.specs.declared.unheard.Unheard.TheVariants as unheards
-use Rattle.world3270.specs.statement.EveryTerminal.{LinkWithReport, is_pa}
+use Rattle.world3270.specs.statement.EveryTerminal.{LinkWithReport, is_clear, is_pa}
 use Rattle.world3270.specs.statement.Shown.{is_painting}
 use Rattle.world3270.specs.refinement.LowerLaws.{LowerLaws}
 use Rattle.world3270.specs.model.Link.{Link, cut, host_left_if, host_sent, host_stepped, sent}
-use Rattle.world3270.specs.model.Terminal.{Display, TermEnd}
+use Rattle.world3270.specs.model.Terminal.{Display, TermEnd, bound_to}
 use Rattle.world3270.specs.refinement.Invariant.{ConnectionInvariant}
 use Rattle.world3270.specs.refinement.Phases.{Kind}
 use Rattle.world3270.specs.refinement.View.{view_of}
 use Rattle.world3270.proofs.Acting.{acts, answers_are_shown, asking_parts, loses, may_act_at, may_act_when}
-use Rattle.world3270.proofs.Cleared.{Cleared, Follows, HearsOfClear, HostsAlike, PaintAnswered, Stage, agrees_still, but_unheard, hearing_clear, hears_of_clear, may_change, paint_answers, still_cleared}
+use Rattle.world3270.proofs.Cleared.{Cleared, Follows, HearsOfClear, HostsAlike, IsPlain, PaintAnswered, Stage, agrees_still, but_unheard, hearing_clear, hears_of_clear, may_change, paint_answers, still_cleared}
 use Rattle.world3270.proofs.ClearedQueue.{AddsKeys, DoesNoHarm, IsAnyKey, SaysToo, alike_cleared, clear_dropped, clears_behind, erases, noted_keys, only_keys, second_keys, second_of}
+use Rattle.world3270.proofs.ClearsDue.{Fate, clears_due, clears_in, due_behind, due_dropped, erases_no_more}
 use Rattle.world3270.proofs.HeardTurns.{GoesOn, goes_on}
 use Rattle.world3270.proofs.HostSteps.{act_changed, just_talks, still_changed}
 use Rattle.world3270.proofs.Noting.{notes}
 use Rattle.world3270.proofs.OneOfMany.{same_number}
 use Rattle.world3270.proofs.Queues.{nothing_sent}
 use Rattle.world3270.proofs.Returning.{HostReturns, returns_acted, returns_heard, returns_noted}
-use Rattle.world3270.proofs.SecondKeys.{IsSecondKey, SaysAlike, alike_silent, alike_unread, is_dropping, pending_after, second_key_dropped, turn_after, unless_read}
+use Rattle.world3270.proofs.SecondKeys.{IsSecondKey, SaysAlike, alike_silent, alike_unread, is_dropping, is_key, pending_after, second_key_dropped, turn_after, unless_read}
 use Rattle.world3270.proofs.SimulatedHost.{act_drops, act_talk, may_note_when, nothing_up}
 use Rattle.world3270.proofs.Simulation.{HeardAlike, heads, heard_alike}
 use Rattle.world3270.proofs.Up.{Answered, answers, host_view, response_took}
 
 -- Clear or another key
 pub data IsClearOr (aid : Aid) : Type 0 where
-  is_clear : aid ≡ Clear → IsClearOr aid
-  is_another : (aid ≡ Clear → ⊥) → IsClearOr aid
+  pressed_clear : aid ≡ Clear → IsClearOr aid
+  pressed_another : (aid ≡ Clear → ⊥) → IsClearOr aid
 
 pub clear_or : (aid : Aid) → IsClearOr aid
-clear_or Clear = IsClearOr.is_clear refl
-clear_or NoAid = IsClearOr.is_another (λ is. absurd (cc))
-clear_or Enter = IsClearOr.is_another (λ is. absurd (cc))
-clear_or (Pf number) = IsClearOr.is_another (λ is. absurd (cc))
-clear_or (Pa number) = IsClearOr.is_another (λ is. absurd (cc))
+clear_or Clear = IsClearOr.pressed_clear refl
+clear_or NoAid = IsClearOr.pressed_another (λ is. absurd (cc))
+clear_or Enter = IsClearOr.pressed_another (λ is. absurd (cc))
+clear_or (Pf number) = IsClearOr.pressed_another (λ is. absurd (cc))
+clear_or (Pa number) = IsClearOr.pressed_another (λ is. absurd (cc))
 
 -- what both say is nothing if the waiting terminal says nothing, and the other way round
 silent_told : (conn : Session) (told said : List ToHost) → said ≡ [] → SaysAlike conn told said → told ≡ []
@@ -61,7 +68,7 @@ silent_told conn told said none (SaysAlike.same is) = sym is ∙ none
 silent_told conn told said none (SaysAlike.checked number one other rest pends skips one_kept other_kept is_told is_said) = absurd (let wrong = sym is_said ∙ none in cc)
 
 -- where a paint erases, one waits for its answer
-paints_so : (pending : Pending) → erases pending ≡ true → is_painting pending ≡ true
+pub paints_so : (pending : Pending) → erases pending ≡ true → is_painting pending ≡ true
 paints_so (Pending.Writing number command) is = refl
 paints_so Pending.Nothing is = absurd (cc)
 paints_so (Pending.Reading number) is = absurd (cc)
@@ -88,6 +95,26 @@ erase_answered pool told number command agrees pends is any may =
     ∙ ap (λ (u : Unheard). quiet (answered command (record told { unheard = u }))) (sym (only_input told.unheard any may))
     ∙ sym (response_took pool told Kind.APaint number command agrees pends may)
 
+-- a paint over nothing erases
+pub nothing_erases : (over : Shadow) (wanted : WantedScreen) → over ≡ Shadow.NothingKnown → is_erase (paint (cells_in wanted.size) over wanted).code ≡ true
+nothing_erases over wanted is = ap (λ (s : Shadow). is_erase (paint (cells_in wanted.size) s wanted).code) is ∙ by_base (is_base_size wanted.size)
+  where
+    by_base : (b : Bool) → is_erase (if b then EraseWrite else EraseWriteAlternate) ≡ true
+    by_base true = refl
+    by_base false = refl
+
+known_nothing : (unheard : Unheard) (shadow : Shadow) → may_be_read unheard ≡ false → known_despite unheard shadow ≡ Shadow.NothingKnown
+known_nothing unheards.Clear shadow heard = refl
+known_nothing unheards.Nothing shadow heard = absurd (cc)
+known_nothing unheards.Input shadow heard = absurd (cc)
+
+pub key_unclear : (aid : Aid) → is_key aid ≡ true → is_clear aid ≡ false
+key_unclear Enter key = refl
+key_unclear (Pf number) key = refl
+key_unclear (Pa number) key = refl
+key_unclear NoAid key = refl
+key_unclear Clear key = absurd (cc)
+
 -- ---- the host hears
 
 module _ (given : LowerLaws) (app : Application) (is_app : IsApplication app) (lu : List ℕ) (t : LinkWithReport) (c : Cleared app lu t) where
@@ -104,28 +131,40 @@ module _ (given : LowerLaws) (app : Application) (is_app : IsApplication app) (l
   heard_by conn closes sends rest = record t { link = host_left_if closes (record now { up = rest; host = conn; down = sent now.lost now.down sends }) }
 
   -- the host is this one then, and the waiting terminal's that one
-  dropped_so : (waiting : Session) (conn : Session) (rest : List ToHost) → ConnectionInvariant app (view_of (record told { host = waiting })) → waiting.talk ≡ told.host.talk → waiting.pending ≡ told.host.pending → may_have_changed waiting.unheard ≡ true
-      → HostsAlike (record told { host = waiting }) conn → HostReturns waiting → SaysToo c.clears t.cleared waiting told.up rest → Cleared app lu (heard_by conn None [] rest)
-  dropped_so waiting conn rest kept talk pending any alike returns says =
+  dropped_so : (waiting : Session) (conn : Session) (rest : List ToHost) → ConnectionInvariant app (view_of (record told { host = waiting })) → waiting.talk ≡ told.host.talk → waiting.pending ≡ told.host.pending → waiting.shadow ≡ told.host.shadow → may_have_changed waiting.unheard ≡ true
+      → HostsAlike (record told { host = waiting }) conn → HostReturns waiting → (says : SaysToo c.clears t.cleared waiting told.up rest) → (Fate told c.up.said now → Fate (record told { host = waiting }) says.said (heard_by conn None [] rest).link) → Cleared app lu (heard_by conn None [] rest)
+  dropped_so waiting conn rest kept talk pending shadow any alike returns says fate =
       still_cleared app lu t c (record told { host = waiting }) (heard_by conn None [] rest).link c.clears refl refl refl refl kept talk any alike c.lost (nothing_sent now.lost now.down ∙ c.down) returns says (by_stage c.stage)
+      (λ shown paints none. shown (ap is_painting pending ∙ paints) none) by_plain
     where
-      by_stage : Stage t told → Stage (heard_by conn None [] rest) (record told { host = waiting })
-      by_stage (Stage.gone cleared locked no_pa) = Stage.gone cleared locked no_pa
+      by_plain : IsPlain told now.term.display.screen → IsPlain (record told { host = waiting }) now.term.display.screen
+      by_plain (IsPlain.bare none size) = IsPlain.bare none size
+      by_plain (IsPlain.over_nothing nothing paints silent) = IsPlain.over_nothing (shadow ∙ nothing) (ap is_painting pending ∙ paints) silent
+
+      by_stage : Stage t told c.up.said → Stage (heard_by conn None [] rest) (record told { host = waiting }) says.said
+      by_stage (Stage.gone cleared locked no_pa was) = Stage.gone cleared locked no_pa (fate was)
       by_stage (Stage.erased uncleared erasing silent since) = Stage.erased uncleared (ap erases pending ∙ erasing) silent since
 
   -- another second key is dropped
-  drops_key : (pool : Answers) (message : ToHost) (rest : List ToHost) → is_dropping told.host.turn told.host.pending ≡ true → IsSecondKey message → AddsKeys c.clears t.cleared told.host.turn told.host.pending c.up.said rest
+  drops_key : (pool : Answers) (message : ToHost) (rest : List ToHost) → now.up ≡ message ∷ rest → is_dropping told.host.turn told.host.pending ≡ true → IsSecondKey message → AddsKeys c.clears t.cleared told.host.turn told.host.pending c.up.said rest
       → Cleared app lu (record t { link = host_stepped (host_took pool now.host message) rest now })
-  drops_key pool message rest drops second x =
+  drops_key pool message rest queue drops second x =
       let is : host_took pool now.host message ≡ dropping second.parts.aid now.host =
       second_key_dropped pool now.host message second agreed_now (may_change told now.host c.host c.any) (ap (λ (s : Session). is_dropping s.turn s.pending) (but_unheard told now.host c.host) ∙ drops) in
       subst (λ (step : HostStep). Cleared app lu (record t { link = host_stepped step rest now })) (sym is)
-      (dropped_so told.host now.host rest c.kept refl refl c.any c.host c.returning (record { said = c.up.said; alike = c.up.alike; up = x }))
+      (dropped_so told.host now.host rest c.kept refl refl refl c.any c.host c.returning (record { said = c.up.said; alike = c.up.alike; up = x }) fate)
+    where
+      fate : Fate told c.up.said now → Fate told c.up.said (heard_by now.host None [] rest).link
+      fate (Fate.is_lost is) = Fate.is_lost is
+      fate (Fate.is_due due) =
+          Fate.is_due (due_dropped (erases told.host.pending) message second.parts c.up.said rest second.is (λ pending. key_unclear second.parts.aid second.key) (subst (λ (up : List ToHost). clears_due (erases told.host.pending) c.up.said < clears_due (erases told.host.pending) up) queue due))
+      fate (Fate.was_heard none unheard) = Fate.was_heard none unheard
+      fate (Fate.erases_next erasing none) = Fate.erases_next erasing none
 
   -- So is Clear, but the host paints the next panel whole.
-  drops_clear : (pool : Answers) (message : ToHost) (rest : List ToHost) → is_dropping told.host.turn told.host.pending ≡ true → (key : IsAnyKey c.clears told.host.pending c.up.said message) → key.parts.aid ≡ Clear
+  drops_clear : (pool : Answers) (message : ToHost) (rest : List ToHost) → now.up ≡ message ∷ rest → is_dropping told.host.turn told.host.pending ≡ true → (key : IsAnyKey c.clears told.host.pending c.up.said message) → key.parts.aid ≡ Clear
       → AddsKeys c.clears t.cleared told.host.turn told.host.pending c.up.said rest → Cleared app lu (record t { link = host_stepped (host_took pool now.host message) rest now })
-  drops_clear pool message rest drops key clear x = by_painting (is_painting told.host.pending) refl
+  drops_clear pool message rest queue drops key clear x = by_painting (is_painting told.host.pending) refl
     where
       dropping_now : is_dropping now.host.turn now.host.pending ≡ true
       dropping_now = ap (λ (s : Session). is_dropping s.turn s.pending) (but_unheard told now.host c.host) ∙ drops
@@ -148,28 +187,39 @@ module _ (given : LowerLaws) (app : Application) (is_app : IsApplication app) (l
           by_said (inl none) = inl (silent_told told.host told.up c.up.said none c.up.alike)
           by_said (inr erasing) = inr erasing
 
-      no_pa : is_painting told.host.pending ≡ false → Stage t told → is_pa told.term.display.screen.aid ≡ false
-      no_pa none (Stage.gone cleared locked it) = ap (λ (d : Display). is_pa d.screen.aid) c.display ∙ it
+      -- where no erase waits for its answer, the host has heard of it
+      fate_at : (waiting : Session) → waiting.pending ≡ told.host.pending → (erasing : Bool) → erases told.host.pending ≡ erasing → Fate told c.up.said now → Fate (record told { host = waiting }) c.up.said (heard_by (hearing_clear now.host) None [] rest).link
+      fate_at waiting same erasing is (Fate.is_lost lost) = Fate.is_lost lost
+      fate_at waiting same false is was = Fate.was_heard (ap erases same ∙ is) refl
+      fate_at waiting same true is (Fate.is_due due) =
+          Fate.is_due (subst (λ (p : Pending). clears_due (erases p) c.up.said < clears_due (erases p) rest) (sym same)
+          (due_dropped (erases told.host.pending) message key.parts c.up.said rest key.is (λ none. absurd (let wrong : true ≡ false = sym is ∙ none in cc))
+          (subst (λ (up : List ToHost). clears_due (erases told.host.pending) c.up.said < clears_due (erases told.host.pending) up) queue due)))
+      fate_at waiting same true is (Fate.was_heard none unheard) = absurd (let wrong : true ≡ false = sym is ∙ none in cc)
+      fate_at waiting same true is (Fate.erases_next erasing none) = Fate.erases_next (ap erases same ∙ is) none
+
+      no_pa : is_painting told.host.pending ≡ false → Stage t told c.up.said → is_pa told.term.display.screen.aid ≡ false
+      no_pa none (Stage.gone cleared locked it fate) = ap (λ (d : Display). is_pa d.screen.aid) c.display ∙ it
       no_pa none (Stage.erased uncleared erasing silent since) = absurd (let wrong : false ≡ true = sym none ∙ paints_so told.host.pending erasing in cc)
 
       by_painting : (paints : Bool) → is_painting told.host.pending ≡ paints → Cleared app lu (record t { link = host_stepped (host_took pool now.host message) rest now })
       by_painting true paints =
-          goes (dropped_so told.host (hearing_clear now.host) rest c.kept refl refl c.any
+          goes (dropped_so told.host (hearing_clear now.host) rest c.kept refl refl refl c.any
           (HostsAlike.crossed paints harmless hearing_alike) c.returning
-          (record { said = c.up.said; alike = c.up.alike; up = x }))
+          (record { said = c.up.said; alike = c.up.alike; up = x }) (fate_at told.host refl (erases told.host.pending) refl))
           (λ none. absurd (let wrong : true ≡ false = sym (painting_now ∙ paints) ∙ none in cc))
       by_painting false none =
           let hears : HearsOfClear app told = hears_of_clear app told c.kept c.any (no_pa none c.stage) drops none in
-          goes (dropped_so (hearing_clear told.host) (hearing_clear now.host) rest hears.kept refl refl refl (HostsAlike.same hearing_alike) c.returning
-          (record { said = c.up.said; alike = alike_cleared told.host told.up c.up.said c.any c.up.alike; up = x }))
+          goes (dropped_so (hearing_clear told.host) (hearing_clear now.host) rest hears.kept refl refl refl refl (HostsAlike.same hearing_alike) c.returning
+          (record { said = c.up.said; alike = alike_cleared told.host told.up c.up.said c.any c.up.alike; up = x }) (fate_at (hearing_clear told.host) refl (erases told.host.pending) refl))
           (λ unpainted. ap (λ (s : Session). is_unread s.turn_reason) (but_unheard told now.host c.host) ∙ hears.read)
 
   -- Any other message is heard of both; of what the waiting terminal says first the host makes the same.
-  hears_both : (entries : List Entry) → IsSound entries → (message : ToHost) → host_took (answer_to entries) now.host message ≡ host_took (answer_to entries) told.host message → (rest others : List ToHost)
+  hears_both : (entries : List Entry) → IsSound entries → (message : ToHost) → host_took (answer_to entries) now.host message ≡ host_took (answer_to entries) told.host message → (rest others : List ToHost) → now.up ≡ message ∷ rest → c.up.said ≡ message ∷ others
       → HeardAlike (answer_to entries) told.host told.up message others
       → AddsKeys (clears_behind message c.clears t.cleared) t.cleared (turn_after message told.host.turn) (pending_after message told.host.pending) others rest
       → Follows app lu (record t { link = host_stepped (host_took (answer_to entries) now.host message) rest now })
-  hears_both entries sound message made rest others alike x =
+  hears_both entries sound message made rest others queue some alike x =
       subst (λ (step : HostStep). Follows app lu (record t { link = host_stepped step rest now })) (alike.same ∙ sym made)
       (subst (λ (closes : Option Cause). Follows app lu (heard_by step.conn closes step.sends rest)) (sym heard.open_end) (by_stage c.stage))
     where
@@ -202,10 +252,40 @@ module _ (given : LowerLaws) (app : Application) (is_app : IsApplication app) (l
       any : may_have_changed step.conn.unheard ≡ true
       any = (just_talks pool told.host first).unheard ∙ c.any
 
-      by_stage : Stage t told → Follows app lu (heard_by step.conn None step.sends rest)
-      by_stage (Stage.gone cleared locked no_pa) =
+      pending_is : step.conn.pending ≡ pending_after message told.host.pending
+      pending_is = goes.pending ∙ alike.pending
+
+      -- where the host has heard of Clear, and no paint waits for its answer
+      unheard_is : erases told.host.pending ≡ false → HostsAlike told now.host → step.conn.unheard ≡ now.host.unheard
+      unheard_is none (HostsAlike.same is) = goes.unheard ∙ sym (ap (λ (s : Session). s.unheard) is)
+      unheard_is none (HostsAlike.crossed paints harmless is) = by_harm (harmless paints)
+        where
+          by_harm : (told.up ≡ []) ⊎ (erases told.host.pending ≡ true) → step.conn.unheard ≡ now.host.unheard
+          by_harm (inl silent) = absurd (let wrong = sym silent ∙ alike.is in cc)
+          by_harm (inr erasing) = absurd (let wrong : false ≡ true = sym none ∙ erasing in cc)
+
+      fate : Fate told c.up.said now → Fate (host_view step others told) others (heard_by step.conn None step.sends rest).link
+      fate (Fate.is_lost lost) = Fate.is_lost lost
+      fate (Fate.is_due due) =
+          Fate.is_due (subst (λ (p : Pending). clears_due (erases p) others < clears_due (erases p) rest) (sym pending_is)
+          (due_behind message told.host.pending others rest
+          (subst (λ (up : List ToHost). clears_due (erases told.host.pending) (message ∷ others) < clears_due (erases told.host.pending) up) queue
+          (subst (λ (said : List ToHost). clears_due (erases told.host.pending) said < clears_due (erases told.host.pending) now.up) some due))))
+      fate (Fate.was_heard none unheard) = Fate.was_heard (ap erases pending_is ∙ erases_no_more message told.host.pending none) (ap may_be_read (unheard_is none c.host) ∙ unheard)
+      fate (Fate.erases_next erasing silent) = absurd (let wrong = sym silent ∙ alike.is in cc)
+
+      -- something was displayed, and not painted over
+      shown_before : is_painting told.host.pending ≡ true → told.up ≡ [] → ⊥
+      shown_before paints silent = absurd (let wrong = sym silent ∙ alike.is in cc)
+
+      by_plain : IsPlain told now.term.display.screen → IsPlain (host_view step others told) now.term.display.screen
+      by_plain (IsPlain.bare none size) = IsPlain.bare none size
+      by_plain (IsPlain.over_nothing nothing paints silent) = absurd (shown_before paints silent)
+
+      by_stage : Stage t told c.up.said → Follows app lu (heard_by step.conn None step.sends rest)
+      by_stage (Stage.gone cleared locked no_pa was) =
           Follows.cleared (still_cleared app lu t c (host_view step others told) (heard_by step.conn None step.sends rest).link (clears_behind message c.clears t.cleared) refl refl refl refl heard.kept goes.talk any
-          (HostsAlike.same refl) c.lost down returns (record { said = others; alike = SaysAlike.same refl; up = up }) (Stage.gone cleared locked no_pa))
+          (HostsAlike.same refl) c.lost down returns (record { said = others; alike = SaysAlike.same refl; up = up }) (Stage.gone cleared locked no_pa (fate was)) (λ shown. shown_before) by_plain)
       by_stage (Stage.erased uncleared erasing silent since) = Follows.simulated (record {
         told = host_view step others told;
         kept = heard.kept;
@@ -217,6 +297,7 @@ module _ (given : LowerLaws) (app : Application) (is_app : IsApplication app) (l
         display = c.display;
         waits = c.waits;
         uncleared = uncleared;
+        blank = λ unbound. absurd (let wrong : false ≡ true = sym unbound ∙ (ap (λ talk. is_some (bound_to talk.talk.state)) c.talk ∙ c.bound) in cc);
         host_here = c.host_here;
         term_here = c.term_here;
         simulates = record {
@@ -290,14 +371,14 @@ module _ (given : LowerLaws) (app : Application) (is_app : IsApplication app) (l
     where
       by_key : is_dropping told.host.turn told.host.pending ≡ true → (key : IsAnyKey c.clears told.host.pending c.up.said message) → AddsKeys c.clears t.cleared told.host.turn told.host.pending c.up.said rest → IsClearOr key.parts.aid
           → Cleared app lu (record t { link = host_stepped (host_took (answer_to entries) now.host message) rest now })
-      by_key drops key x (IsClearOr.is_clear pressed) = drops_clear (answer_to entries) message rest drops key pressed x
-      by_key drops key x (IsClearOr.is_another unclear) = drops_key (answer_to entries) message rest drops (second_of key unclear) x
+      by_key drops key x (IsClearOr.pressed_clear pressed) = drops_clear (answer_to entries) message rest is drops key pressed x
+      by_key drops key x (IsClearOr.pressed_another unclear) = drops_key (answer_to entries) message rest is drops (second_of key unclear) x
 
       by_extra : AddsKeys c.clears t.cleared told.host.turn told.host.pending c.up.said (message ∷ rest) → Follows app lu (record t { link = host_stepped (host_took (answer_to entries) now.host message) rest now })
       by_extra (inl x) = Follows.cleared (by_key x.0 x.1 x.2 (clear_or x.1.parts.aid))
       by_extra (inr x) =
           let alike = heard_alike (answer_to entries) told.host told.up c.up.said message x.0 (agrees_still c) x.1 c.up.alike in
-          hears_both entries sound message (made_alike entries message x.0 x.1 alike) rest x.0 alike x.2
+          hears_both entries sound message (made_alike entries message x.0 x.1 alike) rest x.0 is x.1 alike x.2
 
 -- ---- the host sends
 
@@ -341,22 +422,48 @@ module _ (given : LowerLaws) (app : Application) (is : IsApplication app) (lu : 
   sends_so sending = record t { link = host_sent sending t.link }
 
   -- where unpainted paint waits for its answer, the screen was cleared
-  gone_now : {later : LinkWithReport} {link : Link} → is_painting end.host.pending ≡ false → Stage t end → later.cleared ≡ t.cleared → later.told ≡ t.told → link.term ≡ end.term → Stage later link
-  gone_now unpainted (Stage.gone cleared locked no_pa) same told term =
-      Stage.gone (same ∙ cleared) (ap (λ (e : TermEnd). e.display.keyboard.lock) term ∙ locked) (ap (λ (d : Display). is_pa d.screen.aid) told ∙ no_pa)
-  gone_now unpainted (Stage.erased uncleared erasing silent since) same told term = absurd (let wrong : false ≡ true = sym unpainted ∙ paints_so end.host.pending erasing in cc)
+  gone_now : {later : LinkWithReport} {link : Link} {said : List ToHost} → is_painting end.host.pending ≡ false → Stage t end c.up.said → later.cleared ≡ t.cleared → later.told ≡ t.told → link.term ≡ end.term → (Fate end c.up.said t.link → Fate link said later.link)
+      → Stage later link said
+  gone_now unpainted (Stage.gone cleared locked no_pa was) same told term fate =
+      Stage.gone (same ∙ cleared) (ap (λ (e : TermEnd). e.display.keyboard.lock) term ∙ locked) (ap (λ (d : Display). is_pa d.screen.aid) told ∙ no_pa) (fate was)
+  gone_now unpainted (Stage.erased uncleared erasing silent since) same told term fate = absurd (let wrong : false ≡ true = sym unpainted ∙ paints_so end.host.pending erasing in cc)
 
   -- both ends send this
   both_send : (sending : Sent) → ConnectionInvariant app (view_of (host_sent (Some sending) end)) → sending.conn.talk ≡ end.host.talk → may_have_changed sending.conn.unheard ≡ true → HostReturns sending.conn
-      → AddsKeys c.clears t.cleared sending.conn.turn sending.conn.pending end.up t.link.up → is_painting end.host.pending ≡ false → Cleared app lu (sends_so (Some sending))
-  both_send sending kept talk any returning up unpainted =
+      → AddsKeys c.clears t.cleared sending.conn.turn sending.conn.pending end.up t.link.up → is_painting end.host.pending ≡ false → (Fate end c.up.said t.link → Fate (host_sent (Some sending) end) end.up (host_sent (Some sending) t.link)) → Cleared app lu (sends_so (Some sending))
+  both_send sending kept talk any returning up unpainted fate =
       still_cleared app lu t c (host_sent (Some sending) end) (host_sent (Some sending) t.link) c.clears refl refl refl refl kept talk any (HostsAlike.same refl) c.lost
       (ap (λ (lost : Bool). sent lost t.link.down (sending.message ∷ [])) c.lost ∙ ap (λ (down : List ToTerminal). sent end.lost down (sending.message ∷ [])) c.down) returning
-      (record { said = end.up; alike = SaysAlike.same refl; up = up }) (gone_now unpainted c.stage refl refl refl)
+      (record { said = end.up; alike = SaysAlike.same refl; up = up }) (gone_now unpainted c.stage refl refl refl fate)
+      (λ shown paints none. absurd (let wrong : false ≡ true = sym unpainted ∙ paints in cc)) by_plain
+    where
+      by_plain : IsPlain end t.link.term.display.screen → IsPlain (host_sent (Some sending) end) t.link.term.display.screen
+      by_plain (IsPlain.bare none size) = IsPlain.bare none size
+      by_plain (IsPlain.over_nothing nothing paints silent) = absurd (let wrong : false ≡ true = sym unpainted ∙ paints in cc)
+
+  -- A host that has heard of Clear knows nothing when it paints.
+  fate_acted : (act : Act) → t.link.host ≡ end.host → end.host.pending ≡ Pending.Nothing → end.up ≡ [] → Fate end c.up.said t.link
+      → Fate (host_sent (Some (done app end.host act)) end) end.up (host_sent (Some (done app end.host act)) t.link)
+  fate_acted act same pends silent (Fate.is_lost lost) = Fate.is_lost lost
+  fate_acted act same pends silent (Fate.erases_next erasing none) = absurd (let wrong : false ≡ true = sym (ap erases pends) ∙ erasing in cc)
+  fate_acted Act.Read same pends silent (Fate.was_heard none unheard) = Fate.was_heard refl (sym (ap (λ (s : Session). may_be_read s.unheard) same) ∙ unheard)
+  fate_acted (Act.Show panel message keep values) same pends silent (Fate.was_heard none unheard) =
+      Fate.erases_next (nothing_erases (when_shown end.host).shadow (wanted_by app (when_shown end.host) (app.shown (model_in end.host) panel) message keep (values_shown app (app.shown (model_in end.host) panel) message values))
+      (known_nothing end.host.unheard end.host.shadow (sym (ap (λ (s : Session). may_be_read s.unheard) same) ∙ unheard))) silent
+  fate_acted act same pends silent (Fate.is_due due) = by_erasing (erases (done app end.host act).conn.pending) refl
+    where
+      due_now : clears_in end.up < clears_in t.link.up
+      due_now =
+          subst (λ (said : List ToHost). clears_in said < clears_in t.link.up) (alike_silent end.host end.up c.up.said silent c.up.alike ∙ sym silent)
+          (subst (λ (b : Bool). clears_due b c.up.said < clears_due b t.link.up) (ap erases pends) due)
+
+      by_erasing : (erasing : Bool) → erases (done app end.host act).conn.pending ≡ erasing → Fate (host_sent (Some (done app end.host act)) end) end.up (host_sent (Some (done app end.host act)) t.link)
+      by_erasing true is = Fate.erases_next is silent
+      by_erasing false is = Fate.is_due (subst (λ (b : Bool). clears_due b end.up < clears_due b t.link.up) (sym is) due_now)
 
   -- an act
-  both_act : (act : Act) → may_act_now ≡ true → ConnectionInvariant app (view_of (host_sent (Some (done app end.host act)) end)) → Cleared app lu (sends_so (Some (done app end.host act)))
-  both_act act may kept =
+  both_act : (act : Act) → t.link.host ≡ end.host → may_act_now ≡ true → ConnectionInvariant app (view_of (host_sent (Some (done app end.host act)) end)) → Cleared app lu (sends_so (Some (done app end.host act)))
+  both_act act same may kept =
       let when = may_act_when end.host.turn end.host.pending (is_agreed end.host.talk.state) may in
       let none : end.up ≡ [] = nothing_up app end c.kept (agrees_still c) when.0 when.1 in
       let sending : Sent = done app end.host act in
@@ -365,7 +472,7 @@ module _ (given : LowerLaws) (app : Application) (is : IsApplication app) (lu : 
       (subst (λ (told : List ToHost). AddsKeys c.clears t.cleared sending.conn.turn sending.conn.pending told t.link.up) (sym none)
       (only_keys c.clears t.cleared end.host.turn sending.conn.turn end.host.pending sending.conn.pending t.link.up (act_drops app end.host act when.0)
       (subst (λ (said : List ToHost). AddsKeys c.clears t.cleared end.host.turn end.host.pending said t.link.up) (alike_silent end.host end.up c.up.said none c.up.alike) c.up.up)))
-      (ap is_painting when.1)
+      (ap is_painting when.1) (fate_acted act same when.1 none)
 
   -- a host that has heard of Clear while a paint is under way sends nothing
   waits_on : (sends : Session → Option Sent) → ((conn : Session) → is_painting conn.pending ≡ true → sends conn ≡ None) → (t.link.host ≡ end.host → Cleared app lu (sends_so (sends end.host))) → Cleared app lu (sends_so (sends t.link.host))
@@ -379,37 +486,37 @@ module _ (given : LowerLaws) (app : Application) (is : IsApplication app) (lu : 
   pub acts_cleared : Cleared app lu (sends_so (acted app t.link.host))
   acts_cleared =
       waits_on (acted app) (no_act app)
-      (λ same. by_may may_act_now refl (decision_on app end.host end.host.turn_reason) (acts given app is end c.kept))
+      (λ same. by_may same may_act_now refl (decision_on app end.host end.host.turn_reason) (acts given app is end c.kept))
     where
-      by_may : (may : Bool) → may_act_now ≡ may → (decision : Decision)
+      by_may : t.link.host ≡ end.host → (may : Bool) → may_act_now ≡ may → (decision : Decision)
           → ConnectionInvariant app (view_of (host_sent (option_and_then (decided app end.host) (if may then Some decision else None)) end)) → Cleared app lu (sends_so (option_and_then (decided app end.host) (if may then Some decision else None)))
-      by_may true may (Decision.Do act) kept = both_act act may kept
-      by_may true may Decision.Asks kept = c
-      by_may false may decision kept = c
+      by_may same true may (Decision.Do act) kept = both_act act same may kept
+      by_may same true may Decision.Asks kept = c
+      by_may same false may decision kept = c
 
   pub answers_cleared : (said : ApplicationAnswer) → Cleared app lu (sends_so (answered_on app t.link.host said))
   answers_cleared said =
       waits_on (λ (conn : Session). answered_on app conn said) (λ conn. no_answer app conn said)
-      (λ same. by_open (is_asking app end.host) refl (has_its_panel app said) (answers_are_shown given app is end c.kept said))
+      (λ same. by_open same (is_asking app end.host) refl (has_its_panel app said) (answers_are_shown given app is end c.kept said))
     where
       act : Act
       act = act_by app end.host said (panel_for app end.host said)
 
-      by_open : (asked : Bool) → is_asking app end.host ≡ asked → (there : Bool) → ConnectionInvariant app (view_of (host_sent (if asked && there then Some (done app end.host act) else None) end))
+      by_open : t.link.host ≡ end.host → (asked : Bool) → is_asking app end.host ≡ asked → (there : Bool) → ConnectionInvariant app (view_of (host_sent (if asked && there then Some (done app end.host act) else None) end))
           → Cleared app lu (sends_so (if asked && there then Some (done app end.host act) else None))
-      by_open true open_now true kept = both_act act (asking_parts app end.host open_now).0 kept
-      by_open true open_now false kept = c
-      by_open false open_now there kept = c
+      by_open same true open_now true kept = both_act act same (asking_parts app end.host open_now).0 kept
+      by_open same true open_now false kept = c
+      by_open same false open_now there kept = c
 
   pub notes_cleared : (text : List ℕ) → IsNoteText text → Cleared app lu (sends_so (noted text t.link.host))
   notes_cleared text is_text =
       waits_on (noted text) (no_note text)
-      (λ same. by_may (may_note end.host.turn end.host.pending (is_agreed end.host.talk.state)) refl (notes app text is_text end c.kept))
+      (λ same. by_may same (may_note end.host.turn end.host.pending (is_agreed end.host.talk.state)) refl (notes app text is_text end c.kept))
     where
-      by_may : (may : Bool) → may_note end.host.turn end.host.pending (is_agreed end.host.talk.state) ≡ may
+      by_may : t.link.host ≡ end.host → (may : Bool) → may_note end.host.turn end.host.pending (is_agreed end.host.talk.state) ≡ may
           → ConnectionInvariant app (view_of (host_sent (if may then Some (noted_as text end.host) else None) end)) → Cleared app lu (sends_so (if may then Some (noted_as text end.host) else None))
-      by_may false may kept = c
-      by_may true may kept =
+      by_may same false may kept = c
+      by_may same true may kept =
           let when = may_note_when end.host.turn end.host.pending (is_agreed end.host.talk.state) may in
           let command = note_command end.host.size text in
           let up : AddsKeys c.clears t.cleared end.host.turn end.host.pending end.up t.link.up =
@@ -418,13 +525,25 @@ module _ (given : LowerLaws) (app : Application) (is : IsApplication app) (lu : 
           (subst (λ (turn : Turn). AddsKeys c.clears t.cleared turn (Pending.Noting end.host.next_seq command) end.up t.link.up) (sym when.0)
           (noted_keys c.clears t.cleared end.host.next_seq command end.up t.link.up
           (subst (λ (turn : Turn). AddsKeys c.clears t.cleared turn Pending.Nothing end.up t.link.up) when.0 (subst (λ (pending : Pending). AddsKeys c.clears t.cleared end.host.turn pending end.up t.link.up) when.1 up))))
-          (ap is_painting when.1)
+          (ap is_painting when.1) (fate_noted same when.1)
+        where
+          fate_noted : t.link.host ≡ end.host → end.host.pending ≡ Pending.Nothing → Fate end c.up.said t.link → Fate (host_sent (Some (noted_as text end.host)) end) end.up (host_sent (Some (noted_as text end.host)) t.link)
+          fate_noted same pends (Fate.is_lost lost) = Fate.is_lost lost
+          fate_noted same pends (Fate.erases_next erasing none) = absurd (let wrong : false ≡ true = sym (ap erases pends) ∙ erasing in cc)
+          fate_noted same pends (Fate.was_heard none unheard) = Fate.was_heard refl (sym (ap (λ (s : Session). may_be_read s.unheard) same) ∙ unheard)
+          fate_noted same pends (Fate.is_due due) =
+              Fate.is_due (subst (λ (said : List ToHost). clears_in said < clears_in t.link.up) (alike_unread end.host end.up c.up.said pends c.up.alike)
+              (subst (λ (b : Bool). clears_due b c.up.said < clears_due b t.link.up) (ap erases pends) due))
 
   pub loses_cleared : Cleared app lu (record t { link = cut t.link })
-  loses_cleared = still_cleared app lu t c (cut end) (cut t.link) c.clears refl refl refl refl (loses app (view_of end) c.kept) refl c.any (hosts_lost c.host) refl c.down c.returning c.up (lost_stage c.stage)
+  loses_cleared = still_cleared app lu t c (cut end) (cut t.link) c.clears refl refl refl refl (loses app (view_of end) c.kept) refl c.any (hosts_lost c.host) refl c.down c.returning c.up (lost_stage c.stage) (λ shown. shown) lost_plain
     where
-      lost_stage : Stage t end → Stage (record t { link = cut t.link }) (cut end)
-      lost_stage (Stage.gone cleared locked no_pa) = Stage.gone cleared locked no_pa
+      lost_plain : IsPlain end t.link.term.display.screen → IsPlain (cut end) t.link.term.display.screen
+      lost_plain (IsPlain.bare none size) = IsPlain.bare none size
+      lost_plain (IsPlain.over_nothing nothing paints silent) = IsPlain.over_nothing nothing paints silent
+
+      lost_stage : Stage t end c.up.said → Stage (record t { link = cut t.link }) (cut end) c.up.said
+      lost_stage (Stage.gone cleared locked no_pa fate) = Stage.gone cleared locked no_pa (Fate.is_lost refl)
       lost_stage (Stage.erased uncleared erasing silent since) = Stage.erased uncleared erasing silent since
 
       hosts_lost : HostsAlike end t.link.host → HostsAlike (cut end) t.link.host

@@ -1,9 +1,12 @@
 -- Clear is pressed in the wait; and what an operator does after that, until the answer to the next paint is heard.
-use Rattle.std.proofs.Common.{◌≡◌, ◌<◌, ◌||◌, ◌&&◌, inr, Bool, true, false, ℕ, List, [], ◌∷◌, length, refl, ap, sym, subst, ◌∙◌, if◌then◌else◌}
-use Rattle.std.specs.Prelude.{is_some}
+use Rattle.std.proofs.Common.{◌≡◌, ◌<◌, ◌||◌, ◌&&◌, inr, Bool, true, false, ℕ, Some, List, [], ◌∷◌, ◌++◌, length, refl, ap, sym, subst, ◌∙◌, if◌then◌else◌}
+use Rattle.std.specs.Prelude.{is_some, replicate}
 use Rattle.codes3270.specs.declared.attention.Aid.{Aid}
 use Rattle.codes3270.specs.declared.attention.Aid.TheVariants.{NoAid, Enter, Clear, Pf, Pa}
 use Rattle.codes3270.specs.declared.attribute.Cell.{Cell}
+use Rattle.codes3270.specs.declared.attribute.Cell.TheVariants.{Char}
+use Rattle.datastream.specs.Fields.{fields}
+use Rattle.shadow.proofs.HeardOthers.{no_field}
 use Rattle.datastream.specs.InboundFields.{modified_data}
 use Rattle.datastream.specs.InboundText.{InboundParts}
 use Rattle.datastream.specs.KeptByKeys.{KeptByKeys}
@@ -14,10 +17,11 @@ use Rattle.keyboard.specs.declared.key.Lock.{Lock}
 use Rattle.keyboard.specs.declared.key.Lock.TheVariants.{Free, Wait, Error}
 use Rattle.keyboard.specs.declared.key.Pressed.TheVariants.{Send}
 use Rattle.host_core.specs.Application.{Application}
-use Rattle.host_core.specs.Messages.{ToHost, ToTerminal}
-use Rattle.host_core.specs.Session.{Session, agreed_lu}
+use Rattle.host_core.specs.Laws.{MarksInput}
+use Rattle.host_core.specs.Messages.{ToHost, ToTerminal, Verdict}
+use Rattle.host_core.specs.Session.{Pending, Session, agreed_lu}
 use Rattle.host_core.specs.Takes.{may_have_changed}
-use Rattle.world3270.specs.statement.EveryTerminal.{LinkWithReport, MayClear, is_clear, is_pa, key_pressed, operated, sends_clear}
+use Rattle.world3270.specs.statement.EveryTerminal.{LinkWithReport, is_clear, is_pa, key_pressed, operated, sends_clear}
 use Rattle.world3270.specs.statement.Shown.{is_painting}
 use Rattle.world3270.specs.refinement.Invariant.{ConnectionInvariant}
 use Rattle.world3270.specs.refinement.LowerLaws.{LowerLaws}
@@ -26,19 +30,21 @@ use Rattle.world3270.specs.model.Link.{Link, sent, term_stepped}
 use Rattle.world3270.specs.model.Enabled.{is_queued}
 use Rattle.world3270.specs.statement.Rules.{Operates, after_sending, data_by, edited, shows, with_aid}
 use Rattle.world3270.specs.model.Terminal.{Display, TermEnd, TermStep, bound_to, data_of, is_bound}
-use Rattle.world3270.proofs.Cleared.{Cleared, Follows, HostsAlike, Stage, hearing_clear}
-use Rattle.world3270.proofs.ClearedHost.{IsClearOr, clear_or}
-use Rattle.world3270.proofs.ClearedQueue.{SaysToo, any_keys, both_say_too, erases, is_any_key, key_last_too, with_clears}
+use Rattle.world3270.proofs.Cleared.{Cleared, DisplaysAlike, Follows, HostsAlike, IsPlain, PaintAnswered, Stage, hearing_clear, paint_answers}
+use Rattle.world3270.proofs.ClearedHost.{IsClearOr, clear_or, paints_so}
+use Rattle.world3270.proofs.ClearedQueue.{AddsKeys, SaysToo, any_keys, any_last, both_say_too, erases, is_any_key, with_clears}
+use Rattle.world3270.proofs.ClearsDue.{Fate, clears_after, clears_due, due_after, due_in, due_still, is_clear_data}
 use Rattle.world3270.proofs.Queues.{nothing_sent}
+use Rattle.world3270.proofs.ReadsInput.{still_unformatted}
 use Rattle.world3270.proofs.Returning.{HostReturns}
 use Rattle.world3270.proofs.RuleKeys.{edited_link, edits_kept, sends_kept, sent_link, with_aid-aid, with_aid-cursor, with_aid-whole}
-use Rattle.world3270.proofs.SecondKeys.{waits_drop}
+use Rattle.world3270.proofs.SecondKeys.{SaysAlike, drops_behind, waits_drop}
 use Rattle.world3270.proofs.Sent.{key_aid, key_form}
-use Rattle.world3270.proofs.SimulatedKeys.{keys_but_clear, operates_still, or_again, same_cells}
+use Rattle.world3270.proofs.SimulatedKeys.{clears_unbound, keys_but_clear, operates_still, or_again, same_cells}
 use Rattle.world3270.proofs.Simulation.{Simulated, Since, is_waiting, since_same}
-use Rattle.world3270.proofs.WithoutClear.{operated_none}
+use Rattle.world3270.proofs.WithoutClear.{both_no, operated_none}
 
-any_key : (aid : Aid) → (aid ≡ NoAid → ⊥) → is_any_key aid ≡ true
+pub any_key : (aid : Aid) → (aid ≡ NoAid → ⊥) → is_any_key aid ≡ true
 any_key NoAid some = absurd (some refl)
 any_key Enter some = refl
 any_key (Pf number) some = refl
@@ -50,30 +56,75 @@ is_locked Wait is = refl
 is_locked Free is = absurd (cc)
 is_locked Error is = absurd (cc)
 
--- what a key sends comes last, where keys are dropped
-module _ (app : Application) (lu : List ℕ) (t : LinkWithReport) (c : Cleared app lu t) (locked : c.told.term.display.keyboard.lock ≡ Wait) where
-  pub key_queued : (clears later : Bool) (bound : Bool) (aid : Aid) → (aid ≡ NoAid → ⊥) → (aid ≡ Clear → (clears ≡ true) × (later ≡ true)) → SaysToo clears later c.told.host c.told.up t.link.up
-      → SaysToo clears later c.told.host c.told.up (sent t.link.lost t.link.up (data_of bound (Send aid) t.link.term.display.size (with_aid aid t.link.term.display.screen)))
-  key_queued clears later false aid some may says = subst (λ (up : List ToHost). SaysToo clears later c.told.host c.told.up up) (sym (nothing_sent t.link.lost t.link.up)) says
-  key_queued clears later true aid some may says = by_lost t.link.lost refl
-    where
-      parts : InboundParts
-      parts = modified_data Modified t.link.term.display.size (with_aid aid t.link.term.display.screen)
+nulled : (aid : Aid) (screen : Screen) → aid ≡ Clear → fields (with_aid aid screen).cells ≡ []
+nulled Clear screen clear = no_field (replicate (length screen.cells) (Char 0)) 0 (length screen.cells)
+nulled NoAid screen clear = absurd (cc)
+nulled Enter screen clear = absurd (cc)
+nulled (Pf number) screen clear = absurd (cc)
+nulled (Pa number) screen clear = absurd (cc)
 
-      aid_is : parts.aid ≡ aid
-      aid_is = key_aid t.link.term.display.size (with_aid aid t.link.term.display.screen) ∙ with_aid-aid aid t.link.term.display.screen
+bare_key : (aid : Aid) (screen : Screen) → fields screen.cells ≡ [] → fields (with_aid aid screen).cells ≡ []
+bare_key Clear screen none = no_field (replicate (length screen.cells) (Char 0)) 0 (length screen.cells)
+bare_key NoAid screen none = none
+bare_key Enter screen none = none
+bare_key (Pf number) screen none = none
+bare_key (Pa number) screen none = none
 
-      by_lost : (lost : Bool) → t.link.lost ≡ lost → SaysToo clears later c.told.host c.told.up (sent lost t.link.up (ToHost.Data parts ∷ []))
-      by_lost true is = says
-      by_lost false is =
-          key_last_too clears later c.told.host c.told.up t.link.up (ToHost.Data parts) parts refl (key_form t.link.term.display.size (with_aid aid t.link.term.display.screen)) (ap is_any_key aid_is ∙ any_key aid some)
-          (λ clear. may (sym aid_is ∙ clear)) (waits_drop app c.told c.kept (sym c.lost ∙ is) locked) says
+-- ---- in the wait
 
--- ---- after Clear
+-- A terminal at which keys are dropped, Clear too.
+pub record IsLocked (app : Application) (lu : List ℕ) (t : LinkWithReport) : Type 0 where
+  pub told : Link
+  pub kept : ConnectionInvariant app (view_of told)
+  pub agreed : agreed_lu told.host.talk.state ≡ Some lu
+  pub any : may_have_changed told.host.unheard ≡ true
+  pub unsure : told.term.waits ≡ false
+  pub marks : MarksInput app
+  pub returning : HostReturns told.host
+  pub display : told.term.display ≡ record t.told { keyboard = told.term.display.keyboard }
+  pub waits : t.waits ≡ true
+  pub locked : told.term.display.keyboard.lock ≡ Wait
+  pub no_pa : is_pa t.told.screen.aid ≡ false
+  pub bound : is_bound told.term ≡ true
+  pub host_here : t.link.host_here ≡ true
+  pub term_here : is_some t.link.term_here ≡ true
+  pub host : HostsAlike told t.link.host
+  pub lost : t.link.lost ≡ told.lost
+  pub down : t.link.down ≡ told.down
+  pub talk : t.link.term.talk ≡ told.term.talk
+  pub said : List ToHost
+  pub alike : SaysAlike told.host told.up said
+  pub keys : AddsKeys true true told.host.turn told.host.pending said t.link.up
+  pub model : t.link.term.display.model ≡ told.term.display.model
+  pub rest : DisplaysAlike told t.link
 
-module _ (app : Application) (lu : List ℕ) (t : LinkWithReport) (c : Cleared app lu t) (gone : t.cleared ≡ true) (locked : c.told.term.display.keyboard.lock ≡ Wait) (no_pa : is_pa t.told.screen.aid ≡ false) where
+-- what both say ends where keys are dropped
+drops_said : (conn : Session) (told said : List ToHost) → SaysAlike conn told said → drops_behind told conn.turn conn.pending ≡ true → drops_behind said conn.turn conn.pending ≡ true
+drops_said conn told said (SaysAlike.same is_same) drops = ap (λ (l : List ToHost). drops_behind l conn.turn conn.pending) is_same ∙ drops
+drops_said conn told said (SaysAlike.checked number one other rest pends skips one_kept other_kept is_told is_said) drops =
+    ap (λ (l : List ToHost). drops_behind l conn.turn conn.pending) is_said
+    ∙ sym (ap (λ (l : List ToHost). drops_behind l conn.turn conn.pending) is_told)
+    ∙ drops
+
+abbrev key_data : Aid → TermEnd → InboundParts
+key_data aid end = modified_data Modified end.display.size (with_aid aid end.display.screen)
+
+key_is : (aid : Aid) (end : TermEnd) → (key_data aid end).aid ≡ aid
+key_is aid end = key_aid end.display.size (with_aid aid end.display.screen) ∙ with_aid-aid aid end.display.screen
+
+-- what a key sends comes last
+key_queued : (app : Application) (told now : Link) (clears later : Bool) (said : List ToHost) → ConnectionInvariant app (view_of told) → SaysAlike told.host told.up said → told.term.display.keyboard.lock ≡ Wait → now.lost ≡ told.lost → (bound lost : Bool) (aid : Aid) → (aid ≡ NoAid → ⊥)
+    → (aid ≡ Clear → (clears ≡ true) × (later ≡ true)) → now.lost ≡ lost → AddsKeys clears later told.host.turn told.host.pending said now.up
+    → AddsKeys clears later told.host.turn told.host.pending said (sent lost now.up (data_of bound (Send aid) now.term.display.size (with_aid aid now.term.display.screen)))
+key_queued app told now clears later said kept alike locked same false lost aid some may is keys = subst (λ (up : List ToHost). AddsKeys clears later told.host.turn told.host.pending said up) (sym (nothing_sent lost now.up)) keys
+key_queued app told now clears later said kept alike locked same true true aid some may is keys = keys
+key_queued app told now clears later said kept alike locked same true false aid some may is keys =
+    any_last clears later told.host.turn told.host.pending said now.up (ToHost.Data (key_data aid now.term)) (key_data aid now.term) refl (key_form now.term.display.size (with_aid aid now.term.display.screen))
+    (ap is_any_key (key_is aid now.term) ∙ any_key aid some) (λ clear. may (sym (key_is aid now.term) ∙ clear)) (drops_said told.host told.up said alike (waits_drop app told kept (sym same ∙ is) locked)) keys
+
+module _ (app : Application) (lu : List ℕ) (t : LinkWithReport) (l : IsLocked app lu t) where
   abbrev told : Link
-  told = c.told
+  told = l.told
 
   abbrev now : Link
   now = t.link
@@ -81,14 +132,154 @@ module _ (app : Application) (lu : List ℕ) (t : LinkWithReport) (c : Cleared a
   abbrev untold : TermStep → LinkWithReport
   untold step = record { link = term_stepped step now.down now; told = t.told; waits = true; cleared = true }
 
-  says : SaysToo true true told.host told.up now.up
-  says = record { said = c.up.said; alike = c.up.alike; up = with_clears c.clears t.cleared told.host.turn told.host.pending c.up.said now.up c.up.up }
+  -- the fate of Clear, once these messages are queued
+  abbrev FateBehind : List ToHost → Type 0
+  FateBehind sends = Fate told l.said (record now { up = sent now.lost now.up sends })
 
   -- whatever the operator changes
-  changes : (screen : Screen) (keyboard : Keyboard) (erased : Bool) (up : List ToHost) → screen.cursor < length screen.cells → SaysToo true true told.host told.up up
+  changes : (screen : Screen) (keyboard : Keyboard) (erased : Bool) (up : List ToHost) → AddsKeys true true told.host.turn told.host.pending l.said up → Fate told l.said (record now { up = up }) → IsPlain told screen
       → Cleared app lu (record { link = record now { term = record now.term { display = record now.term.display { screen = screen; keyboard = keyboard; erased = erased } }; up = up }; told = t.told; waits = true; cleared = true })
-  changes screen keyboard erased up on says = record {
+  changes screen keyboard erased up keys fate plain = record {
     told = told;
+    kept = l.kept;
+    agreed = l.agreed;
+    any = l.any;
+    unsure = l.unsure;
+    marks = l.marks;
+    returning = l.returning;
+    display = l.display;
+    waits = sym (ap is_waiting l.locked);
+    bound = l.bound;
+    host_here = l.host_here;
+    term_here = l.term_here;
+    host = l.host;
+    lost = l.lost;
+    down = l.down;
+    talk = l.talk;
+    clears = true;
+    up = record { said = l.said; alike = l.alike; up = keys };
+    stage = Stage.gone refl l.locked l.no_pa (by_fate fate);
+    model = l.model;
+    rest = λ shown. ap (λ (d : Display). record d { screen = screen; keyboard = keyboard; erased = erased }) (l.rest shown);
+    plain = λ cleared. plain;
+  }
+    where
+      link : Link
+      link = record now { term = record now.term { display = record now.term.display { screen = screen; keyboard = keyboard; erased = erased } }; up = up }
+
+      by_fate : Fate told l.said (record now { up = up }) → Fate told l.said link
+      by_fate (Fate.is_lost is) = Fate.is_lost is
+      by_fate (Fate.is_due due) = Fate.is_due due
+      by_fate (Fate.was_heard none unheard) = Fate.was_heard none unheard
+      by_fate (Fate.erases_next erasing silent) = Fate.erases_next erasing silent
+
+  does_so : (step : TermStep) → Operates now.term step → FateBehind step.sends → IsPlain told step.end.display.screen → Cleared app lu (untold step)
+  does_so step (Operates.edits keyboard cells cursor nulls held on is) fate plain =
+      subst (λ (s : TermStep). Cleared app lu (untold s)) (sym is)
+      (changes (record now.term.display.screen { cells = cells; cursor = cursor }) keyboard (now.term.display.erased || nulls) (sent now.lost now.up [])
+      (subst (λ (up : List ToHost). AddsKeys true true told.host.turn told.host.pending l.said up) (sym (nothing_sent now.lost now.up)) l.keys)
+      (subst (λ (s : TermStep). FateBehind s.sends) is fate) (subst (λ (s : TermStep). IsPlain told s.end.display.screen) is plain))
+  does_so step (Operates.sends keyboard aid some is) fate plain =
+      subst (λ (s : TermStep). Cleared app lu (untold s)) (sym is)
+      (changes (with_aid aid now.term.display.screen) keyboard now.term.display.erased (sent now.lost now.up (data_by aid now.term))
+      (key_queued app told now true true l.said l.kept l.alike l.locked l.lost (is_bound now.term) now.lost aid some (λ clear. (refl, refl)) refl l.keys)
+      (subst (λ (s : TermStep). FateBehind s.sends) is fate) (subst (λ (s : TermStep). IsPlain told s.end.display.screen) is plain))
+
+  does_locked : (step : TermStep) → Operates now.term step → FateBehind step.sends → IsPlain told step.end.display.screen → (t.cleared || (t.waits && sends_clear step)) ≡ true → Cleared app lu (operated step t)
+  does_locked step does fate plain cleared =
+      subst (λ (b : Bool). Cleared app lu (record (operated step t) { cleared = b })) (sym cleared)
+      (subst (λ (waits : Bool). Cleared app lu (record { link = term_stepped step now.down now; told = if waits then t.told else step.end.display; waits = waits || is_queued step.sends; cleared = true })) (sym l.waits)
+      (does_so step does fate plain))
+
+  -- ---- Clear is pressed
+
+  clear_sends : (bound : Bool) (aid : Aid) (end : TermEnd) → bound ≡ true → aid ≡ Clear → (is_queued (data_of bound (Send aid) end.display.size (with_aid aid end.display.screen)) && is_clear (with_aid aid end.display.screen).aid) ≡ true
+  clear_sends true aid end is clear = ap is_clear (with_aid-aid aid end.display.screen) ∙ ap is_clear clear
+  clear_sends false aid end is clear = absurd (cc)
+
+  -- the host hears of it
+  fate_pressed : (bound : Bool) (aid : Aid) → bound ≡ true → aid ≡ Clear → FateBehind (data_of bound (Send aid) now.term.display.size (with_aid aid now.term.display.screen))
+  fate_pressed false aid is_bound clear = absurd (cc)
+  fate_pressed true aid is_bound clear = by_lost now.lost refl
+    where
+      key : ToHost
+      key = ToHost.Data (key_data aid now.term)
+
+      is_clear_key : is_clear_data key ≡ true
+      is_clear_key = ap is_clear (key_is aid now.term) ∙ ap is_clear clear
+
+      by_up : (lost : Bool) → now.lost ≡ lost → lost ≡ false → erases told.host.pending ≡ true → (up : List ToHost) → told.up ≡ up → Fate told l.said (record now { up = now.up ++ key ∷ [] })
+      by_up lost is live erasing [] silent = Fate.erases_next erasing silent
+      by_up lost is live erasing (first ∷ others) some =
+          let it : PaintAnswered told first = paint_answers app told first others l.kept (paints_so told.host.pending erasing) some in
+          Fate.is_due (subst (λ (b : Bool). clears_due b l.said < clears_due b (now.up ++ key ∷ [])) (sym erasing)
+          (subst (λ (said : List ToHost). clears_after said < clears_after (now.up ++ key ∷ [])) (sym (said_is it))
+          (due_after true true told.host.turn told.host.pending it.number Verdict.Positive others now.up key is_clear_key
+          (subst (λ (said : List ToHost). AddsKeys true true told.host.turn told.host.pending said now.up) (said_is it) l.keys))))
+        where
+          by_alike : (it : PaintAnswered told first) → SaysAlike told.host told.up l.said → l.said ≡ told.up
+          by_alike it (SaysAlike.same same) = same
+          by_alike it (SaysAlike.checked number one other more pends skips one_kept other_kept is_told is_said) =
+              absurd (let wrong : Pending.Reading number ≡ Pending.Writing it.number it.command = sym pends ∙ it.pending in cc)
+
+          said_is : (it : PaintAnswered told first) → l.said ≡ ToHost.Response it.number Verdict.Positive ∷ others
+          said_is it = by_alike it l.alike ∙ some ∙ ap (λ (m : ToHost). m ∷ others) it.first_is
+
+      by_erasing : now.lost ≡ false → (erasing : Bool) → erases told.host.pending ≡ erasing → Fate told l.said (record now { up = now.up ++ key ∷ [] })
+      by_erasing live true erasing = by_up now.lost refl live erasing told.up refl
+      by_erasing live false none =
+          Fate.is_due (subst (λ (b : Bool). clears_due b l.said < clears_due b (now.up ++ key ∷ [])) (sym none)
+          (due_in true true told.host.turn told.host.pending l.said now.up key is_clear_key l.keys))
+
+      by_lost : (lost : Bool) → now.lost ≡ lost → FateBehind (key ∷ [])
+      by_lost true is = Fate.is_lost is
+      by_lost false is = subst (λ (lost : Bool). Fate told l.said (record now { up = sent lost now.up (key ∷ []) })) (sym is) (by_erasing is false_or refl)
+        where
+          false_or : Bool
+          false_or = erases told.host.pending
+
+  pub clears_now : length now.term.display.screen.cells ≡ length told.term.display.screen.cells → (step : TermStep) (does : Operates now.term step) → key_pressed does ≡ Clear → is_bound now.term ≡ true → Cleared app lu (operated step t)
+  clears_now size step (Operates.edits keyboard cells cursor nulls held on is) clear bound = absurd (cc)
+  clears_now size step (Operates.sends keyboard aid some is) clear bound =
+      does_locked step (Operates.sends keyboard aid some is) (subst (λ (s : TermStep). FateBehind s.sends) (sym is) (fate_pressed (is_bound now.term) aid bound clear))
+      (subst (λ (s : TermStep). IsPlain told s.end.display.screen) (sym is) (IsPlain.bare (nulled aid now.term.display.screen clear) (with_aid-whole aid now.term.display.screen ∙ size)))
+      (both t.cleared t.waits (sends_clear step) l.waits (ap sends_clear is ∙ clear_sends (is_bound now.term) aid now.term bound clear))
+    where
+      both : (cleared waits sends : Bool) → waits ≡ true → sends ≡ true → (cleared || (waits && sends)) ≡ true
+      both true waits sends is_waits is_sent = refl
+      both false waits sends is_waits is_sent = ap (λ (b : Bool). b && sends) is_waits ∙ is_sent
+
+module _ (app : Application) (lu : List ℕ) (t : LinkWithReport) where
+  abbrev locked_first : Simulated app lu t → t.waits ≡ true → is_bound t.link.term ≡ true → is_pa t.told.screen.aid ≡ false → IsLocked app lu t
+  locked_first s waits bound no_pa = record {
+    told = s.told;
+    kept = s.kept;
+    agreed = s.agreed;
+    any = s.any;
+    unsure = s.unsure;
+    marks = s.marks;
+    returning = s.returning;
+    display = s.display;
+    waits = waits;
+    locked = is_locked s.told.term.display.keyboard.lock (sym waits ∙ s.waits);
+    no_pa = no_pa;
+    bound = sym (ap (λ talk. is_some (bound_to talk.talk.state)) s.simulates.talk) ∙ bound;
+    host_here = s.host_here;
+    term_here = s.term_here;
+    host = HostsAlike.same s.simulates.host;
+    lost = s.simulates.lost;
+    down = s.simulates.down;
+    talk = s.simulates.talk;
+    said = s.simulates.up.said;
+    alike = s.simulates.up.alike;
+    keys = any_keys true true s.told.host.turn s.told.host.pending s.simulates.up.said t.link.up s.simulates.up.up;
+    model = ap (λ (d : Display). d.model) s.simulates.since.rest;
+    rest = λ shown. s.simulates.since.rest;
+  }
+
+  abbrev locked_again : (c : Cleared app lu t) → t.waits ≡ true → is_pa t.told.screen.aid ≡ false → IsLocked app lu t
+  locked_again c waits no_pa = record {
+    told = c.told;
     kept = c.kept;
     agreed = c.agreed;
     any = c.any;
@@ -96,7 +287,9 @@ module _ (app : Application) (lu : List ℕ) (t : LinkWithReport) (c : Cleared a
     marks = c.marks;
     returning = c.returning;
     display = c.display;
-    waits = sym (ap is_waiting locked);
+    waits = waits;
+    locked = is_locked c.told.term.display.keyboard.lock (sym waits ∙ c.waits);
+    no_pa = no_pa;
     bound = c.bound;
     host_here = c.host_here;
     term_here = c.term_here;
@@ -104,115 +297,35 @@ module _ (app : Application) (lu : List ℕ) (t : LinkWithReport) (c : Cleared a
     lost = c.lost;
     down = c.down;
     talk = c.talk;
-    clears = true;
-    up = says;
-    stage = Stage.gone refl locked no_pa;
-    rest = ap (λ (d : Display). record d { screen = screen; keyboard = keyboard; erased = erased }) c.rest;
-    cursor = on;
+    said = c.up.said;
+    alike = c.up.alike;
+    keys = with_clears c.clears t.cleared c.told.host.turn c.told.host.pending c.up.said t.link.up c.up.up;
+    model = c.model;
+    rest = c.rest;
   }
 
-  does_so : (step : TermStep) → Operates now.term step → Cleared app lu (untold step)
-  does_so step (Operates.edits keyboard cells cursor erases held on is) =
-      subst (λ (s : TermStep). Cleared app lu (untold s)) (sym is)
-      (changes (record now.term.display.screen { cells = cells; cursor = cursor }) keyboard (now.term.display.erased || erases) (sent now.lost now.up []) on
-      (subst (λ (up : List ToHost). SaysToo true true told.host told.up up) (sym (nothing_sent now.lost now.up)) says))
-  does_so step (Operates.sends keyboard aid some is) =
-      subst (λ (s : TermStep). Cleared app lu (untold s)) (sym is)
-      (changes (with_aid aid now.term.display.screen) keyboard now.term.display.erased (sent now.lost now.up (data_by aid now.term))
-      (subst (λ (size : ℕ). (with_aid aid now.term.display.screen).cursor < size) (sym (with_aid-whole aid now.term.display.screen))
-      (with_aid-cursor aid now.term.display.screen (length now.term.display.screen.cells) c.cursor))
-      (key_queued app lu t c locked true true (is_bound now.term) aid some (λ clear. (refl, refl)) says))
-
-  pub operates_gone : (step : TermStep) → Operates now.term step → Cleared app lu (operated step t)
-  operates_gone step does =
-      subst (λ (cleared : Bool). Cleared app lu (record { link = term_stepped step now.down now; told = if t.waits then t.told else step.end.display; waits = t.waits || is_queued step.sends; cleared = cleared || (t.waits && sends_clear step) })) (sym gone)
-      (subst (λ (waits : Bool). Cleared app lu (record { link = term_stepped step now.down now; told = if waits then t.told else step.end.display; waits = waits || is_queued step.sends; cleared = true })) (sym (c.waits ∙ ap is_waiting locked))
-      (does_so step does))
-
--- ---- Clear is pressed
-
-sends_it : (bound : Bool) (aid : Aid) (end : TermEnd) → bound ≡ true → aid ≡ Clear → (is_queued (data_of bound (Send aid) end.display.size (with_aid aid end.display.screen)) && is_clear (with_aid aid end.display.screen).aid) ≡ true
-sends_it true aid end is clear = ap is_clear (with_aid-aid aid end.display.screen) ∙ ap is_clear clear
-sends_it false aid end is clear = absurd (cc)
-
-module _ (app : Application) (lu : List ℕ) (t : LinkWithReport) where
-  -- as if it had been pressed before
-  pressed_on : (c : Cleared app lu (record t { cleared = true })) → c.told.term.display.keyboard.lock ≡ Wait → is_pa t.told.screen.aid ≡ false → (step : TermStep) (does : Operates t.link.term step) → t.waits ≡ true → key_pressed does ≡ Clear → is_bound t.link.term ≡ true
-      → Cleared app lu (operated step t)
-  pressed_on c locked no_pa step (Operates.edits keyboard cells cursor erases held on is) waits clear bound = absurd (cc)
-  pressed_on c locked no_pa step (Operates.sends keyboard aid some is) waits clear bound =
-      let goes : Cleared app lu (operated step (record t { cleared = true })) = operates_gone app lu (record t { cleared = true }) c refl locked no_pa step (Operates.sends keyboard aid some is) in
-      let sends : sends_clear step ≡ true = ap sends_clear is ∙ sends_it (is_bound t.link.term) aid t.link.term bound clear in
-      subst (λ (cleared : Bool). Cleared app lu (record (operated step t) { cleared = cleared })) (sym (both t.cleared t.waits (sends_clear step) waits sends)) goes
+  -- after Clear: more is queued
+  fate_still : (c : Cleared app lu t) (more : List ToHost) → Fate c.told c.up.said t.link → Fate c.told c.up.said (record t.link { up = sent t.link.lost t.link.up more })
+  fate_still c more (Fate.is_lost is) = Fate.is_lost is
+  fate_still c more (Fate.was_heard none unheard) = Fate.was_heard none unheard
+  fate_still c more (Fate.erases_next erasing silent) = Fate.erases_next erasing silent
+  fate_still c more (Fate.is_due due) = Fate.is_due (by_lost t.link.lost)
     where
-      both : (cleared waits sends : Bool) → waits ≡ true → sends ≡ true → (cleared || (waits && sends)) ≡ true
-      both true waits sends is_waits is_sent = refl
-      both false waits sends is_waits is_sent = ap (λ (b : Bool). b && sends) is_waits ∙ is_sent
+      by_lost : (b : Bool) → clears_due (erases c.told.host.pending) c.up.said < clears_due (erases c.told.host.pending) (sent b t.link.up more)
+      by_lost true = due
+      by_lost false = due_still (erases c.told.host.pending) c.up.said t.link.up more due
 
-  module _ (s : Simulated app lu t) where
-    abbrev end : Link
-    end = s.told
+  -- without fields it stays
+  still_plain : LowerLaws → (c : Cleared app lu t) → IsPlain c.told t.link.term.display.screen → (step : TermStep) → Operates t.link.term step → IsPlain c.told step.end.display.screen
+  still_plain given c (IsPlain.over_nothing nothing paints silent) step does = IsPlain.over_nothing nothing paints silent
+  still_plain given c (IsPlain.bare none size) step (Operates.edits keyboard cells cursor nulls held on is) =
+      subst (λ (s : TermStep). IsPlain c.told s.end.display.screen) (sym is) (IsPlain.bare (still_unformatted given.keys.round nulls t.link.term.display.screen.cells cells held none) (held.same_length ∙ size))
+  still_plain given c (IsPlain.bare none size) step (Operates.sends keyboard aid some is) =
+      subst (λ (s : TermStep). IsPlain c.told s.end.display.screen) (sym is) (IsPlain.bare (bare_key aid t.link.term.display.screen none) (with_aid-whole aid t.link.term.display.screen ∙ size))
 
-    abbrev about_to : t.waits ≡ true → MayClear t → Cleared app lu (record t { cleared = true })
-    about_to waits may = record {
-      told = end;
-      kept = s.kept;
-      agreed = s.agreed;
-      any = s.any;
-      unsure = s.unsure;
-      marks = s.marks;
-      returning = s.returning;
-      display = s.display;
-      waits = s.waits;
-      bound = sym (ap (λ talk. is_some (bound_to talk.talk.state)) s.simulates.talk) ∙ may.bound;
-      host_here = s.host_here;
-      term_here = s.term_here;
-      host = HostsAlike.same s.simulates.host;
-      lost = s.simulates.lost;
-      down = s.simulates.down;
-      talk = s.simulates.talk;
-      clears = true;
-      up = record { said = s.simulates.up.said; alike = s.simulates.up.alike; up = any_keys true true end.host.turn end.host.pending s.simulates.up.said t.link.up s.simulates.up.up };
-      stage = Stage.gone refl (is_locked end.term.display.keyboard.lock (sym waits ∙ s.waits)) may.no_pa;
-      rest = s.simulates.since.rest;
-      cursor = s.simulates.since.cursor;
-    }
-
-    pub clears_first : (step : TermStep) (does : Operates t.link.term step) → t.waits ≡ true → key_pressed does ≡ Clear → MayClear t → Cleared app lu (operated step t)
-    clears_first step does waits clear may = pressed_on (about_to waits may) (is_locked end.term.display.keyboard.lock (sym waits ∙ s.waits)) may.no_pa step does waits clear may.bound
-
-  -- or again, before the answer to a paint that erased is heard
-  module _ (c : Cleared app lu t) where
-    abbrev again : Link
-    again = c.told
-
-    abbrev about_to_again : t.waits ≡ true → MayClear t → Cleared app lu (record t { cleared = true })
-    about_to_again waits may = record {
-      told = again;
-      kept = c.kept;
-      agreed = c.agreed;
-      any = c.any;
-      unsure = c.unsure;
-      marks = c.marks;
-      returning = c.returning;
-      display = c.display;
-      waits = c.waits;
-      bound = c.bound;
-      host_here = c.host_here;
-      term_here = c.term_here;
-      host = c.host;
-      lost = c.lost;
-      down = c.down;
-      talk = c.talk;
-      clears = true;
-      up = record { said = c.up.said; alike = c.up.alike; up = with_clears c.clears t.cleared again.host.turn again.host.pending c.up.said t.link.up c.up.up };
-      stage = Stage.gone refl (is_locked again.term.display.keyboard.lock (sym waits ∙ c.waits)) may.no_pa;
-      rest = c.rest;
-      cursor = c.cursor;
-    }
-
-    pub clears_again : (step : TermStep) (does : Operates t.link.term step) → t.waits ≡ true → key_pressed does ≡ Clear → MayClear t → Cleared app lu (operated step t)
-    clears_again step does waits clear may = pressed_on (about_to_again waits may) (is_locked again.term.display.keyboard.lock (sym waits ∙ c.waits)) may.no_pa step does waits clear may.bound
+  pub operates_gone : LowerLaws → (c : Cleared app lu t) → t.cleared ≡ true → c.told.term.display.keyboard.lock ≡ Wait → is_pa t.told.screen.aid ≡ false → Fate c.told c.up.said t.link → (step : TermStep) → Operates t.link.term step → Cleared app lu (operated step t)
+  operates_gone given c gone locked no_pa fate step does =
+      does_locked app lu t (locked_again c (c.waits ∙ ap is_waiting locked) no_pa) step does (fate_still c step.sends fate) (still_plain given c (c.plain gone) step does) (ap (λ (b : Bool). b || (t.waits && sends_clear step)) gone)
 
 -- ---- once a paint erased
 
@@ -224,8 +337,11 @@ module _ (given : LowerLaws) (app : Application) (lu : List ℕ) (t : LinkWithRe
   abbrev here : Link
   here = t.link
 
+  keys_now : AddsKeys c.clears false waiting.host.turn waiting.host.pending c.up.said here.up
+  keys_now = subst (λ (later : Bool). AddsKeys c.clears later waiting.host.turn waiting.host.pending c.up.said here.up) uncleared c.up.up
+
   up_now : SaysToo c.clears false waiting.host waiting.up here.up
-  up_now = subst (λ (later : Bool). SaysToo c.clears later waiting.host waiting.up here.up) uncleared c.up
+  up_now = record { said = c.up.said; alike = c.up.alike; up = keys_now }
 
   -- the waiting terminal is at this display and queue then, and this one at that
   typed_on : (end : Link) (link : Link) (told : Display) (waits : Bool) → end ≡ record waiting { term = record waiting.term { display = end.term.display }; up = end.up } → link ≡ record here { term = record here.term { display = link.term.display }; up = link.up }
@@ -251,8 +367,9 @@ module _ (given : LowerLaws) (app : Application) (lu : List ℕ) (t : LinkWithRe
     clears = c.clears;
     up = subst (λ (h : Session). SaysToo c.clears false h end.up link.up) (sym host_is) up;
     stage = Stage.erased refl (ap (λ (h : Session). erases h.pending) host_is ∙ erasing) (ap (λ (l : Link). l.down) end_is ∙ silent) since;
-    rest = since.rest;
-    cursor = since.cursor;
+    model = ap (λ (d : Display). d.model) since.rest;
+    rest = λ shown. since.rest;
+    plain = λ cleared. absurd (cc);
   }
     where
       host_is : end.host ≡ waiting.host
@@ -326,7 +443,7 @@ module _ (given : LowerLaws) (app : Application) (lu : List ℕ) (t : LinkWithRe
   sends_waiting : waiting.term.display.keyboard.lock ≡ Wait → (keyboard : Keyboard) (aid : Aid) → (aid ≡ NoAid → ⊥) → (aid ≡ Clear → ⊥) → Cleared app lu (untold_so (shows keyboard (after_sending aid here.term.display) (data_by aid here.term) here.term))
   sends_waiting waits keyboard aid some unclear =
       typed_on waiting (untold_so (shows keyboard (after_sending aid here.term.display) (data_by aid here.term) here.term)).link t.told true refl refl c.kept c.display (sym (ap is_waiting waits))
-      (key_queued app lu t c waits c.clears false (is_bound here.term) aid some (λ clear. absurd (unclear clear)) up_now)
+      (record { said = c.up.said; alike = c.up.alike; up = key_queued app waiting here c.clears false c.up.said c.kept c.up.alike waits c.lost (is_bound here.term) here.lost aid some (λ clear. absurd (unclear clear)) refl keys_now })
       (record {
         erased = since.erased;
         held = subst (λ (cells : List Cell). KeptByKeys since.erased waiting.term.display.screen.cells cells) (sym (same_cells aid here.term.display.screen (keys_but_clear aid some unclear))) since.held;
@@ -362,24 +479,44 @@ module _ (given : LowerLaws) (app : Application) (lu : List ℕ) (t : LinkWithRe
 
 module _ (given : LowerLaws) (app : Application) (lu : List ℕ) (t : LinkWithReport) where
   abbrev Rules : TermStep → Type 0
-  Rules step = (does : Operates t.link.term step) × (t.waits ≡ true → key_pressed does ≡ Clear → MayClear t)
+  Rules step = (does : Operates t.link.term step) × (t.waits ≡ true → key_pressed does ≡ Clear → is_pa t.told.screen.aid ≡ false)
 
   pub operates_cleared : (step : TermStep) → Rules step → (c : Cleared app lu t) → Cleared app lu (operated step t)
   operates_cleared step rules c = by_stage c.stage
     where
-      by_stage : Stage t c.told → Cleared app lu (operated step t)
-      by_stage (Stage.gone cleared locked no_pa) = operates_gone app lu t c cleared locked no_pa step rules.0
+      by_stage : Stage t c.told c.up.said → Cleared app lu (operated step t)
+      by_stage (Stage.gone cleared locked no_pa fate) = operates_gone app lu t given c cleared locked no_pa fate step rules.0
       by_stage (Stage.erased uncleared erasing silent since) = by_waits t.waits refl (clear_or (key_pressed rules.0))
         where
+          bound_here : is_bound t.link.term ≡ true
+          bound_here = ap (λ talk. is_some (bound_to talk.talk.state)) c.talk ∙ c.bound
+
           by_waits : (waits : Bool) → t.waits ≡ waits → IsClearOr (key_pressed rules.0) → Cleared app lu (operated step t)
-          by_waits true waits (IsClearOr.is_clear clear) = clears_again app lu t c step rules.0 waits clear (rules.1 waits clear)
-          by_waits true waits (IsClearOr.is_another unclear) = operates_erased given app lu t c uncleared erasing silent since step rules.0 (λ waits. unclear)
+          by_waits true waits (IsClearOr.pressed_clear clear) = clears_now app lu t (locked_again app lu t c waits (rules.1 waits clear)) since.held.same_length step rules.0 clear bound_here
+          by_waits true waits (IsClearOr.pressed_another unclear) = operates_erased given app lu t c uncleared erasing silent since step rules.0 (λ waits. unclear)
           by_waits false free key = operates_erased given app lu t c uncleared erasing silent since step rules.0 (λ waits. absurd (let wrong : false ≡ true = sym free ∙ waits in cc))
 
   pub operates_first : (step : TermStep) → Rules step → (s : Simulated app lu t) → Follows app lu (operated step t)
   operates_first step rules s = by_waits t.waits refl (clear_or (key_pressed rules.0))
     where
       by_waits : (waits : Bool) → t.waits ≡ waits → IsClearOr (key_pressed rules.0) → Follows app lu (operated step t)
-      by_waits true waits (IsClearOr.is_clear clear) = Follows.cleared (clears_first app lu t s step rules.0 waits clear (rules.1 waits clear))
-      by_waits true waits (IsClearOr.is_another unclear) = Follows.simulated (operates_still given app lu t s step rules.0 (λ waits. unclear))
+      by_waits true waits (IsClearOr.pressed_clear clear) = by_bound (is_bound t.link.term) refl
+        where
+          -- before the terminal is bound, nothing is sent
+          unbound : (step : TermStep) (does : Operates t.link.term step) → key_pressed does ≡ Clear → is_bound t.link.term ≡ false → Follows app lu (operated step t)
+          unbound step (Operates.edits keyboard cells cursor nulls held on is) clear not_bound = absurd (cc)
+          unbound step (Operates.sends keyboard aid some is) clear not_bound =
+              let so : step ≡ shows keyboard (after_sending Clear t.link.term.display) (data_by Clear t.link.term) t.link.term = is ∙ ap (λ (a : Aid). shows keyboard (after_sending a t.link.term.display) (data_by a t.link.term) t.link.term) clear in
+              let silent : sends_clear step ≡ false = ap sends_clear so ∙ ap (λ (bound : Bool). is_queued (data_of bound (Send Clear) t.link.term.display.size (with_aid Clear t.link.term.display.screen)) && true) not_bound in
+              let nothing : (t.cleared || (t.waits && sends_clear step)) ≡ false = ap (λ (b : Bool). b || (t.waits && sends_clear step)) s.uncleared ∙ both_no t.waits (sends_clear step) silent in
+              Follows.simulated
+              (subst (λ (b : Bool). Simulated app lu (record (operated step t) { cleared = b })) (sym nothing)
+              (subst (λ (waits : Bool). Simulated app lu (record { link = term_stepped step t.link.down t.link; told = if waits then t.told else step.end.display; waits = waits || is_queued step.sends; cleared = false })) (sym waits)
+              (subst (λ (step : TermStep). Simulated app lu (record { link = term_stepped step t.link.down t.link; told = t.told; waits = true; cleared = false })) (sym so)
+              (clears_unbound given app lu t s (is_locked s.told.term.display.keyboard.lock (sym waits ∙ s.waits)) not_bound keyboard))))
+
+          by_bound : (bound : Bool) → is_bound t.link.term ≡ bound → Follows app lu (operated step t)
+          by_bound true bound = Follows.cleared (clears_now app lu t (locked_first app lu t s waits bound (rules.1 waits clear)) s.simulates.since.held.same_length step rules.0 clear bound)
+          by_bound false not_bound = unbound step rules.0 clear not_bound
+      by_waits true waits (IsClearOr.pressed_another unclear) = Follows.simulated (operates_still given app lu t s step rules.0 (λ waits. unclear))
       by_waits false free key = Follows.simulated (operates_still given app lu t s step rules.0 (λ waits. absurd (let wrong : false ≡ true = sym free ∙ waits in cc)))

@@ -103,7 +103,7 @@ with_clears clears later turn pending told (message ∷ real) (inr x) =
     inr (x.0, x.1, subst (λ (b : Bool). AddsKeys b true (turn_after message turn) (pending_after message pending) x.0 real) (sym (both_true message))
     (with_clears (clears_behind message clears later) later (turn_after message turn) (pending_after message pending) x.0 real x.2))
 
-other_key : (aid : Aid) → is_any_key aid ≡ true → (aid ≡ Clear → ⊥) → is_key aid ≡ true
+pub other_key : (aid : Aid) → is_any_key aid ≡ true → (aid ≡ Clear → ⊥) → is_key aid ≡ true
 other_key Enter key unclear = refl
 other_key (Pf number) key unclear = refl
 other_key (Pa number) key unclear = refl
@@ -138,28 +138,13 @@ last_behind (ToHost.Response number verdict) clears later parts may = λ clear. 
 last_behind (ToHost.Data said) clears later parts may = may
 last_behind (ToHost.TalksUp saying) clears later parts may = may
 
-any_last : (clears later : Bool) (turn : Turn) (pending : Pending) (told real : List ToHost) (key : ToHost) (parts : InboundParts) → key ≡ ToHost.Data parts → parts.form ≡ Modified → is_any_key parts.aid ≡ true → MayBeLast clears later parts
+pub any_last : (clears later : Bool) (turn : Turn) (pending : Pending) (told real : List ToHost) (key : ToHost) (parts : InboundParts) → key ≡ ToHost.Data parts → parts.form ≡ Modified → is_any_key parts.aid ≡ true → MayBeLast clears later parts
     → drops_behind told turn pending ≡ true → AddsKeys clears later turn pending told real → AddsKeys clears later turn pending told (real ++ key ∷ [])
 any_last clears later turn pending told [] key parts is form pressed may drops x =
     inl (subst (λ (l : List ToHost). drops_behind l turn pending ≡ true) x drops, record { parts = parts; is = is; form = form; key = pressed; fits = λ clear. ((may clear).0, λ paints. inl x) }, x)
 any_last clears later turn pending told (message ∷ real) key parts is form pressed may drops (inl x) = inl (x.0, x.1, any_last clears later turn pending told real key parts is form pressed may drops x.2)
 any_last clears later turn pending told (message ∷ real) key parts is form pressed may drops (inr x) =
     inr (x.0, x.1, any_last (clears_behind message clears later) later (turn_after message turn) (pending_after message pending) x.0 real key parts is form pressed (last_behind message clears later parts may) (subst (λ (l : List ToHost). drops_behind l turn pending ≡ true) x.1 drops) x.2)
-
-pub key_last_too : (clears later : Bool) (conn : Session) (told real : List ToHost) (key : ToHost) (parts : InboundParts) → key ≡ ToHost.Data parts → parts.form ≡ Modified → is_any_key parts.aid ≡ true → MayBeLast clears later parts
-    → drops_behind told conn.turn conn.pending ≡ true → SaysToo clears later conn told real → SaysToo clears later conn told (real ++ key ∷ [])
-key_last_too clears later conn told real key parts is form pressed may drops s = record {
-  said = s.said;
-  alike = s.alike;
-  up = any_last clears later conn.turn conn.pending s.said real key parts is form pressed may (by_alike s.alike) s.up;
-}
-  where
-    by_alike : SaysAlike conn told s.said → drops_behind s.said conn.turn conn.pending ≡ true
-    by_alike (SaysAlike.same is_same) = ap (λ (l : List ToHost). drops_behind l conn.turn conn.pending) is_same ∙ drops
-    by_alike (SaysAlike.checked number one other rest pends skips one_kept other_kept is_told is_said) =
-        ap (λ (l : List ToHost). drops_behind l conn.turn conn.pending) is_said
-        ∙ sym (ap (λ (l : List ToHost). drops_behind l conn.turn conn.pending) is_told)
-        ∙ drops
 
 -- if a paint waits for its answer, it erases
 abbrev pub ErasesIfAny : Pending → Type 0
@@ -174,7 +159,7 @@ erases_behind (ToHost.Response number verdict) pending only = λ paints. absurd 
 erases_behind (ToHost.TalksUp saying) pending only = only
 
 -- both say the same last
-same_last_too : (clears later : Bool) (turn : Turn) (pending : Pending) (told real : List ToHost) (message : ToHost) → ErasesIfAny pending → AddsKeys clears later turn pending told real
+pub same_last_too : (clears later : Bool) (turn : Turn) (pending : Pending) (told real : List ToHost) (message : ToHost) → ErasesIfAny pending → AddsKeys clears later turn pending told real
     → AddsKeys clears later turn pending (told ++ message ∷ []) (real ++ message ∷ [])
 same_last_too clears later turn pending told [] message only x = inr ([], ap (λ (l : List ToHost). l ++ message ∷ []) x, refl)
 same_last_too clears later turn pending told (first ∷ real) message only (inl x) =
@@ -184,12 +169,12 @@ same_last_too clears later turn pending told (first ∷ real) message only (inr 
     inr (x.0 ++ message ∷ [], ap (λ (l : List ToHost). l ++ message ∷ []) x.1,
     same_last_too (clears_behind first clears later) later (turn_after first turn) (pending_after first pending) x.0 real message (erases_behind first pending only) x.2)
 
-alike_last : (conn : Session) (told said : List ToHost) (message : ToHost) → SaysAlike conn told said → SaysAlike conn (told ++ message ∷ []) (said ++ message ∷ [])
+pub alike_last : (conn : Session) (told said : List ToHost) (message : ToHost) → SaysAlike conn told said → SaysAlike conn (told ++ message ∷ []) (said ++ message ∷ [])
 alike_last conn told said message (SaysAlike.same is) = SaysAlike.same (ap (λ (l : List ToHost). l ++ message ∷ []) is)
 alike_last conn told said message (SaysAlike.checked number one other rest pends skips one_kept other_kept is_told is_said) =
     SaysAlike.checked number one other (rest ++ message ∷ []) pends skips one_kept other_kept (ap (λ (l : List ToHost). l ++ message ∷ []) is_told) (ap (λ (l : List ToHost). l ++ message ∷ []) is_said)
 
-pub says_last : (clears later : Bool) (conn : Session) (told real : List ToHost) (message : ToHost) → ErasesIfAny conn.pending → SaysToo clears later conn told real → SaysToo clears later conn (told ++ message ∷ []) (real ++ message ∷ [])
+abbrev pub says_last : (clears later : Bool) (conn : Session) (told real : List ToHost) (message : ToHost) → ErasesIfAny conn.pending → SaysToo clears later conn told real → SaysToo clears later conn (told ++ message ∷ []) (real ++ message ∷ [])
 says_last clears later conn told real message only s = record {
   said = s.said ++ message ∷ [];
   alike = alike_last conn told s.said message s.alike;

@@ -123,9 +123,11 @@ pub mod RunsOfByteWorlds
 pub mod ServingMoves
 pub mod WithoutClear
 pub mod ClearedQueue
+pub mod ClearsDue
 pub mod Cleared
 pub mod ClearedHost
 pub mod ClearedDown
 pub mod ClearedKeys
 pub mod Agreeing
 pub mod AgreeingTurns
+pub mod Repeating

@@ -53,7 +53,7 @@ use Rattle.world3270.specs.refinement.Represents.{LinkRepresents}
 use Rattle.world3270.specs.refinement.Sendable.{CanBeSent}
 use Rattle.world3270.specs.refinement.View.{view_of}
 use Rattle.world3270.specs.statement.Always.{AlwaysOf}
-use Rattle.world3270.specs.statement.EveryTerminal.{EveryTerminal, FirstPaint, LinkWithReport, Move, after_moves, came_down, came_up, executed, key_pressed, moved, paint_executed, told_if}
+use Rattle.world3270.specs.statement.EveryTerminal.{EveryTerminal, FirstPaint, LinkWithReport, Move, after_moves, came_down, came_up, executed, is_shown, key_pressed, moved, paint_executed, told_if}
 use Rattle.world3270.specs.statement.EveryTerminalBytes.{Represents}
 use Rattle.world3270.specs.statement.Instances.{ConnectionsAreMoved, IsMoved, IsMovedOverBytes, IsTheSame, WorldsGoOnOverBytes, over_bytes}
 use Rattle.world3270.specs.statement.RuleLaws.{KeepsTheRules}
@@ -76,7 +76,7 @@ use Rattle.world3270.proofs.AnyIgnored.{no_refusal_under_way, no_talk_under_way}
 use Rattle.world3270.proofs.Simulation.{has_agreed}
 use Rattle.world3270.proofs.SimulatedHost.{act_talk}
 use Rattle.world3270.proofs.Worlds.{GoodWorld, new_good, run_good}
-use Rattle.world3270.proofs.WithoutClear.{AreWithoutClear, IsWithoutClear, all_keep_rules}
+use Rattle.world3270.proofs.WithoutClear.{AreWithoutClear, IsWithoutClear, all_keep_rules, all_stay_uncleared}
 
 -- ---- a connection that was moved
 
@@ -191,24 +191,24 @@ told_link_is true message t link = refl
 told_link_is false message t link = refl
 
 -- a wait that goes on
-lock_after : (message : ToTerminal) (end : TermEnd) (t : LinkWithReport) (link : Link) → (t.waits ≡ true → end.display.keyboard.lock ≡ Wait) → (told_if (is_bound end) message t link).waits ≡ true
+lock_after : (message : ToTerminal) (end : TermEnd) (t : LinkWithReport) (link : Link) → t.cleared ≡ false → (t.waits ≡ true → end.display.keyboard.lock ≡ Wait) → (told_if (is_bound end) message t link).waits ≡ true
     → (term_took end message).end.display.keyboard.lock ≡ Wait
-lock_after (ToTerminal.TalksDown saying) end t link was = by_bound (is_bound end)
+lock_after (ToTerminal.TalksDown saying) end t link never was = by_bound (is_bound end)
   where
     by_bound : (b : Bool) → (told_if b (ToTerminal.TalksDown saying) t link).waits ≡ true → end.display.keyboard.lock ≡ Wait
     by_bound true = was
     by_bound false = was
-lock_after (ToTerminal.Paint number wanted over) end t link was = by_bound (is_bound end)
+lock_after (ToTerminal.Paint number wanted over) end t link never was = by_bound (is_bound end)
   where
     by_bound : (b : Bool) → (told_if b (ToTerminal.Paint number wanted over) t link).waits ≡ true → (once_bound b (paint_came number wanted end) end).end.display.keyboard.lock ≡ Wait
-    by_bound true waits = absurd (cc)
+    by_bound true waits = absurd (let wrong : false ≡ true = sym (ap (λ (c : Bool). if is_shown c wanted over then false else t.waits) never) ∙ waits in cc)
     by_bound false waits = was waits
-lock_after (ToTerminal.ReadBuffer number) end t link was = by_bound (is_bound end)
+lock_after (ToTerminal.ReadBuffer number) end t link never was = by_bound (is_bound end)
   where
     by_bound : (b : Bool) → (told_if b (ToTerminal.ReadBuffer number) t link).waits ≡ true → (once_bound b (read_came end) end).end.display.keyboard.lock ≡ Wait
     by_bound true = was
     by_bound false = was
-lock_after (ToTerminal.Note number command) end t link was = by_bound (is_bound end)
+lock_after (ToTerminal.Note number command) end t link never was = by_bound (is_bound end)
   where
     by_bound : (b : Bool) → (told_if b (ToTerminal.Note number command) t link).waits ≡ true → (once_bound b (note_came number command end) end).end.display.keyboard.lock ≡ Wait
     by_bound true = was
@@ -418,7 +418,7 @@ module _ (given : LowerLaws) (app : Application) (is : IsApplication app) (marks
             ∙ ap (λ (l : Link). term_stepped (executed l.term message) rest l) m.same.link_is
             ∙ ap (λ (s : TermStep). term_stepped s rest (as_moved link)) (executed_as message rest e (has_agreed m.lu link.host.talk.state m.agreed))
             ∙ stepped_as step rest link (obeys given app is link message rest e k).open_end;
-        waits = λ waiting. lock_after message link.term t after m.same.waits
+        waits = λ waiting. lock_after message link.term t after (all_stay_uncleared app m.moves m.begin m.begins.cleared m.by_the_rules) m.same.waits
             (sym (ap (λ (b : Bool). (told_if b message t after).waits) bound_is) ∙ sym (ap (λ (down : List ToTerminal). (came_down down t).waits) down_is) ∙ waiting);
       })
 

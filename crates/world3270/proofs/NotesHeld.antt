@@ -18,7 +18,7 @@ use Rattle.world3270.specs.refinement.LowerLaws.{LowerLaws}
 
 -- ---- screens without fields
 
-no_attributes : (cells others : List Cell) → map attribute_in others ≡ map attribute_in cells → list_all is_char cells ≡ true → list_all is_char others ≡ true
+pub no_attributes : (cells others : List Cell) → map attribute_in others ≡ map attribute_in cells → list_all is_char cells ≡ true → list_all is_char others ≡ true
 no_attributes [] [] same chars = refl
 no_attributes [] (other ∷ others) same chars = absurd (cc)
 no_attributes (cell ∷ cells) [] same chars = absurd (cc)
@@ -50,6 +50,12 @@ chars_held erased (left ∷ lefts) [] left_chars now_chars same = absurd (cc)
 chars_held erased (Char left ∷ lefts) (Char now ∷ nows) left_chars now_chars same = (tt, chars_held erased lefts nows left_chars now_chars (cc))
 chars_held erased (Char left ∷ lefts) (Attr now ∷ nows) left_chars now_chars same = absurd (cc)
 chars_held erased (Attr left ∷ lefts) (now ∷ nows) left_chars now_chars same = absurd (cc)
+
+-- screens of one size without fields differ in input alone
+pub bare_held : HeldIsRound → (erased : Bool) (left now : List Cell) → list_all is_char left ≡ true → list_all is_char now ≡ true → length now ≡ length left → KeptByKeys erased left now
+bare_held round erased left now left_chars now_chars same =
+    (round erased left now).1
+    (subst (λ (last : Option Attribute). HeldFrom erased (hold_under erased last) left now) (sym (none_last now now_chars)) (chars_held erased left now left_chars now_chars same))
 
 -- ---- any screen that takes notes
 

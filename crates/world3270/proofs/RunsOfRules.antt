@@ -45,7 +45,7 @@ unfolding onward backward
 relying_decides right =
     let t : LinkWithReport = after Waiting decides_behind in
     let turn : IsHostsTurn (seen_link (told_link t)) = record { host = conn_seen t.link.host; host_is = refl; terminal = end_seen 0 (told_link t).term; terminal_is = refl; turn = refl; answered = refl } in
-    let first = (right.agrees turn).sees.meets.1.0 in
+    let first = (right.agrees (λ repeats. absurd (let wrong = repeats.refusal in cc)) turn).sees.meets.1.0 in
     unlike (ap (λ (text : List ℕ). slice_index_or text 6 0 == 0xD8) first.holds)
 
 pub waiting_run : WaitingRun
@@ -64,7 +64,7 @@ unfolding onward backward
 newest_is_wrong right =
     let t : LinkWithReport = told_the_newest (after Any enters_twice) in
     let turn : IsHostsTurn (seen_link (told_link t)) = record { host = conn_seen t.link.host; host_is = refl; terminal = end_seen 0 (told_link t).term; terminal_is = refl; turn = refl; answered = refl } in
-    let second = (right.agrees turn).sees.meets.1.1.0 in
+    let second = (right.agrees (λ repeats. absurd (let wrong = repeats.refusal in cc)) turn).sees.meets.1.1.0 in
     unlike (ap (λ (text : List ℕ). slice_index_or text 1 0 == 0xC2) second.holds)
 
 pub told_run : ToldRun
@@ -106,14 +106,14 @@ unfolding onward backward
 without_applying right =
     let t : LinkWithReport = after Any (acts ∷ ignores ∷ goes_up ∷ enters) in
     let turn : IsHostsTurn (seen_link (told_link t)) = record { host = conn_seen t.link.host; host_is = refl; terminal = end_seen 0 (told_link t).term; terminal_is = refl; turn = refl; answered = refl } in
-    (right.agrees turn).sees.meets.0 refl
+    (right.agrees (λ repeats. absurd (let wrong = repeats.refusal in cc)) turn).sees.meets.0 refl
 
 without_edits_of_input : RightOf (example_for Any) l1 (after Any (signs_on ++ does relabels ∷ enters)) → ⊥
 unfolding onward backward
 without_edits_of_input right =
     let t : LinkWithReport = after Any (signs_on ++ does relabels ∷ enters) in
     let turn : IsHostsTurn (seen_link (told_link t)) = record { host = conn_seen t.link.host; host_is = refl; terminal = end_seen 0 (told_link t).term; terminal_is = refl; turn = refl; answered = refl } in
-    let first = (right.agrees turn).sees.meets.1.0 in
+    let first = (right.agrees (λ repeats. absurd (let wrong = repeats.refusal in cc)) turn).sees.meets.1.0 in
     unlike (ap (λ (text : List ℕ). slice_index_or text 0 0 == 0xE7) first.holds)
 
 without_sending : RightOf (example_for Any) l1 (after Any (signs_on ++ presses (key.Char 0x41) ∷ does sends_what_was_left ∷ goes_up ∷ [])) → ⊥
@@ -121,7 +121,7 @@ unfolding onward backward
 without_sending right =
     let t : LinkWithReport = after Any (signs_on ++ presses (key.Char 0x41) ∷ does sends_what_was_left ∷ goes_up ∷ []) in
     let turn : IsHostsTurn (seen_link (told_link t)) = record { host = conn_seen t.link.host; host_is = refl; terminal = end_seen 0 (told_link t).term; terminal_is = refl; turn = refl; answered = refl } in
-    let second = (right.agrees turn).sees.meets.1.1.0 in
+    let second = (right.agrees (λ repeats. absurd (let wrong = repeats.refusal in cc)) turn).sees.meets.1.1.0 in
     unlike (ap (λ (text : List ℕ). slice_index_or text 0 0 == 0xC1) second.holds)
 
 without_binding : RightOf (example_for Any) l1 (agreed_with Any l2) → ⊥

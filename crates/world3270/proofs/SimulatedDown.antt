@@ -19,7 +19,7 @@ use Rattle.tn3270e_msg.specs.declared.cause.Cause.{Cause}
 use Rattle.host_core.specs.Application.{Application, IsApplication, message_place}
 use Rattle.host_core.specs.Messages.{ToHost, ToTerminal, Verdict}
 use Rattle.host_core.specs.Takes.{is_after_pa, is_read_believed}
-use Rattle.world3270.specs.statement.EveryTerminal.{LinkWithReport, is_pa, paint_executed, told_if}
+use Rattle.world3270.specs.statement.EveryTerminal.{LinkWithReport, is_pa, once_shown, paint_executed, told_after, told_if}
 use Rattle.world3270.specs.refinement.LowerLaws.{LowerLaws}
 use Rattle.world3270.specs.model.Link.{Link, sent, term_left_if, term_stepped}
 use Rattle.world3270.specs.refinement.Invariant.{ConnectionInvariant}
@@ -30,13 +30,43 @@ use Rattle.world3270.proofs.Down.{bound, paints_on, read_of, reads_on, shape_of_
 use Rattle.world3270.proofs.Obeys.{obeys}
 use Rattle.world3270.proofs.Keys.{or_false}
 use Rattle.world3270.proofs.NotesHeld.{note_held}
-use Rattle.world3270.proofs.Queues.{empty_queue}
+use Rattle.world3270.proofs.Queues.{empty_queue, front, nothing}
+use Rattle.world3270.proofs.TalkStates.{talking_unbound}
+use Rattle.world3270.specs.refinement.Phases.{IsAt, LinkPhase, SessionPhase}
 use Rattle.world3270.proofs.ReadsInput.{reads_input}
 use Rattle.world3270.proofs.Returning.{pa_counts, read_skipped}
 use Rattle.world3270.proofs.SecondKeys.{Says, SaysAlike, alike_silent, same_last}
 use Rattle.world3270.proofs.Simulation.{Simulated, agrees_now, both_say, since_same}
 use Rattle.world3270.proofs.StillKept.{still_as_left, still_kept}
 use Rattle.world3270.proofs.Up.{skipped_when}
+
+-- ---- where a terminal is bound, nothing of the talk comes down
+
+pub talk_over : (app : Application) (link : Link) → ConnectionInvariant app (view_of link) → is_bound link.term ≡ true → (saying : NegotiationMessage) (rest : List ToTerminal) → link.down ≡ ToTerminal.TalksDown saying ∷ rest → ⊥
+talk_over app link k bound_here saying rest e = by_moment k.moment k.at
+  where
+    message : ToTerminal
+    message = ToTerminal.TalksDown saying
+
+    by_serving : (lu : List ℕ) (serving : SessionPhase) → IsAt (view_of link) k.wanted (LinkPhase.InSession lu serving) → ⊥
+    by_serving lu (SessionPhase.Reading number) at = absurd (let clash = (front link.lost link.down message rest _ [] e at.goes_down).0 in cc)
+    by_serving lu (SessionPhase.DecidingNoteSent number command) at = absurd (let clash = (front link.lost link.down message rest _ [] e at.goes_down).0 in cc)
+    by_serving lu (SessionPhase.Painting number command wanted over) at = absurd (let clash = (front link.lost link.down message rest _ [] e at.goes_down).0 in cc)
+    by_serving lu (SessionPhase.Noting number command) at = absurd (let clash = (front link.lost link.down message rest _ [] e at.goes_down).0 in cc)
+    by_serving lu (SessionPhase.KeyCrossingNote number command parts) at = absurd (let clash = (front link.lost link.down message rest _ [] e at.goes_down).0 in cc)
+    by_serving lu SessionPhase.Deciding at = nothing link.lost link.down message rest e at.goes_down
+    by_serving lu (SessionPhase.BufferReturning number parts) at = nothing link.lost link.down message rest e at.goes_down
+    by_serving lu (SessionPhase.DecidingNoteAnswered number command) at = nothing link.lost link.down message rest e at.goes_down
+    by_serving lu (SessionPhase.AwaitingWriteResponse kind number command) at = nothing link.lost link.down message rest e at.goes_down
+    by_serving lu SessionPhase.OperatorTyping at = nothing link.lost link.down message rest e at.goes_down
+    by_serving lu (SessionPhase.KeySent parts) at = nothing link.lost link.down message rest e at.goes_down
+    by_serving lu (SessionPhase.KeySentAfterResponse kind number command parts) at = nothing link.lost link.down message rest e at.goes_down
+    by_serving lu (SessionPhase.KeyBeforeNoteResponse number command parts) at = nothing link.lost link.down message rest e at.goes_down
+
+    by_moment : (moment : LinkPhase) → IsAt (view_of link) k.wanted moment → ⊥
+    by_moment (LinkPhase.Negotiating talking) at = talking_unbound link.term.display.model k.wanted talking link.term.talk at.term_talk bound_here
+    by_moment (LinkPhase.FirstPaint lu number command wanted over) at = absurd (let wrong : false ≡ true = sym (ap (λ state. is_some (bound_to state)) at.term_talk) ∙ bound_here in cc)
+    by_moment (LinkPhase.InSession lu serving) at = by_serving lu serving at
 
 module _ (given : LowerLaws) (app : Application) (is : IsApplication app) (lu : List ℕ) (t : LinkWithReport) (s : Simulated app lu t) where
   abbrev end : Link
@@ -48,6 +78,13 @@ module _ (given : LowerLaws) (app : Application) (is : IsApplication app) (lu : 
   -- once the message is taken
   abbrev taken_so : Bool → ToTerminal → TermStep → List ToTerminal → LinkWithReport
   taken_so is_bound message step rest = told_if is_bound message t (term_stepped (once_bound is_bound step now.term) rest now)
+
+  -- once a paint is taken
+  abbrev shown_so : Bool → ℕ → WantedScreen → Shadow → TermStep → List ToTerminal → LinkWithReport
+  shown_so cleared number wanted over step rest =
+      let message : ToTerminal = ToTerminal.Paint number wanted over in
+      let link : Link = term_stepped step rest now in
+      record { link = link; told = told_after message cleared t.told link.term.display; waits = once_shown message cleared t.waits; cleared = once_shown message cleared cleared }
 
   -- at a bound terminal
   bound_now : is_bound end.term ≡ true → is_bound now.term ≡ true
@@ -64,6 +101,7 @@ module _ (given : LowerLaws) (app : Application) (is : IsApplication app) (lu : 
       let obeyed = obeys given app is end (ToTerminal.TalksDown saying) rest (sym s.simulates.down ∙ e) s.kept in
       let step : TermStep = talked end.term end.term.talk saying in
       let new : TermEnd = record now.term { talk = record now.term.talk { talk = step.end.talk.talk } } in
+      let still_unbound : is_bound now.term ≡ false = unbound_yet (is_bound now.term) refl in
       let goes : Simulated app lu (record t { link = replied_so None new step.sends rest }) =
       record {
         told = term_view step rest end;
@@ -76,6 +114,7 @@ module _ (given : LowerLaws) (app : Application) (is : IsApplication app) (lu : 
         display = s.display;
         waits = s.waits;
         uncleared = s.uncleared;
+        blank = λ unbound. s.blank still_unbound;
         host_here = s.host_here;
         term_here = s.term_here;
         simulates = record {
@@ -91,6 +130,10 @@ module _ (given : LowerLaws) (app : Application) (is : IsApplication app) (lu : 
       (subst (λ (talk : Term). Simulated app lu (record t { link = term_stepped (talked now.term talk saying) rest now })) (sym s.simulates.talk)
       (subst (λ (closes : Option Cause). Simulated app lu (record t { link = replied_so closes new step.sends rest })) (sym obeyed.open_end) goes))
     where
+      unbound_yet : (b : Bool) → is_bound now.term ≡ b → is_bound now.term ≡ false
+      unbound_yet false is_it = is_it
+      unbound_yet true is_it = absurd (talk_over app end s.kept (sym (ap (λ (talk : Term). is_some (bound_to talk.talk.state)) s.simulates.talk) ∙ is_it) saying rest (sym s.simulates.down ∙ e))
+
       by_bound : (b : Bool) {link : Link} → Simulated app lu (record t { link = link }) → Simulated app lu (told_if b (ToTerminal.TalksDown saying) t link)
       by_bound true goes = goes
       by_bound false goes = goes
@@ -126,7 +169,7 @@ module _ (given : LowerLaws) (app : Application) (is : IsApplication app) (lu : 
       let kept : ConnectionInvariant app (view_of (term_view step rest end)) =
       paints_on given app is end rest s.kept comes.lu number comes.command wanted over comes.at comes.fact comes.asked comes.left screen meets (λ waits. absurd (let wrong : false ≡ true = sym s.unsure ∙ waits in cc)) in
       let cells : length wanted.cells ≡ cells_in wanted.size = comes.fact.paintable.showable.cells ∙ ap (λ (shape : ScreenSize). cells_in shape) (sym comes.fact.paintable.showable.size) in
-      let goes : Simulated app lu (taken_so true (ToTerminal.Paint number wanted over) (paint_came number wanted now.term) rest) =
+      let goes : Simulated app lu (shown_so false number wanted over (paint_came number wanted now.term) rest) =
       record {
         told = term_view step rest end;
         kept = kept;
@@ -138,6 +181,7 @@ module _ (given : LowerLaws) (app : Application) (is : IsApplication app) (lu : 
         display = sym (ap (λ (d : Display). record d { size = wanted.size; screen = new; keyboard = freed end.term.display.keyboard; last_restored = new; before_restored = screen; erased = false }) s.simulates.since.rest);
         waits = refl;
         uncleared = refl;
+        blank = λ unbound. absurd (let wrong : false ≡ true = sym unbound ∙ bound_now (bound end s.kept.wanted comes.lu _ comes.at) in cc);
         host_here = s.host_here;
         term_here = s.term_here;
         simulates = record {
@@ -152,7 +196,8 @@ module _ (given : LowerLaws) (app : Application) (is : IsApplication app) (lu : 
         };
       } in
       subst (λ (b : Bool). Simulated app lu (taken_so b (ToTerminal.Paint number wanted over) (paint_executed number wanted over now.term) rest)) (sym (bound_now (bound end s.kept.wanted comes.lu _ comes.at)))
-      (subst (λ (drawn : Screen). Simulated app lu (taken_so true (ToTerminal.Paint number wanted over) (drawn_so number wanted drawn) rest)) (sym (given.belief.painted over wanted screen cells comes.fact.paintable.fits meets)) goes)
+      (subst (λ (cleared : Bool). Simulated app lu (shown_so cleared number wanted over (paint_executed number wanted over now.term) rest)) (sym s.uncleared)
+      (subst (λ (drawn : Screen). Simulated app lu (shown_so false number wanted over (drawn_so number wanted drawn) rest)) (sym (given.belief.painted over wanted screen cells comes.fact.paintable.fits meets)) goes))
 
   -- ---- a Read Buffer
 
@@ -228,6 +273,7 @@ module _ (given : LowerLaws) (app : Application) (is : IsApplication app) (lu : 
                 ∙ sym (ap (λ (d : Display). record d { screen = record screen { aid = t.told.screen.aid }; keyboard = end.term.display.keyboard }) since.rest);
             waits = s.waits;
             uncleared = s.uncleared;
+            blank = λ unbound. absurd (let wrong : false ≡ true = sym unbound ∙ bound_now is_bound_told in cc);
             host_here = s.host_here;
             term_here = s.term_here;
             simulates = record {
@@ -291,6 +337,7 @@ module _ (given : LowerLaws) (app : Application) (is : IsApplication app) (lu : 
         display = s.display;
         waits = s.waits;
         uncleared = s.uncleared;
+        blank = λ unbound. absurd (let wrong : false ≡ true = sym unbound ∙ bound_now is_bound_told in cc);
         host_here = s.host_here;
         term_here = s.term_here;
         simulates = record {
@@ -330,6 +377,7 @@ module _ (given : LowerLaws) (app : Application) (is : IsApplication app) (lu : 
         display = ap (λ (d : Display). record d { screen = after_command command d.screen }) s.display;
         waits = s.waits;
         uncleared = s.uncleared;
+        blank = λ unbound. absurd (let wrong : false ≡ true = sym unbound ∙ bound_now comes.bound in cc);
         host_here = s.host_here;
         term_here = s.term_here;
         simulates = record {

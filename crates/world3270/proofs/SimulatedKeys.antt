@@ -1,10 +1,14 @@
 -- Whatever an operator does by the rules, but Clear in the wait: the waiting terminal takes it in his turn, and nothing of it in the wait.
 use Rattle.std.proofs.Common.{◌≡◌, ◌<◌, ◌||◌, Bool, true, false, ℕ, List, [], length, refl, ap, sym, subst, ◌∙◌, if◌then◌else◌}
-use Rattle.std.specs.Prelude.{is_some}
+use Rattle.std.specs.Prelude.{is_some, replicate}
 use Rattle.codes3270.specs.Size.{ScreenSize}
 use Rattle.codes3270.specs.declared.attention.Aid.{Aid}
 use Rattle.codes3270.specs.declared.attention.Aid.TheVariants.{NoAid, Enter, Clear, Pf, Pa}
 use Rattle.codes3270.specs.declared.attribute.Cell.{Cell}
+use Rattle.codes3270.specs.declared.attribute.Cell.TheVariants.{Char}
+use Rattle.datastream.proofs.FieldViews.{no_attribute}
+use Rattle.shadow.proofs.HeardOthers.{no_field}
+use Rattle.world3270.proofs.NotesHeld.{bare_held}
 use Rattle.datastream.specs.KeptByKeys.{KeptByKeys}
 use Rattle.datastream.specs.InboundFields.{modified_data}
 use Rattle.datastream.specs.Screen.{Screen}
@@ -61,6 +65,9 @@ module _ (given : LowerLaws) (app : Application) (lu : List ℕ) (t : LinkWithRe
 
   -- ---- in the operator's turn
 
+  bound_typing : (told.term.display.keyboard.lock ≡ Wait → ⊥) → is_bound now.term ≡ true
+  bound_typing free = ap (λ talk. is_some (bound_to talk.talk.state)) s.simulates.talk ∙ ap (λ state. is_some (bound_to state)) (types_now given app told s.kept free).at.term_talk
+
   abbrev typed : TermStep → LinkWithReport
   typed step = record { link = term_stepped step now.down now; told = step.end.display; waits = is_queued step.sends; cleared = false }
 
@@ -82,6 +89,7 @@ module _ (given : LowerLaws) (app : Application) (lu : List ℕ) (t : LinkWithRe
         display = ap (λ (d : Display). record (edited cells cursor erases d) { keyboard = freed told.term.display.keyboard }) (sym same);
         waits = refl;
         uncleared = refl;
+        blank = λ unbound. absurd (let wrong : false ≡ true = sym unbound ∙ bound_typing free in cc);
         host_here = s.host_here;
         term_here = s.term_here;
         simulates = record {
@@ -117,6 +125,7 @@ module _ (given : LowerLaws) (app : Application) (lu : List ℕ) (t : LinkWithRe
         display = ap (λ (d : Display). record (after_sending aid d) { keyboard = record told.term.display.keyboard { lock = Wait } }) (sym same);
         waits = ap (λ (bound : Bool). is_queued (data_of bound (Send aid) now.term.display.size (with_aid aid now.term.display.screen))) (bound_both ∙ bound_told);
         uncleared = refl;
+        blank = λ unbound. absurd (let wrong : false ≡ true = sym unbound ∙ bound_typing free in cc);
         host_here = s.host_here;
         term_here = s.term_here;
         simulates = record {
@@ -151,6 +160,7 @@ module _ (given : LowerLaws) (app : Application) (lu : List ℕ) (t : LinkWithRe
         display = s.display;
         waits = sym (ap is_waiting waits);
         uncleared = refl;
+        blank = s.blank;
         host_here = s.host_here;
         term_here = s.term_here;
         simulates = record {
@@ -191,6 +201,7 @@ module _ (given : LowerLaws) (app : Application) (lu : List ℕ) (t : LinkWithRe
         display = s.display;
         waits = sym (ap is_waiting waits);
         uncleared = refl;
+        blank = s.blank;
         host_here = s.host_here;
         term_here = s.term_here;
         simulates = record {
@@ -224,6 +235,46 @@ module _ (given : LowerLaws) (app : Application) (lu : List ℕ) (t : LinkWithRe
       by_bound true false is =
           key_last told.host told.up now.up (key_data aid) second
           (waits_drop app told s.kept (sym s.simulates.lost ∙ is) waits) s.simulates.up
+
+  -- Clear, before the terminal is bound: nothing is sent, and the screen has no fields
+  pub clears_unbound : told.term.display.keyboard.lock ≡ Wait → is_bound now.term ≡ false → (keyboard : Keyboard) → Simulated app lu (untold (shows keyboard (after_sending Clear now.term.display) (data_by Clear now.term) now.term))
+  clears_unbound waits unbound keyboard =
+      let since = s.simulates.since in
+      let screen : Screen = with_aid Clear now.term.display.screen in
+      record {
+        told = told;
+        kept = s.kept;
+        agreed = s.agreed;
+        any = s.any;
+        unsure = s.unsure;
+        marks = s.marks;
+        returning = s.returning;
+        display = s.display;
+        waits = sym (ap is_waiting waits);
+        uncleared = refl;
+        blank = s.blank;
+        host_here = s.host_here;
+        term_here = s.term_here;
+        simulates = record {
+          host = s.simulates.host;
+          lost = s.simulates.lost;
+          down = s.simulates.down;
+          talk = s.simulates.talk;
+          up = subst (λ (sends : List ToHost). Says told.host told.up (sent now.lost now.up sends))
+              (sym (ap (λ (bound : Bool). data_of bound (Send Clear) now.term.display.size screen) unbound)) silent_up;
+          since = record {
+            erased = since.erased;
+            held = bare_held given.keys.round since.erased told.term.display.screen.cells screen.cells
+                (no_attribute told.term.display.screen.cells 0 told.term.display.screen.cells (s.blank unbound))
+                (no_attribute screen.cells 0 screen.cells (no_field (replicate (length now.term.display.screen.cells) (Char 0)) 0 (length now.term.display.screen.cells)))
+                (with_aid-whole Clear now.term.display.screen ∙ since.held.same_length);
+            rest = ap (λ (d : Display). record (after_sending Clear d) { keyboard = keyboard }) since.rest;
+            erasing = since.erasing;
+            same = λ free. absurd (free waits);
+            cursor = subst (λ (size : ℕ). screen.cursor < size) (sym (with_aid-whole Clear now.term.display.screen)) (with_aid-cursor Clear now.term.display.screen (length now.term.display.screen.cells) since.cursor);
+          };
+        };
+      }
 
   -- ---- both
 

@@ -1,7 +1,8 @@
 -- For the host, a terminal that doesn't wait is one that does: beside each connection there is one at whose end a terminal waits, displays
 -- what was told, and which the host can't tell from it.
-use Rattle.std.proofs.Common.{◌≡◌, ◌<◌, ◌||◌, ℕ, Bool, true, false, List, ◌∷◌, None, Some, length, refl, ap, sym, subst, ◌∙◌}
+use Rattle.std.proofs.Common.{◌≡◌, ◌<◌, ◌||◌, ℕ, Bool, true, false, List, [], ◌∷◌, None, Some, length, refl, ap, sym, subst, ◌∙◌}
 use Rattle.std.specs.Prelude.{is_some}
+use Rattle.datastream.specs.Fields.{fields}
 use Rattle.datastream.specs.InboundFields.{buffer_data}
 use Rattle.datastream.specs.KeptByKeys.{KeptByKeys}
 use Rattle.datastream.specs.Screen.{Screen}
@@ -19,7 +20,7 @@ use Rattle.world3270.specs.statement.EveryTerminal.{LinkWithReport}
 use Rattle.world3270.specs.refinement.LowerLaws.{LowerLaws}
 use Rattle.world3270.specs.model.Link.{Link, sent}
 use Rattle.world3270.specs.refinement.Invariant.{ConnectionInvariant}
-use Rattle.world3270.specs.model.Terminal.{Display, TermEnd}
+use Rattle.world3270.specs.model.Terminal.{Display, TermEnd, is_bound}
 use Rattle.world3270.specs.refinement.View.{view_of}
 use Rattle.world3270.proofs.Keys.{or_false}
 use Rattle.world3270.proofs.Returning.{HostReturns}
@@ -73,6 +74,7 @@ pub record Simulated (app : Application) (lu : List ℕ) (t : LinkWithReport) : 
   pub display : told.term.display ≡ record t.told { keyboard = told.term.display.keyboard }
   pub waits : t.waits ≡ is_waiting told.term.display.keyboard.lock
   pub uncleared : t.cleared ≡ false
+  pub blank : is_bound t.link.term ≡ false → fields told.term.display.screen.cells ≡ []
   pub host_here : t.link.host_here ≡ true
   pub term_here : is_some t.link.term_here ≡ true
   pub simulates : Simulates told t.link
@@ -105,6 +107,7 @@ still_simulated app lu t s end link end_term link_term term_here host_here kept 
   display = subst (λ (term : TermEnd). term.display ≡ record t.told { keyboard = term.display.keyboard }) (sym end_term) s.display;
   waits = s.waits ∙ ap (λ (term : TermEnd). is_waiting term.display.keyboard.lock) (sym end_term);
   uncleared = s.uncleared;
+  blank = λ unbound. subst (λ (term : TermEnd). fields term.display.screen.cells ≡ []) (sym end_term) (s.blank (sym (ap is_bound link_term) ∙ unbound));
   host_here = host_here ∙ s.host_here;
   term_here = ap is_some term_here ∙ s.term_here;
   simulates = record {

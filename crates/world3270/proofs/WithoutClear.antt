@@ -1,5 +1,5 @@
 -- Moves that keep the rules, none of which is Clear in the wait: then nothing is cleared.
-use Rattle.std.proofs.Common.{◌≡◌, ◌||◌, ◌&&◌, Bool, true, false, List, [], ◌∷◌, refl, ap, sym, ◌∙◌}
+use Rattle.std.proofs.Common.{◌≡◌, ◌||◌, ◌&&◌, Bool, true, false, List, [], ◌∷◌, refl, ap, sym, ◌∙◌, if◌then◌else◌}
 use Rattle.std.specs.Prelude.{◌≢◌, ⊤}
 use Rattle.codes3270.specs.declared.attention.Aid.{Aid}
 use Rattle.codes3270.specs.declared.attention.Aid.TheVariants.{NoAid, Enter, Clear, Pf, Pa}
@@ -11,7 +11,7 @@ use Rattle.host_core.specs.Notes.{IsNoteText}
 use Rattle.world3270.specs.model.Enabled.{is_queued}
 use Rattle.world3270.specs.model.Link.{Link}
 use Rattle.world3270.specs.model.Terminal.{TermEnd, TermStep, is_bound}
-use Rattle.world3270.specs.statement.EveryTerminal.{AreByTheRules, IsByTheRules, LinkWithReport, Move, after_moves, came_down, came_up, is_clear, key_pressed, moved, sends_clear, told_if}
+use Rattle.world3270.specs.statement.EveryTerminal.{AreByTheRules, IsByTheRules, LinkWithReport, Move, after_moves, came_down, came_up, is_clear, is_shown, key_pressed, moved, sends_clear, told_if}
 use Rattle.world3270.specs.statement.Rules.{Operates}
 use Rattle.world3270.proofs.RuleKeys.{with_aid-aid}
 
@@ -59,7 +59,7 @@ keeps_rules (Move.Answer said) t never rules = tt
 keeps_rules Move.Lose t never rules = tt
 
 still_none : (bound : Bool) (message : ToTerminal) (t : LinkWithReport) (link : Link) → t.cleared ≡ false → (told_if bound message t link).cleared ≡ false
-still_none true (ToTerminal.Paint number wanted over) t link never = refl
+still_none true (ToTerminal.Paint number wanted over) t link never = ap (λ (c : Bool). if is_shown c wanted over then false else c) never
 still_none true (ToTerminal.ReadBuffer number) t link never = never
 still_none true (ToTerminal.Note number command) t link never = never
 still_none true (ToTerminal.TalksDown saying) t link never = never
@@ -93,3 +93,7 @@ pub all_keep_rules : (app : Application) (moves : List Move) (t : LinkWithReport
 all_keep_rules app [] t never rules = tt
 all_keep_rules app (move ∷ moves) t never rules =
     (keeps_rules move t never rules.0, all_keep_rules app moves (moved app move t) (stays_uncleared app move t never rules.0) rules.1)
+
+pub all_stay_uncleared : (app : Application) (moves : List Move) (t : LinkWithReport) → t.cleared ≡ false → AreWithoutClear app moves t → (after_moves app moves t).cleared ≡ false
+all_stay_uncleared app [] t never rules = never
+all_stay_uncleared app (move ∷ moves) t never rules = all_stay_uncleared app moves (moved app move t) (stays_uncleared app move t never rules.0) rules.1

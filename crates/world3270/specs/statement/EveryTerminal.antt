@@ -1,6 +1,6 @@
 -- One connection between a host that serves any terminal and a terminal that keeps the rules, from the host's agreement
 -- on an LU on (our profile): what may happen on it, and what holds then. Other clients change only the pool of LUs.
-use Rattle.std.specs.Prelude.{◌≡◌, ◌≢◌, ⊤, ◌||◌, ◌&&◌, ℕ, Bool, true, false, List, [], ◌∷◌, None, Some, if◌then◌else◌, is_some}
+use Rattle.std.specs.Prelude.{◌≡◌, ◌≢◌, ⊤, ◌||◌, ◌&&◌, not, ℕ, Bool, true, false, List, [], ◌∷◌, None, Some, if◌then◌else◌, is_some}
 use Rattle.codes3270.specs.Size.{cells_in}
 use Rattle.codes3270.specs.declared.attention.Aid.{Aid}
 use Rattle.codes3270.specs.declared.attention.Aid.TheVariants.{NoAid, Clear, Pa}
@@ -14,6 +14,7 @@ use Rattle.panels.specs.Screen.{Values}
 use Rattle.panels.specs.declared.message.Message.{Message}
 use Rattle.shadow.specs.Belief.{Shadow}
 use Rattle.shadow.specs.Doubt.{doubted}
+use Rattle.shadow.specs.Exactness.{is_erase}
 use Rattle.shadow.specs.Paint.{paint}
 use Rattle.tn3270e_msg.specs.Device.{model_of}
 use Rattle.tn3270e_msg.specs.declared.device.Device.{Device}
@@ -24,11 +25,13 @@ use Rattle.host_core.specs.Laws.{MarksInput}
 use Rattle.host_core.specs.Messages.{ToTerminal, ToHost, Verdict}
 use Rattle.host_core.specs.Notes.{IsNoteText, noted}
 use Rattle.host_core.specs.Questions.{answered_on, question_in}
-use Rattle.host_core.specs.Session.{agreed_lu, model_in, new_conn, unheard_of}
+use Rattle.host_core.specs.Session.{Session, agreed_lu, model_in, new_conn, unheard_of}
 use Rattle.host_core.specs.Takes.{took as host_took}
 use Rattle.host_core.specs.declared.question.Answer.{Answer as ApplicationAnswer}
 use Rattle.host_core.specs.declared.question.Question.{Question}
 use Rattle.host_core.specs.declared.terminals.Terminals.{Terminals}
+use Rattle.host_core.specs.declared.turn.Turn.TheVariants as whose
+use Rattle.host_core.specs.declared.turn_reason.TurnReason.TheVariants.{Refusal}
 use Rattle.host_core.specs.declared.unheard.Unheard.TheVariants.{Input}
 use Rattle.world3270.specs.statement.Asked.{AreFieldsAsked, IsKeyAsked, IsPanelAsked, IsSeen, ShowsItsFields, panel_with_keys}
 use Rattle.world3270.specs.statement.Headline.{Agrees, IsHostsTurn, SeesTheScreen}
@@ -48,7 +51,8 @@ use Rattle.world3270.specs.model.Terminal.{Display, TermEnd, TermStep, bound_to,
 -- fields, `told` becomes the terminal's screen when it takes a Read Buffer, with the AID of `told`. A note is written
 -- over `told` too.
 -- `waits`: there was such a key since the last paint (a 3278's keyboard would be locked), or no paint was taken yet.
--- `cleared`: Clear was pressed since then, too, so that what the host wrote is gone.
+-- `cleared`: Clear was pressed since then, too, so that what the host wrote is gone. A paint that doesn't erase is no
+-- paint in this sense then: the host shows its panel again.
 -- No step of either end reads `told`, `waits` or `cleared`.
 pub record LinkWithReport : Type 0 where
   pub link : Link
@@ -92,35 +96,33 @@ abbrev pub is_pa : Aid → Bool
 is_pa (Pa key) = true
 is_pa _ = false
 
+-- whether a paint leaves the wanted screen: it erases, or Clear wasn't pressed in the wait
+abbrev pub is_shown : (cleared : Bool) → WantedScreen → Shadow → Bool
+is_shown cleared wanted over = not cleared || is_erase (paint (cells_in wanted.size) over wanted).code
+
 -- what the host was told, after a terminal that is bound has taken a message and displays `now`
-abbrev pub told_after : ToTerminal → (told now : Display) → Display
-told_after (ToTerminal.Paint number wanted over) told now = now
-told_after (ToTerminal.ReadBuffer number) told now =
+abbrev pub told_after : ToTerminal → (cleared : Bool) → (told now : Display) → Display
+told_after (ToTerminal.Paint number wanted over) cleared told now = if is_shown cleared wanted over then now else told
+told_after (ToTerminal.ReadBuffer number) cleared told now =
     if is_pa told.screen.aid then record now { screen = record now.screen { aid = told.screen.aid } } else told
-told_after (ToTerminal.Note number command) told now = record told { screen = after_command command told.screen }
-told_after (ToTerminal.TalksDown saying) told now = told
+told_after (ToTerminal.Note number command) cleared told now =
+    record told { screen = after_command command told.screen }
+told_after (ToTerminal.TalksDown saying) cleared told now = told
 
--- whether the terminal waits after a message: a paint ends the wait
-abbrev pub waits_after : ToTerminal → Bool → Bool
-waits_after (ToTerminal.Paint number wanted over) waits = false
-waits_after (ToTerminal.ReadBuffer number) waits = waits
-waits_after (ToTerminal.Note number command) waits = waits
-waits_after (ToTerminal.TalksDown saying) waits = waits
-
--- whether Clear was pressed in the wait, after a message: a paint ends the wait
-abbrev pub cleared_after : ToTerminal → Bool → Bool
-cleared_after (ToTerminal.Paint number wanted over) cleared = false
-cleared_after (ToTerminal.ReadBuffer number) cleared = cleared
-cleared_after (ToTerminal.Note number command) cleared = cleared
-cleared_after (ToTerminal.TalksDown saying) cleared = cleared
+-- whether the terminal waits, or Clear was pressed in the wait, after a message: a paint ends the wait
+abbrev pub once_shown : ToTerminal → (cleared was : Bool) → Bool
+once_shown (ToTerminal.Paint number wanted over) cleared was = if is_shown cleared wanted over then false else was
+once_shown (ToTerminal.ReadBuffer number) cleared was = was
+once_shown (ToTerminal.Note number command) cleared was = was
+once_shown (ToTerminal.TalksDown saying) cleared was = was
 
 -- A message changes `told`, `waits` and `cleared` only if the terminal is bound: else the terminal drops it.
 abbrev pub told_if : Bool → ToTerminal → LinkWithReport → Link → LinkWithReport
 told_if true message t link = record {
   link = link;
-  told = told_after message t.told link.term.display;
-  waits = waits_after message t.waits;
-  cleared = cleared_after message t.cleared;
+  told = told_after message t.cleared t.told link.term.display;
+  waits = once_shown message t.cleared t.waits;
+  cleared = once_shown message t.cleared t.cleared;
 }
 told_if false message t link = record t { link = link }
 
@@ -186,27 +188,29 @@ abbrev pub key_pressed : {end : TermEnd} {step : TermStep} → Operates end step
 key_pressed (Operates.edits keyboard cells cursor erases held on is) = NoAid
 key_pressed (Operates.sends keyboard aid some is) = aid
 
--- Holds if Clear may be pressed in the wait: the terminal is bound, and the first key wasn't PA, after which the host
--- would read the screen.
-pub record MayClear (t : LinkWithReport) : Type 0 where
-  pub bound : is_bound t.link.term ≡ true
-  pub no_pa : is_pa t.told.screen.aid ≡ false
+-- Holds if the host knew of no field when it sent a paint.
+abbrev pub IsWithoutFields : Shadow → Type 0
+IsWithoutFields Shadow.NothingKnown = ⊤
+IsWithoutFields (Shadow.Unformatted known) = ⊤
+IsWithoutFields (Shadow.Formatted beliefs) = ⊥
 
--- Holds if no paint or Read Buffer that crossed a Clear in the wait is next for the terminal: the host believed nothing
--- when it sent the paint. Notes may cross Clear.
+-- Holds if no Read Buffer, and no erase of a screen of which the host knew the fields, is next for the terminal: after
+-- Clear in the wait these would have crossed it. Notes and other paints may.
 abbrev pub CrossesNoClear : List ToTerminal → Type 0
 CrossesNoClear [] = ⊤
-CrossesNoClear (ToTerminal.Paint number wanted over ∷ rest) = over ≡ Shadow.NothingKnown
+CrossesNoClear (ToTerminal.Paint number wanted over ∷ rest) =
+    is_erase (paint (cells_in wanted.size) over wanted).code ≡ true → IsWithoutFields over
 CrossesNoClear (ToTerminal.ReadBuffer number ∷ rest) = ⊥
 CrossesNoClear (ToTerminal.Note number command ∷ rest) = ⊤
 CrossesNoClear (ToTerminal.TalksDown saying ∷ rest) = ⊤
 
 -- Holds if a move keeps the rules: the pool is sound, the operator does what `Operates` allows, and a note has a note's
--- text. Clear may be pressed in the wait where `MayClear` says so, and then crosses neither paint nor Read Buffer.
+-- text. Clear may be pressed in the wait, but not after PA, whose screen the host reads; what it may cross,
+-- `CrossesNoClear` says.
 abbrev pub IsByTheRules : Move → LinkWithReport → Type 0
 IsByTheRules (Move.Up pool) t = IsSound pool
 IsByTheRules (Move.Operate step) t = (does : Operates t.link.term step)
-    × (t.waits ≡ true → key_pressed does ≡ Clear → MayClear t)
+    × (t.waits ≡ true → key_pressed does ≡ Clear → is_pa t.told.screen.aid ≡ false)
 IsByTheRules (Move.Note text) t = IsNoteText text
 IsByTheRules Move.Down t = t.cleared ≡ true → CrossesNoClear t.link.down
 IsByTheRules Move.Act t = ⊤
@@ -247,6 +251,11 @@ pub record FirstPaint (app : Application) (lu : List ℕ) (t : LinkWithReport) :
 abbrev pub told_link : LinkWithReport → Link
 told_link t = record t.link { term = record t.link.term { display = t.told } }
 
+-- Holds if the host shows its panel again, since Clear crossed the paint.
+pub record IsRepeating (host : Session) : Type 0 where
+  pub turn : host.turn ≡ whose.Host
+  pub refusal : host.turn_reason ≡ Refusal
+
 -- Holds if this is so on the connection:
 -- (a) If the terminal is bound to an LU, it is the LU that the host granted.
 -- (b) to (d) Whenever the host may decide, these parts of the headline hold of what it was told. And unless Clear was
@@ -257,13 +266,15 @@ told_link t = record t.link { term = record t.link.term { display = t.told } }
 -- application decides on the key there, and after Enter no required field is left blank. If the host itself decides to
 -- show a panel, the key that was pressed on what it was told leads there.
 -- After a paint is answered, the screen that it left shows the panel, whatever was typed in the wait before it, or
--- pressed: after Clear, too.
+-- pressed: after Clear, too. Only a panel that is shown again since Clear crossed its paint is no decision on a key, and
+-- isn't there before; that happens only after Clear in the wait.
 -- The host believes all that the terminal sends: no screen is restored. Neither end has closed the connection for a
 -- cause: both are attached.
 pub record RightOf (app : Application) (lu : List ℕ) (t : LinkWithReport) : Type 0 where
   pub granted : agreed_lu t.link.host.talk.state ≡ Some lu
   pub bound : (mine : List ℕ) → bound_to t.link.term.talk.talk.state ≡ Some mine → mine ≡ lu
-  pub agrees : (turn : IsHostsTurn (seen_link (told_link t))) → Agrees turn.host turn.terminal
+  pub agrees : (IsRepeating t.link.host → ⊥) → (turn : IsHostsTurn (seen_link (told_link t)))
+      → Agrees turn.host turn.terminal
   pub now : t.cleared ≡ false → IsHostsTurn (seen_link t.link)
       → SeesTheScreen (doubted t.link.host.shadow) t.link.term.display.screen
   pub asked : (number session : ℕ) (question : Question) → question_in app session t.link.host ≡ Some question
@@ -277,12 +288,13 @@ pub record RightOf (app : Application) (lu : List ℕ) (t : LinkWithReport) : Ty
   pub key_asked : ShowsItsFields app → WantsItsFields app → (session : ℕ) (question : Question)
       → question_in app session t.link.host ≡ Some question
       → IsKeyAsked app t.link.host question t.told.screen
-  pub leads : ShowsItsFields app → WantsItsFields app → (asked : ℕ) (message : Message) (keep : Bool) (given : Values)
+  pub leads : (IsRepeating t.link.host → ⊥) → ShowsItsFields app → WantsItsFields app → (asked : ℕ) (message : Message) (keep : Bool) (given : Values)
       → decision_in app t.link.host ≡ Some (Decision.Do (HostAct.Show asked message keep given))
       → IsLedTo app (model_in t.link.host) (panel_with_keys app t.link.host t.told.screen.aid) t.told.screen
       (app.shown (model_in t.link.host) asked) message keep
-  pub shown : WantsItsFields app → HasShown t.link.host
+  pub shown : (IsRepeating t.link.host → ⊥) → WantsItsFields app → HasShown t.link.host
       → IsPanelShown app false t.link.host t.link.term.display.before_restored t.link.term.display.last_restored
+  pub repeats : IsRepeating t.link.host → t.cleared ≡ true
   pub unrestored : t.link.host.restored ≡ 0
   pub host_here : t.link.host_here ≡ true
   pub term_here : is_some t.link.term_here ≡ true
