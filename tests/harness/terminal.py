@@ -133,9 +133,6 @@ class Keyboard:
             self.lock = None if self.lock == ERROR else self.lock
             self.is_inserting, self.refusal = False, None
         elif not self.lock:
-            if key == "erase" and is_start(self.screen.cells, self.screen.cursor):
-                # It is no key there, and leaves the status row as it is.
-                return None
             self.refusal = None
             if key in AIDS:
                 return self.send(AIDS[key])
@@ -211,10 +208,11 @@ class Keyboard:
         self.change(places, [*(cells[it] for it in places[1:]), NULL])
 
     def do_erase(self) -> None:
-        """Cursor Left and Delete (c3270's `Erase`)."""
+        """Cursor Left and Delete; nothing at the first character of a field (c3270's `Erase`)."""
         self.editable()
-        self.do_left()
-        self.do_delete()
+        if not is_start(self.screen.cells, self.screen.cursor):
+            self.do_left()
+            self.do_delete()
 
     def do_eraseeof(self) -> None:
         places = self.editable()

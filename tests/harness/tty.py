@@ -35,7 +35,7 @@ BANK = TOP / "examples/bank.toml"
 
 ENTER, TAB, HOME, LEFT = b"\r", b"\t", b"\x1b[H", b"\x1b[D"
 RESET, ERASE_EOF, REDRAW, QUIT = b"\x12", b"\x05", b"\x0c", b"\x1d"
-STATUS, KEYS = b"\x14", b"\x1b?"
+STATUS, KEYS, SAVE = b"\x14", b"\x1b?", b"\x10"
 BACK_TAB, INSERT, PF3, CLEAR = b"\x1b[Z", b"\x1b[2~", b"\x1bOR", b"\x03"
 BACKSPACE, PASTE, PASTED = b"\x7f", b"\x1b[200~", b"\x1b[201~"
 

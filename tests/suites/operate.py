@@ -42,6 +42,7 @@ from harness.tty import (
     QUIT,
     REDRAW,
     RESET,
+    SAVE,
     SCRIPT,
     SIGNALS,
     STATUS,
@@ -49,6 +50,7 @@ from harness.tty import (
     bound,
     serve_bank,
 )
+from harness.s3270 import S3270, is_wanted
 from suites import s3270_sessions
 
 check = Checks()
@@ -571,11 +573,11 @@ def rows_of(screen) -> dict[str, list[str]]:
         for start, end in columns:
             name, *keys = line[start:end].split()
             rows[name] = keys
-    for number in range(15, 21):
+    for number in range(15, 22):
         line = screen.line(number)
         for start, end in ((1, 52), (53, 80)):
-            name, *keys = line[start:end].split()
-            rows[name] = keys
+            if words := line[start:end].split():
+                rows[words[0]] = words[1:]
     return rows
 
 
@@ -620,6 +622,7 @@ EDITS = {
     "Erase": (" HI B", "001/005"), "BackSpace": (" HI AB", "001/005"), "Delete": (" HI A", "001/006"),
     "EraseEOF": (" HI A", "001/006"), "EraseInput": (" HI", "001/005"),
     "Reset": (" HI AB", "001/006"), "Redraw": (" HI AB", "001/006"), "Status": (" HI AB", "001/006"),
+    "PrintText": (" HI AB", "001/006"),
 }  # fmt: skip
 
 
@@ -678,6 +681,112 @@ def backspace_erases():
         operator.types(RESET, TAB, "Z", BACKSPACE, BACKSPACE, ENTER)
         # Number 0: Enter, the cursor at 4, and the field from 4 on.
         host.hears(bytes.fromhex("00 00 00 00 00 7D 40 C4 11 40 C4 C3 FF EF"))
+
+
+@check
+def erasing_nothing_is_a_key():
+    """At the first character of a field Erase changes nothing and is not refused, as in s3270; the status
+    row doesn't tell any more of the key before it, as after each key that isn't refused."""
+    with bound() as (operator, host):
+        operator.types("Ā")
+        operator.has_status("connected", "X", "NO", "CODE", "PNL01", "001/005")
+        operator.types(BACKSPACE)
+        operator.has_status("connected", "PNL01", "001/005")
+        operator.types(PASTE + b"1" * 99 + PASTED)
+        operator.has_status("connected", "X", "PASTE", "CUT", "PNL01", "001/005")
+        operator.types(BACKSPACE)
+        operator.has_status("connected", "PNL01", "001/005")
+        expect("a row", operator.screen.line(0), " HI 111111 1111")
+        operator.types(INSERT, BACKSPACE)
+        operator.has_status("connected", "^", "PNL01", "001/005")
+        expect("how often the bell rang", operator.screen.bells, 2)
+
+
+@check
+def s3270_erases_nothing_there():
+    """What the check before says of s3270."""
+    is_wanted("s3270")
+    with serve_bank() as host, S3270(2) as other:
+        other.does(f"Connect(127.0.0.1:{host.port})", "Wait(InputField)", "Home()", "String(47)")
+        other.does("Home()", "Erase()")
+        expect("the cursor", other.does("Query(Cursor)"), ["4 29"])
+        expect("a row", other.shows()[4].split(), ["TELLER", "NUMBER", "47"])
+        other.does("String(1)")
+        expect("it goes on", other.shows()[4].split(), ["TELLER", "NUMBER", "17"])
+
+
+@check
+def a_key_wakes_the_program():
+    """The program waits for its tty as for its connection (epoll, by /proc): a key needn't wait."""
+    with bound() as (operator, _):
+        own = pathlib.Path(f"/proc/{operator.program()}")
+        polls = [it.name for it in (own / "fd").iterdir() if "eventpoll" in os.readlink(it)]
+        lines = "".join((own / "fdinfo" / it).read_text() for it in polls)
+        watched = re.findall(r"^tfd: *(\d+)", lines, re.MULTILINE)
+        expect("the tty is among what is watched", "0" in watched, True)
+
+
+@check
+def screens_are_saved():
+    """Ctrl-P appends the rows of the screen, as they are when it is pressed, to the file of --save: one
+    line a row, in UTF-8, and a hidden field as blanks. So it does in the wait, too."""
+    with tempfile.TemporaryDirectory() as name:
+        path = pathlib.Path(name) / "screens"
+        path.write_text("KEPT\n")
+
+        def has(wanted):
+            end = time.monotonic() + PATIENCE
+            while path.read_text() != wanted and time.monotonic() < end:
+                time.sleep(0.02)
+            expect("the file", path.read_text(), wanted)
+
+        with bound(options=("--save", path)) as (operator, host):
+            operator.types(b"\xc3\xa9" + SAVE + b"B")
+            operator.until("the keys are done", lambda screen: screen.line(0) == " HI éB")
+            has(first := "KEPT\n HI é\n" + "\n" * 23)
+            operator.types(ENTER, SAVE)
+            host.hears(bytes.fromhex("00 00 00 00 00 7D 40 C6 11 40 C4 51 C2 FF EF"))
+            has(first + " HI éB\n" + "\n" * 23)
+            expect("how often the bell rang", operator.screen.bells, 0)
+        path.unlink()
+        with serve_bank() as host, Operator("--save", path, host.port) as operator:
+            operator.sees("FIRST NATIONAL BANK")
+            operator.types("4711", TAB, "SECRET", SAVE)
+            operator.types(QUIT)
+            operator.ends(0)
+            lines = path.read_text().splitlines()
+            expect("the rows", len(lines), 24)
+            expect("a row", lines[4].split(), ["TELLER", "NUMBER", "4711"])
+            expect("a hidden field", lines[6].split(), ["PASSWORD"])
+
+
+@check
+def a_screen_that_is_not_saved_is_told():
+    """If the file can't be written the status row says so, the bell rings, and the session goes on. If it
+    can't be opened a line says why, and no session begins. Without a file the key is refused."""
+    with bound(options=("--save", "/dev/full")) as (operator, _):
+        operator.types(SAVE)
+        operator.has_status("connected", "X", "NOT", "SAVED", "PNL01", "001/005")
+        operator.until("the bell rings", lambda screen: screen.bells == 1)
+        operator.types("A")
+        operator.has_status("connected", "PNL01", "001/006")
+        expect("a row", operator.screen.line(0), " HI A")
+    for name, why in (("/no/screens", "no such file"), ("/", "is a directory")):
+        with Operator("--save", name, free_port()) as operator:
+            operator.ends(1, f"{name}: {why}")
+    with bound() as (operator, _):
+        operator.types(SAVE)
+        operator.until("the bell rings", lambda screen: screen.bells == 1)
+        operator.has_status("connected", "PNL01", "001/005")
+
+
+@check
+def the_soft_hyphen_is_drawn():
+    """U+00AD is drawn as a hyphen, since terminals don't agree on its width; the host gets it as it is."""
+    with bound() as (operator, host):
+        operator.types("1\u00ad0", ENTER)
+        operator.until("a hyphen", lambda screen: screen.line(0) == " HI 1-0")
+        host.hears(bytes.fromhex("00 00 00 00 00 7D 40 C7 11 40 C4 F1 CA F0 FF EF"))
 
 
 @check

@@ -95,11 +95,13 @@ options_of topic.Operate =
     needed (codes "port") kind.ServicePort ∷ optional (codes "host") kind.Address ∷ optional (codes "lu") kind.LuName
     ∷ optional (codes "model") kind.Model ∷ optional (codes "colors") kind.Colors
     ∷ optional (codes "keymap") kind.File ∷ optional (codes "escape") kind.Millis
-    ∷ optional (codes "quiet-keys") kind.Flag ∷ optional (codes "raw") kind.TtySize ∷ []
+    ∷ optional (codes "quiet-keys") kind.Flag ∷ optional (codes "save") kind.File
+    ∷ optional (codes "raw") kind.TtySize ∷ []
 options_of topic.Web =
     needed (codes "port") kind.ServicePort ∷ needed (codes "connect") kind.Host
     ∷ optional (codes "listen") kind.Address ∷ optional (codes "origin") kind.Url
-    ∷ optional (codes "sessions") kind.Sessions ∷ optional (codes "keep") kind.Seconds ∷ []
+    ∷ optional (codes "sessions") kind.Sessions ∷ optional (codes "keep") kind.Seconds
+    ∷ optional (codes "per-address") kind.PerAddress ∷ optional (codes "keymap") kind.File ∷ []
 options_of topic.Check = optional (codes "file") kind.Operand ∷ []
 options_of topic.Tell = needed (codes "socket") kind.Operand ∷ needed (codes "command") kind.Operand
     ∷ optional (codes "first") kind.Operand ∷ optional (codes "second") kind.Operand ∷ []

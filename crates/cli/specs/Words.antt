@@ -18,7 +18,7 @@ use Rattle.host_core.specs.declared.terminals.Terminals.TheVariants.{Any, Verifi
 use Rattle.tn3270e_msg.specs.Lu.{lu_of}
 use Rattle.tty.specs.Looks.{colors_named}
 use Rattle.tty.specs.declared.colors.Colors.{Colors}
-use Rattle.jobs.specs.OptionValues.{address_of, endpoint_of, escape_time_of, is_same_port, model_of, port_of, reply_time_of, seconds_of, service_port_of, session_count_of, this_machine, tty_size_of, turns_of, usual_drain, usual_escape, usual_idle, usual_keep, usual_keepalive, usual_colors, usual_model, usual_negotiate, usual_reply_time, usual_sessions, usual_turns}
+use Rattle.jobs.specs.OptionValues.{address_count_of, address_of, endpoint_of, escape_time_of, is_same_port, model_of, port_of, reply_time_of, seconds_of, service_port_of, session_count_of, this_machine, tty_size_of, turns_of, usual_address_count, usual_drain, usual_escape, usual_idle, usual_keep, usual_keepalive, usual_colors, usual_model, usual_negotiate, usual_reply_time, usual_sessions, usual_turns}
 use Rattle.cli.specs.Topics.{OptionRow, is_operand, jobs, name_of, options_of, takes_value, topic_named}
 use Rattle.jobs.specs.declared.job.Job.{Job}
 use Rattle.jobs.specs.declared.job.Job.TheVariants as job
@@ -163,23 +163,30 @@ given_live_options options =
       keymap = first_of (codes "keymap") options;
       escape = escape;
       quiet_keys = is_given (codes "quiet-keys") options;
+      save = first_of (codes "save") options;
     }) (given_escape options)) (given_colors options)) (given_tty options)) (given_model options)) (given_lu options)) (given_service_port options))
     (given_address (codes "host") options)
 
 abbrev pub given_sessions : List Row → Option ℕ
 given_sessions options = option_map_or session_count_of (first_of (codes "sessions") options) (Some usual_sessions)
 
+abbrev pub given_per_address : List Row → Option ℕ
+given_per_address options =
+    option_map_or address_count_of (first_of (codes "per-address") options) (Some usual_address_count)
+
 abbrev pub given_web : List Row → Option WebOptions
 given_web options =
     option_and_then (λ listen. option_and_then
-    (λ port. option_and_then (λ host. option_and_then (λ sessions. option_map (λ keep. record {
+    (λ port. option_and_then (λ host. option_and_then (λ sessions. option_and_then (λ keep. option_map (λ per_address. record {
       listen = listen;
       port = port;
       host = host;
       origin = first_of (codes "origin") options;
       sessions = sessions;
       keep = keep;
-    }) (given_seconds (codes "keep") usual_keep options)) (given_sessions options))
+      per_address = per_address;
+      keymap = first_of (codes "keymap") options;
+    }) (given_per_address options)) (given_seconds (codes "keep") usual_keep options)) (given_sessions options))
     (option_and_then endpoint_of (first_of (codes "connect") options)))
     (given_service_port options))
     (given_address (codes "listen") options)

@@ -7,7 +7,7 @@ ghost use Rattle.clap.specs.Values.{kind_of};
 ghost use Rattle.clap.specs.Walk.{first_of, rows_of};
 ghost use Rattle.jobs.specs.OptionValues.{endpoint_of};
 ghost use Rattle.cli.specs.Topics.{row_of};
-ghost use Rattle.cli.specs.Words.{HasNoJob, IsJobOf, program, job_by, job_by_kind, job_named, job_of, given_address, given_colors, given_application, given_command, given_control, given_escape, given_limits, given_live_options, given_lu, given_metrics, given_model, given_port, given_reply_time, given_script_terminals, given_seconds, given_service, given_service_port, given_sessions, given_terminals, given_topic, given_tty, given_turns, given_web, ends_by_dashes, is_given, job_shape, job_taken, option_rule, sound_service, topic_of};
+ghost use Rattle.cli.specs.Words.{HasNoJob, IsJobOf, program, job_by, job_by_kind, job_named, job_of, given_address, given_colors, given_application, given_command, given_control, given_escape, given_limits, given_live_options, given_lu, given_metrics, given_model, given_per_address, given_port, given_reply_time, given_script_terminals, given_seconds, given_service, given_service_port, given_sessions, given_terminals, given_topic, given_tty, given_turns, given_web, ends_by_dashes, is_given, job_shape, job_taken, option_rule, sound_service, topic_of};
 ghost use Rattle.cli.specs.ClapCommands.{AddsArguments, AddsJob, AddsJobs, IsArgument, IsCommand, IsJob, IsMatch, MayFail};
 
 use crate::help::VERSION;
@@ -18,9 +18,9 @@ use clap::{Arg, ArgAction, ArgMatches, Command};
 use codes3270::Model;
 use host_core::Terminals;
 use jobs::{
-    ApplicationChoice, CommandWords, ControlChoice, EscapeTime, HelpTopic, HostEndpoint, Job,
-    Operand, OperateOptions, Port, ReplyTime, Seconds, Service, ServicePort, SessionCount,
-    TimeLimits, TtySize, Turns, WebOptions, address_of, model_of,
+    AddressCount, ApplicationChoice, CommandWords, ControlChoice, EscapeTime, HelpTopic,
+    HostEndpoint, Job, Operand, OperateOptions, Port, ReplyTime, Seconds, Service, ServicePort,
+    SessionCount, TimeLimits, TtySize, Turns, WebOptions, address_of, model_of,
 };
 use std::alloc::{AllocError, Global};
 use std::net::{IpAddr, Ipv4Addr};
@@ -310,6 +310,7 @@ fn live_options_in<'a>(options: &ArgMatches<'a>) -> Option<OperateOptions<'a>>
         keymap: text_in(options, "keymap"),
         escape: escape_in(options)?,
         quiet_keys: is_given(options, "quiet-keys"),
+        save: text_in(options, "save"),
     })
 }
 
@@ -327,6 +328,13 @@ fn sessions_in(options: &ArgMatches<'_>) -> Option<SessionCount>
     given(options, "sessions").map_or(Some(SessionCount::of(64)), SessionCount::read)
 }
 
+/// The value of `--per-address`; no limit if it isn't given.
+fn per_address_in(options: &ArgMatches<'_>) -> Option<AddressCount>
+    ensures { result ≡ given_per_address (rows_of (found_of options.now)) }
+{
+    given(options, "per-address").map_or(Some(AddressCount::of(0)), AddressCount::read)
+}
+
 /// The options of `web`.
 fn web_in<'a>(options: &ArgMatches<'a>) -> Option<WebOptions<'a>>
     ensures { result ≡ given_web (rows_of (found_of options.now)) }
@@ -338,6 +346,8 @@ fn web_in<'a>(options: &ArgMatches<'a>) -> Option<WebOptions<'a>>
         sessions: sessions_in(options)?,
         keep: seconds_in(options, "keep", Seconds::of(120))?,
         origin: text_in(options, "origin"),
+        per_address: per_address_in(options)?,
+        keymap: text_in(options, "keymap"),
     })
 }
 

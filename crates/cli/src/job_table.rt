@@ -22,6 +22,7 @@ pub(crate) enum ValueKind {
     Millis,
     Host,
     Sessions,
+    PerAddress,
     Flag,
     Operand,
 }
@@ -38,7 +39,7 @@ impl ValueKind {
     pub(crate) fn placeholder(self) -> &'static str {
         match self {
             ValueKind::Port | ValueKind::ServicePort => " P",
-            ValueKind::Turns | ValueKind::Sessions => " N",
+            ValueKind::Turns | ValueKind::Sessions | ValueKind::PerAddress => " N",
             ValueKind::Host => " [HOST:]PORT",
             ValueKind::LuName => " NAME",
             ValueKind::Address => " ADDRESS",
@@ -143,7 +144,7 @@ static HELP: [JobOption<'static>; 1] = [option!(takes "job")];
 
 static TERM: [JobOption<'static>; 3] = [PORT, LU, MODEL];
 
-static OPERATE: [JobOption<'static>; 9] = [
+static OPERATE: [JobOption<'static>; 10] = [
     option!(needs "port": ServicePort, "the port of the host, 1 to 65535"),
     option!(takes "host": Address,
         "the IPv4 or IPv6 address of the host; localhost is 127.0.0.1 [default: 127.0.0.1]"),
@@ -155,10 +156,11 @@ static OPERATE: [JobOption<'static>; 9] = [
     option!(takes "escape": Millis,
         "a sequence of a key may be cut for this time after ESC, 1 to 10000 milliseconds [default: 500]"),
     option!(takes "quiet-keys": Flag, "don't ring the bell for a key that is refused"),
+    option!(takes "save": File, "the file to which Ctrl-P appends the rows of the screen"),
     option!(takes "raw": TtySize, "the size of the tty, which is in raw mode: bin/operate says so"),
 ];
 
-static WEB: [JobOption<'static>; 6] = [
+static WEB: [JobOption<'static>; 8] = [
     option!(needs "port": ServicePort, "the port of the page, 1 to 65535"),
     option!(needs "connect": Host, "the host: a port of this machine, or an IPv4 address and a port"),
     option!(takes "listen": Address,
@@ -168,6 +170,9 @@ static WEB: [JobOption<'static>; 6] = [
             served"),
     option!(takes "sessions": Sessions, "the most sessions at one time, 1 to 64 [default: 64]"),
     option!(takes "keep": Seconds, "keep a session without a page for this time, 0 to 1000000 [default: 120]"),
+    option!(takes "per-address": PerAddress,
+        "the most sessions of one client address, 0 to 64; 0 is no limit [default: 0]"),
+    option!(takes "keymap": File, "the file with lines KEY = ACTION for keys that do something else than usual"),
 ];
 
 /// The jobs of the program.

@@ -10,8 +10,8 @@ use crate::job_table::{ValueKind, name_of, options_of};
 use clap::ArgMatches;
 use clap::error::ErrorKind;
 use jobs::{
-    EscapeTime, HelpTopic, HostEndpoint, Port, ReplyTime, Seconds, ServicePort, SessionCount, Sink,
-    TtySize, Turns, address_of, model_of,
+    AddressCount, EscapeTime, HelpTopic, HostEndpoint, Port, ReplyTime, Seconds, ServicePort,
+    SessionCount, Sink, TtySize, Turns, address_of, model_of,
 };
 use std::alloc::Global;
 use std::fmt;
@@ -112,6 +112,7 @@ fn is_value(kind: ValueKind, word: &str) -> bool {
         ValueKind::Seconds => Seconds::read(word).is_some(),
         ValueKind::ReplyTime => ReplyTime::read(word).is_some(),
         ValueKind::Sessions => SessionCount::read(word).is_some(),
+        ValueKind::PerAddress => AddressCount::read(word).is_some(),
         ValueKind::LuName => Lu::read(word.as_bytes()).is_some(),
         ValueKind::Address => address_of(word).is_some(),
         ValueKind::Model => model_of(word).is_some(),

@@ -72,6 +72,10 @@ address_of word = if bytes_eq word (codes "localhost") then Some this_machine el
 abbrev pub session_count_of : List ℕ → Option ℕ
 session_count_of word = number_in_word 1 64 word
 
+-- the most sessions of `web` for one address; 0 is no limit
+abbrev pub address_count_of : List ℕ → Option ℕ
+address_count_of word = number_in_word 0 64 word
+
 abbrev pub is_colon : ℕ → Bool
 is_colon char = char == 58
 
@@ -137,3 +141,6 @@ usual_sessions = 64
 
 abbrev pub usual_keep : ℕ
 usual_keep = 120
+
+abbrev pub usual_address_count : ℕ
+usual_address_count = 0

@@ -3,7 +3,7 @@ ghost use Rattle.std.specs.Prelude.{◌≡◌};
 ghost use Rattle.jobs.specs.OptionValues.{model_of};
 
 use crate::endpoint::HostEndpoint;
-use crate::number::{EscapeTime, Port, Seconds, ServicePort, SessionCount, Turns};
+use crate::number::{AddressCount, EscapeTime, Port, Seconds, ServicePort, SessionCount, Turns};
 use crate::service::{ApplicationChoice, ControlChoice, Service};
 use crate::tty_size::TtySize;
 use crate::word::number_of;
@@ -106,6 +106,8 @@ pub struct OperateOptions<'a> {
     pub escape: EscapeTime,
     /// Whether refused keys are silent.
     pub quiet_keys: bool,
+    /// The file to which screens are appended that the operator saves; None if there is none.
+    pub save: Option<Operand<'a>>,
 }
 
 /// The options of `web`: where it listens, the host, and the bounds of its sessions.
@@ -123,6 +125,10 @@ pub struct WebOptions<'a> {
     pub sessions: SessionCount,
     /// How long a session without a page is kept, in seconds.
     pub keep: Seconds,
+    /// The most sessions of pages at one address; 0 is no limit.
+    pub per_address: AddressCount,
+    /// The file that says what keys do; None if each does what is usual.
+    pub keymap: Option<Operand<'a>>,
 }
 
 /// A job of the program.

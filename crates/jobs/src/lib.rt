@@ -55,7 +55,8 @@ pub use input::{MOST_BYTES, MOST_READS, read_whole};
 pub use job::{CommandWords, HelpTopic, Job, Operand, OperateOptions, WebOptions, model_of};
 pub use live_fault::LiveFault;
 pub use number::{
-    BoundedU16, BoundedU32, EscapeTime, Port, ReplyTime, Seconds, ServicePort, SessionCount, Turns,
+    AddressCount, BoundedU16, BoundedU32, EscapeTime, Port, ReplyTime, Seconds, ServicePort,
+    SessionCount, Turns,
 };
 pub use raw::{RawRandom, RawRead, RawWrite};
 pub use service::{ApplicationChoice, ControlChoice, Service, TimeLimits, address_of};

@@ -118,6 +118,9 @@ pub type ReplyTime = BoundedU32<1, 3_600>;
 /// The most sessions of `web`, 1 to 64.
 pub type SessionCount = BoundedU16<1, 64>;
 
+/// The most sessions of `web` for one address, 0 to 64; 0 is no limit.
+pub type AddressCount = BoundedU16<0, 64>;
+
 /// The time without a byte that ends a lone ESC, in milliseconds, 1 to 10,000.
 pub type EscapeTime = BoundedU16<1, 10_000>;
 

@@ -10,6 +10,7 @@ use Rattle.keyboard.specs.declared.key.Pressed.TheVariants as pressed
 use Rattle.keyboard.specs.declared.key.Refusal.TheVariants as refusal
 use Rattle.term_core.specs.Feeds.{Feeds}
 use Rattle.term_core.specs.Presses.{after_key, answer_to_key}
+use Rattle.term_core.specs.ScreenText.{all_lines}
 use Rattle.term_core.specs.State.{Terminal, model_of, new_terminal, phase_of, silenced}
 use Rattle.term_core.specs.declared.phase.TermPhase.{TermPhase}
 use Rattle.term_core.specs.declared.phase.TermPhase.TheVariants as phase
@@ -49,17 +50,20 @@ use Rattle.operate.specs.declared.typed.Typed.{Typed}
 use Rattle.operate.specs.declared.typed.Typed.TheVariants as typed
 
 -- How an operator has the terminal: what keys do that don't do what is usual, the lines of the table of keys, for how
--- many milliseconds without a byte an incomplete keystroke is waited for, and whether refused keys are silent.
+-- many milliseconds without a byte an incomplete keystroke is waited for, whether refused keys are silent, and whether
+-- there is a file in which screens are saved.
 pub record Settings : Type 0 where
   pub keymap : List Binding
   pub page : List (List ℕ)
   pub escape : ℕ
   pub quiet : Bool
+  pub saves : Bool
 
 -- An operator's seat: the terminal, the keys that were typed ahead, what the status row says of the last key, what is
 -- shown over the screen, what the operator asks of the program, whether the bell must ring,
--- how far a pasted text is, for how many milliseconds no byte was typed and the keyboard has waited, the size of the tty, the colours in which it is
--- drawn, and the picture that it shows, if it is known.
+-- how far a pasted text is, for how many milliseconds no byte was typed and the keyboard has waited, the text of the
+-- screens that must still be saved, the size of the tty, the colours in which it is drawn, and the picture that it shows,
+-- if it is known.
 pub record Seat : Type 0 where
   pub terminal : Terminal
   pub typeahead : List Typed
@@ -70,6 +74,7 @@ pub record Seat : Type 0 where
   pub paste : Paste
   pub idle : ℕ
   pub waited : ℕ
+  pub saved : List ℕ
   pub settings : Settings
   pub size : TtySize
   pub colors : Colors
@@ -93,6 +98,7 @@ first_seat settings model size colors = record {
   paste = paste.Off;
   idle = 0;
   waited = 0;
+  saved = [];
   settings = settings;
   size = size;
   colors = colors;
@@ -155,17 +161,13 @@ after_press key seat =
       asks = asks_after key (phase_of seat.terminal.link) seat.asks;
     })
 
--- keys that are pressed, one after another
-abbrev pub all_pressed : List Key → Seat → Seat
-all_pressed [] seat = seat
-all_pressed (key ∷ keys) seat = all_pressed keys (after_press key seat)
-
--- The keys that erase the character before the cursor, as c3270's `Erase`: Cursor Left and Delete; none at the first
--- character of a field; Delete, which is refused, if the keyboard is locked, or the cursor isn't in an input field.
-abbrev pub erasing : (is_free is_first : Bool) → List Key
-erasing false is_first = key.Delete ∷ []
-erasing true true = []
-erasing true false = key.CursorLeft ∷ key.Delete ∷ []
+-- The seat after the character before the cursor is erased, as by c3270's `Erase`: Cursor Left and Delete are pressed. At
+-- the first character of a field the key does nothing. Delete alone, which is refused, is pressed if the keyboard is
+-- locked, or the cursor isn't in an input field.
+abbrev pub erased : (is_free is_first : Bool) → Seat → Seat
+erased false is_first seat = after_press key.Delete seat
+erased true true seat = record seat { trouble = None }
+erased true false seat = after_press key.Delete (after_press key.CursorLeft seat)
 
 abbrev pub is_unlocked : Lock → Bool
 is_unlocked lock.Free = true
@@ -182,13 +184,10 @@ follows_attribute terminal =
     let count = cells_in terminal.station.screen.size in
     not (is_char_at terminal.station.screen.screen.cells ((terminal.station.screen.screen.cursor + count - 1) % count))
 
-abbrev pub erase_keys : Terminal → List Key
-erase_keys terminal = erasing (can_edit terminal) (follows_attribute terminal)
-
 -- the seat after a key of the 3278 or the action Erase
 abbrev pub after_typed : Typed → Seat → Seat
 after_typed (typed.Key key) seat = after_press key seat
-after_typed typed.Erase seat = all_pressed (erase_keys seat.terminal) seat
+after_typed typed.Erase seat = erased (can_edit seat.terminal) (follows_attribute seat.terminal) seat
 
 -- ---- keys that are typed ahead
 
@@ -266,11 +265,17 @@ after_key_at one seat =
 abbrev pub resized : (rows columns : ℕ) → Seat → Seat
 resized rows columns seat = record seat { size = record { rows = rows; columns = columns }; shown = None }
 
+-- the seat after the key that saves the screen: its rows must be saved, if there is a file; if not, the bell rings
+abbrev pub after_save : Seat → Seat
+after_save seat =
+    if seat.settings.saves then record seat { saved = seat.saved ++ all_lines seat.terminal.station.screen } else rung seat
+
 -- the seat after an action; the bell rings for a key that does nothing
 abbrev pub after_action : Action → Seat → Seat
 after_action (action.Key key) seat = after_key_at (typed.Key key) seat
 after_action action.Erase seat = after_key_at typed.Erase seat
 after_action action.Redraw seat = record seat { shown = None }
+after_action action.Save seat = after_save seat
 after_action action.Status seat = record seat { overlay = over.Status }
 after_action action.Help seat = record seat { overlay = after_help seat.overlay }
 after_action action.Quit seat = record seat { asks = asked.Quit }

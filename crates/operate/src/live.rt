@@ -6,7 +6,7 @@ ghost use Rattle.term_core.specs.State.{phase_of, connected, lost, model_of};
 ghost use Rattle.tty.specs.KeyReading.{read_byte};
 ghost use Rattle.tty.specs.Painting.{notice_of, page_of};
 ghost use Rattle.tty.specs.TtyRoom.{too_small_text};
-ghost use Rattle.operate.specs.Live.{Draws, DrawsIf, Hears, IsOutOfMemory, PausesIf, ReadsTyped, Resumes, Sounds, TakesTurn, Types, after_action, after_help, after_key_at, after_keystroke, after_keystrokes, after_maybe, after_meaning, after_other, after_pasted, after_press, after_stroke, after_time, after_typed, after_typing, all_pressed, all_typed, asks_after, connects, cursor_of, cut_off, cut_trouble, can_edit, erase_keys, first_seat, follows_attribute, has_bytes, held, is_connected, is_enter, is_idle, is_keys, is_pause, is_quit, is_refused, is_reset, is_reset_action, is_status, is_unlocked, is_wait, lack_at, lu_place, page_at, pasted_control, pasted_key, pasting, picture_at, resized, rung, screen_at, seconds_of, status_place, told, trouble_after, waits};
+ghost use Rattle.operate.specs.Live.{Draws, DrawsIf, Hears, IsOutOfMemory, PausesIf, ReadsTyped, Resumes, Sounds, TakesTurn, Types, after_action, after_help, after_key_at, after_keystroke, after_keystrokes, after_maybe, after_meaning, after_other, after_pasted, after_press, after_save, after_stroke, after_time, after_typed, after_typing, all_typed, asks_after, connects, cursor_of, cut_off, cut_trouble, can_edit, erased, first_seat, follows_attribute, has_bytes, held, is_connected, is_enter, is_idle, is_keys, is_pause, is_quit, is_refused, is_reset, is_reset_action, is_status, is_unlocked, is_wait, lack_at, lu_place, page_at, pasted_control, pasted_key, pasting, picture_at, resized, rung, screen_at, seconds_of, status_place, told, trouble_after, waits};
 ghost use Rattle.std.specs.Option.{option_to_list};
 ghost use Rattle.std.specs.Prelude.{Option};
 ghost use Rattle.keyboard.specs.Places.{is_free_at};
@@ -19,7 +19,7 @@ use keyboard::{Key, Lock, Pressed, Refusal};
 use presentation::Screen;
 use std::alloc::{AllocError, Global};
 use std::marker;
-use term_core::{TermPhase, Terminal};
+use term_core::{TermPhase, Terminal, screen_lines};
 use tn3270e_msg::{Lu, Stop};
 use tty::{
     Action, Colors, Drawing, KeyReader, Keymap, Keystroke, Picture, Status, StatusPlace, TooSmall,
@@ -59,6 +59,8 @@ struct Settings {
     escape: u32,
     /// Whether the bell doesn't ring for keys.
     quiet: bool,
+    /// Whether there is a file in which screens are saved.
+    saves: bool,
 }
 
 impl marker::Model for Settings {
@@ -72,6 +74,7 @@ impl marker::Model for Settings {
       page = map (λ line. string_bytes line) settings.page.items;
       escape = settings.escape;
       quiet = settings.quiet;
+      saves = settings.saves;
     } };
 }
 
@@ -88,10 +91,12 @@ impl Settings {
 /// of both, and sends and writes what it returns.
 ///
 /// Contracts see its seat (the terminal, the keys that were typed ahead, what the status row says of the last key, what is
-/// shown over the screen, the operator's request and settings, the size of the tty, and the picture that it shows), the
-/// bytes of an incomplete keystroke, and the capacity of the terminal's output buffer in bytes.
+/// shown over the screen, the operator's request and settings, the screens that must be saved, the size of the tty, and
+/// the picture that it shows), the bytes of an incomplete keystroke, and the capacity of the terminal's output buffer in
+/// bytes.
 #[derive(Drop)]
 pub struct LiveTerminal {
+    alloc: Global,
     terminal: Terminal,
     /// The keys that were typed while the keyboard waits for the host.
     typeahead: Typeahead,
@@ -107,6 +112,8 @@ pub struct LiveTerminal {
     idle: u32,
     /// For how many milliseconds the keyboard has waited.
     waited: u32,
+    /// The text of the screens that must be saved.
+    saved: Vec<u8>,
     settings: Settings,
     size: TtySize,
 }
@@ -127,6 +134,7 @@ impl marker::Model for LiveTerminal {
         paste = live.paste;
         idle = live.idle;
         waited = live.waited;
+        saved = live.saved.items;
         settings = live.settings;
         size = live.size;
         colors = live.drawing.colors;
@@ -375,8 +383,8 @@ fn lu_place(phase: &TermPhase) -> &[u8]
 
 impl LiveTerminal {
     /// A terminal of a model without a connection, at a tty of this size, of which it isn't known what it shows, and
-    /// which is drawn in these colours. Its keys do what is usual, with a bell, and a read without a byte ends an
-    /// incomplete keystroke. An error if memory is refused.
+    /// which is drawn in these colours. Its keys do what is usual, with a bell, no screen is saved, and a read without a
+    /// byte ends an incomplete keystroke. An error if memory is refused.
     pub fn new(
         alloc: Global,
         model: Model,
@@ -387,6 +395,7 @@ impl LiveTerminal {
         ensures keys { IfOk result (λ live. live.seat.settings.keymap ≡ []) }
         ensures escape { IfOk result (λ live. live.seat.settings.escape ≡ 0) }
         ensures bell { IfOk result (λ live. live.seat.settings.quiet ≡ false) }
+        ensures saves { IfOk result (λ live. live.seat.settings.saves ≡ false) }
         ensures kept { IfOk result (λ live. live.kept ≡ []) }
     {
         let keymap = Keymap::standard(alloc);
@@ -396,6 +405,7 @@ impl LiveTerminal {
             page,
             escape: 0,
             quiet: false,
+            saves: false,
         };
         LiveTerminal::with_settings(alloc, model, size, colors, settings)
     }
@@ -412,6 +422,7 @@ impl LiveTerminal {
         ensures kept { IfOk result (λ live. live.kept ≡ []) }
     {
         Ok(LiveTerminal {
+            alloc,
             terminal: Terminal::new(alloc, model)?,
             typeahead: Typeahead::new(),
             reader: KeyReader::new(),
@@ -423,6 +434,7 @@ impl LiveTerminal {
             paste: Paste::Off,
             idle: 0,
             waited: 0,
+            saved: Vec::new(alloc),
             settings,
             size,
         })
@@ -462,6 +474,29 @@ impl LiveTerminal {
         self.settings.quiet = quiet;
     }
 
+    /// Says whether there is a file in which screens are saved.
+    pub fn save_screens(&mut self, saves: bool)
+        ensures seat { self.new.seat
+            ≡ record self.old.seat { settings = record self.old.seat.settings { saves = saves } } }
+        ensures kept { self.new.kept ≡ self.old.kept }
+    {
+        self.settings.saves = saves;
+    }
+
+    /// The text of the screens that must be saved: a line for each row, in UTF-8. A hidden field is blank in it.
+    pub fn saved(&self) -> &[u8]
+        ensures { result.now ≡ self.now.seat.saved }
+    {
+        self.saved.as_slice()
+    }
+
+    /// Drops the text of the screens that must be saved.
+    pub fn drop_saved(&mut self)
+        ensures { self.new ≡ record self.old { seat = record self.old.seat { saved = [] } } }
+    {
+        self.saved.clear();
+    }
+
     /// Takes the time that passed since the last call, in milliseconds.
     pub fn pass(&mut self, millis: u32)
         ensures seat { self.new.seat ≡ after_time millis self.old.seat }
@@ -489,8 +524,8 @@ impl LiveTerminal {
         self.rings
     }
 
-    /// Tells the operator why there is no connection to the host.
-    pub fn fail_to_connect(&mut self, why: Trouble)
+    /// Tells the operator what failed: why there is no connection to the host, or that a screen isn't saved.
+    pub fn fail(&mut self, why: Trouble)
         ensures seat { self.new.seat ≡ told (record self.old.seat { trouble = Option.Some why }) }
         ensures kept { self.new.kept ≡ self.old.kept }
     {
@@ -598,13 +633,15 @@ impl LiveTerminal {
     /// Erases the character before the cursor: presses Cursor Left and Delete. At the first character of a field it does
     /// nothing, and where nothing can be edited Delete is refused.
     fn erase(&mut self) -> Result<(), AllocError>
-        ensures seat { OnOk result (self.new.seat ≡ all_pressed (erase_keys self.old.seat.terminal) self.old.seat) }
+        ensures seat { let terminal = self.old.seat.terminal in
+            OnOk result (self.new.seat ≡ erased (can_edit terminal) (follows_attribute terminal) self.old.seat) }
         ensures kept { OnOk result (self.new.kept ≡ self.old.kept) }
     {
         if !can_edit(&self.terminal) {
             return self.press(Key::Delete);
         }
         if follows_attribute(&self.terminal) {
+            self.trouble = None;
             return Ok(());
         }
         self.press(Key::CursorLeft)?;
@@ -691,6 +728,19 @@ impl LiveTerminal {
         self.drawing.forget();
     }
 
+    /// Adds the rows of the screen to the text that must be saved, if there is a file for it; if not, the bell rings.
+    fn save(&mut self) -> Result<(), AllocError>
+        ensures seat { OnOk result (self.new.seat ≡ after_save self.old.seat) }
+        ensures kept { OnOk result (self.new.kept ≡ self.old.kept) }
+    {
+        if !self.settings.saves {
+            self.ring();
+            return Ok(());
+        }
+        let text = screen_lines(self.alloc, self.terminal.screen())?;
+        self.saved.extend_from_slice(text.as_bytes())
+    }
+
     /// Performs an action. The bell rings for a key that does nothing.
     fn perform(&mut self, action: Action) -> Result<(), AllocError>
         ensures seat { OnOk result (self.new.seat ≡ after_action action self.old.seat) }
@@ -700,6 +750,7 @@ impl LiveTerminal {
             Action::Key(key) => return self.take_key(Typed::Key(key)),
             Action::Erase => return self.take_key(Typed::Erase),
             Action::Redraw => self.drawing.forget(),
+            Action::Save => return self.save(),
             Action::Status => self.overlay = Overlay::Status,
             Action::Help => self.overlay = after_help(self.overlay),
             Action::Quit => self.asked = OperatorRequest::Quit,

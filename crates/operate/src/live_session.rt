@@ -1,7 +1,7 @@
 //! `operate`: a terminal at a host, for an operator at a tty.
-ghost use Rattle.std.specs.Prelude.{◌≡◌, ◌≤◌, ◌||◌, IfErr, IfOk, OnOk, length, take};
+ghost use Rattle.std.specs.Prelude.{◌≡◌, ◌≤◌, ◌||◌, [], IfErr, IfOk, OnOk, length, take};
 ghost use Rattle.term_core.specs.State.{is_bound, phase_of};
-ghost use Rattle.jobs.specs.Counting.{CutShort, chunk_size};
+ghost use Rattle.jobs.specs.Counting.{CutShort, Writes, chunk_size};
 ghost use Rattle.operate.specs.LiveSessions.{AfterRead, BreaksTurnOver, BreaksTurnTyped, FailsToHear, FailsToReadKeys, FailsToTake, Loses, ReadsHost, ReadsKeys, Rests, SendsOver, TakesBytes, TakesInput, TakesTurnOver, TakesTurnTyped, Works, WritesTty, got_count, is_quiet, loss_result, phase_result, read_result};
 ghost use Rattle.host_core.specs.Serves.{GotWithin, bytes_got};
 ghost use Rattle.jobs.specs.Sockets.{Gives};
@@ -11,14 +11,16 @@ use codes3270::Model;
 use host_core::{LinkRead, LinkWrite};
 use jobs::{
     Answer, CHUNK, Fault, LiveFault, OperateOptions, RawRead, RawWrite, Sink, SocketSlot, Source,
-    TtySize, poll_timeout, read_chunk, report_and_exit_code,
+    TtySize, WriteFailed, poll_timeout, read_chunk, report_and_exit_code,
 };
 use mio::net::TcpStream;
+use mio::unix::SourceFd;
 use mio::{Events, Interest, Poll, Token};
 use std::alloc::Global;
 use std::io::ErrorKind;
 use std::marker;
 use std::net::{Net, SocketAddr};
+use std::os::fd::RawFd;
 use std::time::{Clock, Instant};
 use term_core::TermPhase;
 use tn3270e_msg::Lu;
@@ -26,6 +28,15 @@ use tty::{Colors, Keymap, Trouble, check_room};
 
 /// The most events of one poll. A socket without an event is also read.
 const MOST_EVENTS: usize = 8;
+
+/// The poll token of the connection.
+const CONNECTION: Token = Token(0);
+
+/// The poll token of the tty.
+const KEYS: Token = Token(1);
+
+/// The descriptor of the tty from which keys are read: standard input.
+const TTY: RawFd = 0;
 
 /// A live terminal with its connection of type `S`, if there is one, the source of its keys, and its tty.
 #[derive(Drop)]
@@ -133,10 +144,28 @@ impl<S: RawRead + RawWrite + Drop, K: Drop, T: Drop> OperatorSession<S, K, T> {
         self.stale |= after != before && (after > 1 || before > 1);
     }
 
-    /// Tells the operator why there is no connection to the host.
-    pub fn fail_to_connect(&mut self, why: Trouble) {
-        self.live.fail_to_connect(why);
+    /// Says that there is a file in which screens are saved (see [`save`](OperatorSession::save)).
+    pub fn save_screens(&mut self) {
+        self.live.save_screens(true);
+    }
+
+    /// Tells the operator what failed: why there is no connection to the host, or that a screen isn't saved.
+    pub fn fail(&mut self, why: Trouble) {
+        self.live.fail(why);
         self.stale = true;
+    }
+
+    /// Writes the screens that the operator saved since the last call to a file: a line for each row, in UTF-8, and of a
+    /// hidden field blanks.
+    pub fn save<F: Sink>(&mut self, file: &mut F) -> Result<(), WriteFailed>
+        ensures writes { Writes result (F.seen file.old) (F.seen file.new) self.old.live.seat.saved }
+        ensures dropped { self.new ≡ record self.old {
+          live = record self.old.live { seat = record self.old.live.seat { saved = [] } };
+        } }
+    {
+        let written = file.write_all(self.live.saved());
+        self.live.drop_saved();
+        written
     }
 
     /// Begins a connection, if there is none. The terminal requests this LU, if one is given. NoMemory if memory is
@@ -402,6 +431,10 @@ impl Dialer {
         let Ok(poll) = Poll::new(net) else {
             return Err(Fault::SocketFailed);
         };
+        // If the system can't wait for it, as for a file, a key is read within 10 milliseconds.
+        let _ = poll
+            .registry()
+            .register(&mut SourceFd(&TTY), KEYS, Interest::READABLE);
         Ok(Dialer {
             address: SocketAddr::new(options.host, options.port.get()),
             wanted: options.lu,
@@ -431,7 +464,7 @@ impl Dialer {
         let _ = self
             .poll
             .registry()
-            .register(&mut socket, Token(0), interest);
+            .register(&mut socket, CONNECTION, interest);
         self.dialed = Some(socket);
         Ok(())
     }
@@ -443,7 +476,7 @@ impl Dialer {
         kind: ErrorKind,
     ) -> Result<(), Fault> {
         if self.was_taken {
-            session.fail_to_connect(trouble_of(kind));
+            session.fail(trouble_of(kind));
             Ok(())
         } else {
             Err(Fault::Live(LiveFault::CannotConnect(self.address, kind)))
@@ -471,7 +504,7 @@ impl Dialer {
         }
     }
 
-    /// Waits for the connection at most 10 milliseconds, or not at all if bytes moved in the turn before (`moved`).
+    /// Waits for the connection or a key at most 10 milliseconds, or not at all if bytes moved in the turn before (`moved`).
     fn wait(&mut self, moved: bool) -> Result<(), Fault> {
         match self.poll.poll(&mut self.events, Some(poll_timeout(moved))) {
             Err(error) if error.kind() != ErrorKind::Interrupted => Err(Fault::SocketFailed),
@@ -481,12 +514,25 @@ impl Dialer {
     }
 }
 
+/// Saves the screens that the operator saved in a turn, if there is a file for them. If that fails, the operator is told.
+fn save_screens<K: Drop, T: Drop, F: Sink>(
+    session: &mut OperatorSession<TcpStream, K, T>,
+    file: &mut Option<F>,
+) {
+    if let Some(file) = file {
+        if session.save(file).is_err() {
+            session.fail(Trouble::NotSaved);
+        }
+    }
+}
+
 /// Connects a session, and takes turns until the operator ends the program.
-fn take_turns<N: Net + Clock, K: Source + Drop, T: Sink + Drop>(
+fn take_turns<N: Net + Clock, K: Source + Drop, T: Sink + Drop, F: Sink>(
     net: &N,
     alloc: Global,
     dialer: &mut Dialer,
     session: &mut OperatorSession<TcpStream, K, T>,
+    saves: &mut Option<F>,
 ) -> Result<(), Fault> {
     dialer.redial(net, session)?;
     let mut moved = true;
@@ -499,6 +545,7 @@ fn take_turns<N: Net + Clock, K: Source + Drop, T: Sink + Drop>(
         dialer.hand_over(session)?;
         dialer.wait(moved)?;
         moved = session.turn(alloc)?;
+        save_screens(session, saves);
         match session.take_asked() {
             OperatorRequest::Nothing => {}
             OperatorRequest::Quit => return Ok(()),
@@ -520,11 +567,12 @@ fn tty_size(model: Model, tty: Option<TtySize>) -> Result<TtySize, Fault> {
 }
 
 /// Runs a live terminal.
-fn operate<N: Net + Clock, K: Source + Drop, T: Sink + Drop>(
+fn operate<N: Net + Clock, K: Source + Drop, T: Sink + Drop, F: Sink>(
     net: &N,
     alloc: Global,
     options: &OperateOptions<'_>,
     keymap: Keymap,
+    saves: &mut Option<F>,
     keys: K,
     tty: T,
 ) -> Result<(), Fault> {
@@ -532,28 +580,34 @@ fn operate<N: Net + Clock, K: Source + Drop, T: Sink + Drop>(
     let mut dialer = Dialer::new(net, alloc, options)?;
     let mut session = OperatorSession::new(alloc, options.model, size, options.colors, keys, tty)?;
     session.set_up(alloc, keymap, options.escape.get(), options.quiet_keys)?;
-    take_turns(net, alloc, &mut dialer, &mut session)
+    if saves.is_some() {
+        session.save_screens();
+    }
+    take_turns(net, alloc, &mut dialer, &mut session, saves)
 }
 
 /// Runs a terminal at the host of the options, until the operator ends it. The operator's keys, which do what the keymap
-/// says, are read from a tty in raw mode, and the screen is written there. A read of the keys must return at once, as with `stty min 0
-/// time 0`. Without a connection, Enter connects again. A turn with nothing to do takes at most 10 milliseconds. A
-/// fault that ends the run is written to `faults` as one line.
+/// says, are read from a tty in raw mode, and the screen is written there. A read of the keys must return at once, as with
+/// `stty min 0 time 0`. Without a connection, Enter connects again. A turn with nothing to do takes at most 10
+/// milliseconds, and ends when a key is pressed at the tty of standard input. The key that saves the screen appends its
+/// rows to the file `saves`, if there is one; if that fails, the operator is told. A fault that ends the run is written
+/// to `faults` as one line.
 ///
 /// Returns the exit status: 0 if the operator ended it; 1 if the keys can't be read; 2 if there is no known tty in raw
 /// mode, or if it is too small; 3 if memory is refused; 4 if connecting fails, if the host rejects the request for an
 /// LU or ends the connection before the terminal was bound to one, or if the terminal closes the connection because the
 /// host breaks the protocol; 6 if the output fails.
-pub fn run_operate<N: Net + Clock, K: Source + Drop, T: Sink + Drop, E: Sink>(
+pub fn run_operate<N: Net + Clock, K: Source + Drop, T: Sink + Drop, F: Sink, E: Sink>(
     net: &N,
     alloc: Global,
     options: &OperateOptions<'_>,
     keymap: Keymap,
+    saves: &mut Option<F>,
     keys: K,
     tty: T,
     faults: &mut E,
 ) -> u8 {
-    match operate(net, alloc, options, keymap, keys, tty) {
+    match operate(net, alloc, options, keymap, saves, keys, tty) {
         Ok(()) => 0,
         Err(fault) => report_and_exit_code(fault, faults),
     }

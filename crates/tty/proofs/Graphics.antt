@@ -10,7 +10,7 @@ use Rattle.codes3270.specs.CodePage.{characters, character_of}
 use Rattle.codes3270.specs.declared.attribute.Cell.{Cell}
 use Rattle.codes3270.specs.declared.attribute.Cell.TheVariants.{Char, Attr}
 use Rattle.datastream.specs.Screen.{attribute_over}
-use Rattle.presentation.specs.Glyph.{blank, glyph_of, is_hidden}
+use Rattle.presentation.specs.Glyph.{blank, glyph_at, glyph_of, is_hidden}
 use Rattle.tty.specs.declared.status.Trouble.{Trouble}
 use Rattle.keyboard.specs.State.{Keyboard}
 use Rattle.tty.specs.declared.place.Place.{Place}
@@ -51,9 +51,14 @@ shown_by true cell = refl
 shown_by false (Char code) = code_by (code == 0x1C) (code == 0x1E) code
 shown_by false (Attr attribute) = refl
 
+drawn_by : (is_soft : Bool) (glyph : ℕ) → is_graphic glyph ≡ true → is_graphic (if is_soft then 0x2D else glyph) ≡ true
+drawn_by true glyph is = refl
+drawn_by false glyph is = is
+
 screen_graphic : (cells : List Cell) → list_all has_graphic (screen_cells cells) ≡ true
 screen_graphic cells =
-    all_mapped (painted_at cells) 0 (length cells) (λ at. shown_by (is_hidden (attribute_over cells at)) (get_or cells at (Char 0)))
+    all_mapped (painted_at cells) 0 (length cells) (λ at. drawn_by (glyph_at cells at == 0xAD) (glyph_at cells at)
+    (shown_by (is_hidden (attribute_over cells at)) (get_or cells at (Char 0))))
 
 -- ---- the status row
 

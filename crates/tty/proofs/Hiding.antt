@@ -11,11 +11,14 @@ use Rattle.presentation.specs.Glyph.{blank, glyph_of, glyph_at, is_hidden}
 use Rattle.tty.specs.declared.look.Look.{Look}
 use Rattle.tty.specs.declared.picture.PictureCell.{PictureCell}
 use Rattle.tty.specs.Looks.{look_of}
-use Rattle.tty.specs.Painting.{painted_at}
+use Rattle.tty.specs.Painting.{drawn_as, painted_at}
 use Rattle.tty.specs.DrawingLaws.{AreBlank, DifferInHidden, AreUntold}
 
+hidden_glyph : (cells : List Cell) (at : ℕ) → is_hidden (attribute_over cells at) ≡ true → glyph_at cells at ≡ blank
+hidden_glyph cells at hidden = ap (λ (hides : Bool). if hides then blank else glyph_of (get_or cells at (Char 0))) hidden
+
 pub hidden_blank : AreBlank
-hidden_blank cells at hidden = ap (λ (hides : Bool). if hides then blank else glyph_of (get_or cells at (Char 0))) hidden
+hidden_blank cells at hidden = ap drawn_as (hidden_glyph cells at hidden)
 
 last_of : List (Option Attribute) → Option Attribute
 last_of [] = None
@@ -60,7 +63,7 @@ painted_with glyph look = record { glyph = glyph; look = look }
 same_glyph : (hidden : Bool) (one other : List Cell) (at : ℕ) → is_hidden (attribute_over one at) ≡ hidden → DifferInHidden one other
     → glyph_at one at ≡ glyph_at other at
 same_glyph true one other at hides differ =
-    hidden_blank one at hides ∙ sym (hidden_blank other at (ap is_hidden (sym (same_over one other at differ.attributes)) ∙ hides))
+    hidden_glyph one at hides ∙ sym (hidden_glyph other at (ap is_hidden (sym (same_over one other at differ.attributes)) ∙ hides))
 same_glyph false one other at hides differ =
     ap (λ (over : Option Attribute). if is_hidden over then blank else glyph_of (get_or one at (Char 0))) (same_over one other at differ.attributes)
     ∙ ap (λ (cell : Cell). if is_hidden (attribute_over other at) then blank else glyph_of cell) (differ.shown at hides)
@@ -71,9 +74,9 @@ same_painted one other at differ =
     let over = same_over one other at differ.attributes in
     let inside : attribute_in (get_or one at (Char 0)) ≡ attribute_in (get_or other at (Char 0)) =
     sym (got_mapped one at) ∙ ap (λ (all : List (Option Attribute)). get_or all at None) differ.attributes ∙ got_mapped other at in
-    ap (λ (glyph : ℕ). painted_with glyph (look_of (get_or one at (Char 0)) (attribute_over one at))) (same_glyph (is_hidden (attribute_over one at)) one other at refl differ)
-    ∙ ap (λ (above : Option Attribute). painted_with (glyph_at other at) (look_of (get_or one at (Char 0)) above)) over
-    ∙ ap (painted_with (glyph_at other at)) (same_look_of (get_or one at (Char 0)) (get_or other at (Char 0)) (attribute_over other at) inside)
+    ap (λ (glyph : ℕ). painted_with (drawn_as glyph) (look_of (get_or one at (Char 0)) (attribute_over one at))) (same_glyph (is_hidden (attribute_over one at)) one other at refl differ)
+    ∙ ap (λ (above : Option Attribute). painted_with (drawn_as (glyph_at other at)) (look_of (get_or one at (Char 0)) above)) over
+    ∙ ap (painted_with (drawn_as (glyph_at other at))) (same_look_of (get_or one at (Char 0)) (get_or other at (Char 0)) (attribute_over other at) inside)
 
 same_mapped : (f g : ℕ → PictureCell) (from count : ℕ) → ((at : ℕ) → f at ≡ g at) → map f (range_with_len from count) ≡ map g (range_with_len from count)
 same_mapped f g from zero same = refl

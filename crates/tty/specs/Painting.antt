@@ -1,5 +1,5 @@
 -- The picture of a screen, a keyboard and a status (our profile).
-use Rattle.std.specs.Prelude.{ℕ, ◌+◌, ◌-◌, ◌*◌, ◌/◌, ◌%◌, Bool, List, [], ◌++◌, map, length, max, min, take, Option, get_or, slice_index_or}
+use Rattle.std.specs.Prelude.{ℕ, ◌+◌, ◌-◌, ◌*◌, ◌/◌, ◌%◌, ◌==◌, if◌then◌else◌, Bool, List, [], ◌++◌, map, length, max, min, take, Option, get_or, slice_index_or}
 use Rattle.std.specs.List.{flat_map, range_with_len}
 use Rattle.codes3270.specs.declared.attribute.Cell.{Cell}
 use Rattle.codes3270.specs.declared.attribute.Cell.TheVariants.{Char}
@@ -16,10 +16,14 @@ use Rattle.tty.specs.declared.status.StatusPlace.{StatusPlace}
 use Rattle.tty.specs.declared.status.StatusPlace.TheVariants as status
 use Rattle.tty.specs.declared.status.Trouble.{Trouble}
 
--- the picture's cell for an address: the character that is printed for it, in a hidden field a blank, and its look
+-- the character that is drawn for one: a hyphen for the soft hyphen, to which browsers and some terminals give no width
+abbrev pub drawn_as : ℕ → ℕ
+drawn_as glyph = if glyph == 0xAD then 0x2D else glyph
+
+-- the picture's cell for an address: the character that is drawn for it, in a hidden field a blank, and its look
 abbrev pub painted_at : List Cell → ℕ → PictureCell
 painted_at cells at = record {
-  glyph = glyph_at cells at;
+  glyph = drawn_as (glyph_at cells at);
   look = look_of (slice_index_or cells at (Char 0)) (attribute_over cells at);
 }
 

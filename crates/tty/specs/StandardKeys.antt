@@ -7,7 +7,7 @@ use Rattle.std.specs.Int.{is_in_range}
 use Rattle.std.specs.List.{position}
 use Rattle.keyboard.specs.declared.key.Key.TheVariants.{Tab, BackTab, NewLine, Home, CursorUp, CursorDown, CursorLeft, CursorRight, Backspace, Insert, Delete, EraseEof, EraseInput, Reset, Enter, Pf, Pa, Clear}
 use Rattle.tty.specs.declared.action.Action.{Action}
-use Rattle.tty.specs.declared.action.Action.TheVariants.{Key, Erase, Redraw, Status, Help, Quit, Nothing}
+use Rattle.tty.specs.declared.action.Action.TheVariants.{Key, Erase, Redraw, Save, Status, Help, Quit, Nothing}
 use Rattle.tty.specs.declared.keystroke.Keystroke.{Keystroke}
 use Rattle.tty.specs.declared.keystroke.Keystroke.TheVariants.{Control, Alt, Named}
 
@@ -27,6 +27,7 @@ of_control byte =
     else if byte == 0x0A then Key NewLine  -- LF, Ctrl-J
     else if byte == 0x0C then Redraw  -- Ctrl-L
     else if byte == 0x0D then Key Enter  -- CR
+    else if byte == 0x10 then Save  -- Ctrl-P
     else if byte == 0x12 then Key Reset  -- Ctrl-R
     else if byte == 0x14 then Status  -- Ctrl-T
     else if byte == 0x15 then Key EraseInput  -- Ctrl-U

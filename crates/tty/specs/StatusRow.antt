@@ -10,7 +10,7 @@ use Rattle.keyboard.specs.declared.key.Refusal.TheVariants.{Locked, NoCode, Prot
 use Rattle.keyboard.specs.State.{Keyboard}
 use Rattle.tty.specs.declared.place.Place.{Place}
 use Rattle.tty.specs.declared.status.Trouble.{Trouble}
-use Rattle.tty.specs.declared.status.Trouble.TheVariants.{Refused, PasteCut, HostRefuses, NoAnswer, Unreachable}
+use Rattle.tty.specs.declared.status.Trouble.TheVariants.{Refused, PasteCut, NotSaved, HostRefuses, NoAnswer, Unreachable}
 use Rattle.tty.specs.declared.picture.PictureCell.{PictureCell}
 use Rattle.tty.specs.Pictures.{plain}
 
@@ -30,12 +30,14 @@ refusal_reason NoCode = codes "X NO CODE"
 abbrev pub error_reason : Option Trouble → List ℕ
 error_reason (Some (Refused refusal)) = refusal_reason refusal
 error_reason (Some PasteCut) = codes "X PASTE CUT"
+error_reason (Some NotSaved) = codes "X NOT SAVED"
 error_reason _ = codes "X"
 
 -- the reason that is shown while the lock is free: of refusals only NoCode leaves it free
 abbrev pub free_reason : Option Trouble → List ℕ
 free_reason (Some (Refused NoCode)) = codes "X NO CODE"
 free_reason (Some PasteCut) = codes "X PASTE CUT"
+free_reason (Some NotSaved) = codes "X NOT SAVED"
 free_reason _ = []
 
 -- the reason that is shown while the keyboard waits for the host

@@ -11,6 +11,8 @@ pub enum Action {
     Erase,
     /// Draws the whole screen again.
     Redraw,
+    /// Saves the screen, if there is a file for it.
+    Save,
     /// Shows the status row, if the tty has no row for it.
     Status,
     /// Shows the table of keys.

@@ -5,7 +5,7 @@ use keyboard::Key;
 use std::fmt;
 
 /// The actions that have no number, with their names.
-pub(crate) const PLAIN: [(&str, Action); 22] = [
+pub(crate) const PLAIN: [(&str, Action); 23] = [
     ("Enter", Action::Key(Key::Enter)),
     ("Clear", Action::Key(Key::Clear)),
     ("Reset", Action::Key(Key::Reset)),
@@ -14,6 +14,7 @@ pub(crate) const PLAIN: [(&str, Action); 22] = [
     ("Status", Action::Status),
     ("Redraw", Action::Redraw),
     ("Quit", Action::Quit),
+    ("PrintText", Action::Save),
     ("Tab", Action::Key(Key::Tab)),
     ("BackTab", Action::Key(Key::BackTab)),
     ("Home", Action::Key(Key::Home)),

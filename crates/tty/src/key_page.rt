@@ -98,8 +98,8 @@ pub(crate) fn lines_of(keymap: &Keymap, alloc: Global) -> Result<Vec<String>, Al
         lines.push(line_of_three(keymap, alloc, pf(row + 1), pf(row + 13), beside(row))?)?;
     }
     lines.push(String::new(alloc))?;
-    for row in 0..6 {
-        lines.push(line_of_two(keymap, alloc, plain(row + 15), plain(row + 9))?)?;
+    for row in 0..7 {
+        lines.push(line_of_two(keymap, alloc, plain(row + 16), plain(row + 9))?)?;
     }
     lines.push(format!(in alloc; " The next key shows the screen again.")?)?;
     Ok(lines)

@@ -1,10 +1,10 @@
 //! Keymaps: what an operator's keys do.
-ghost use Rattle.std.specs.Prelude.{◌≡◌, ◌<◌, ◌==◌, [], IfSome, length, position};
+ghost use Rattle.std.specs.Prelude.{◌≡◌, ◌<◌, ◌==◌, [], IfSome, is_some, length, position};
 ghost use Rattle.tty.specs.Keymaps.{action_of, key_number};
 
 use crate::action::Action;
 use crate::action_names::action_named;
-use crate::key_names::keystroke_named;
+use crate::key_names::{KEY_COUNT, key_at, keystroke_named, name_at};
 use crate::key_page::lines_of;
 use crate::keystroke::Keystroke;
 use crate::standard_keys::standard;
@@ -115,6 +115,26 @@ impl Keymap {
     /// the keys that have it.
     pub fn page(&self, alloc: Global) -> Result<Vec<String>, AllocError> {
         lines_of(self, alloc)
+    }
+
+    /// The keys that the text of this keymap names, and what they do: ` KEY=ACTION` for each.
+    pub fn words(&self, alloc: Global) -> Result<String, AllocError> {
+        let mut words = String::new(alloc);
+        for index in 0..KEY_COUNT {
+            let (keystroke, name) = (key_at(index), name_at(alloc, index)?);
+            if !name.is_empty() && self.names(keystroke) {
+                let action = self.action_of(keystroke);
+                words.push_str(&format!(in alloc; " {name}={action}")?)?;
+            }
+        }
+        Ok(words)
+    }
+
+    /// Whether the text of this keymap names a key.
+    fn names(&self, keystroke: Keystroke) -> bool
+        ensures { result ≡ is_some (position (λ binding. binding.key == key_number keystroke) self.now) }
+    {
+        place_of(&self.bindings, key_number(keystroke)).is_some()
     }
 
     /// Takes a line that isn't empty.

@@ -3,7 +3,7 @@ ghost use Rattle.std.specs.Prelude.{◌≡◌, ◌<◌, ◌≤◌, ◌+◌, ◌-
 ghost use Rattle.codes3270.specs.Size.{cells_in};
 ghost use Rattle.tty.specs.Pictures.{IsSized, erased_cell, same_cell, plain};
 ghost use Rattle.tty.specs.Changes.{same_size};
-ghost use Rattle.tty.specs.Painting.{notice_of, notice_side, page_cells, page_of, picture_of, painted_at, place_of, screen_cells, status_rows, with_status};
+ghost use Rattle.tty.specs.Painting.{drawn_as, notice_of, notice_side, page_cells, page_of, picture_of, painted_at, place_of, screen_cells, status_rows, with_status};
 ghost use Rattle.tty.specs.StatusRow.{in_columns, letter_at, three_digits, position_text, status_cells};
 
 use crate::look::{Look, look_of};
@@ -93,13 +93,21 @@ fn address(index: u16, size: Size) -> Addr
     Addr::new(index, size).unwrap_or(Addr::first())
 }
 
+/// The character that is drawn for one: `-` for the soft hyphen, U+00AD, to which browsers and some terminals give no
+/// width.
+fn drawn_as(glyph: char) -> char
+    ensures { result ≡ drawn_as glyph }
+{
+    if glyph == '\u{AD}' { '-' } else { glyph }
+}
+
 /// The cell of a picture for the screen's cell at an address.
 fn painted_at(screen: &Screen, at: Addr) -> PictureCell
     requires { at < cells_in screen.now.size }
     ensures { result ≡ painted_at screen.now.screen.cells at }
 {
     PictureCell {
-        glyph: screen.glyph_at(at),
+        glyph: drawn_as(screen.glyph_at(at)),
         look: look_of(screen.cell(at), screen.attribute_over(at)),
     }
 }

@@ -39,6 +39,7 @@ fn of_control(byte: u8) -> Action
         0x0A => Action::Key(Key::NewLine),
         0x0C => Action::Redraw,
         0x0D => Action::Key(Key::Enter),
+        0x10 => Action::Save,
         0x12 => Action::Key(Key::Reset),
         0x14 => Action::Status,
         0x15 => Action::Key(Key::EraseInput),

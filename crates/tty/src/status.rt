@@ -22,6 +22,8 @@ pub enum Trouble {
     Refused(Refusal),
     /// The rest of a pasted text had no room.
     PasteCut,
+    /// A screen couldn't be saved.
+    NotSaved,
     /// The host refuses a connection.
     HostRefuses,
     /// The host doesn't answer.
@@ -81,6 +83,7 @@ fn error_reason(trouble: Option<Trouble>) -> &'static [u8]
     match trouble {
         Some(Trouble::Refused(refusal)) => refusal_reason(refusal),
         Some(Trouble::PasteCut) => b"X PASTE CUT",
+        Some(Trouble::NotSaved) => b"X NOT SAVED",
         Some(Trouble::HostRefuses | Trouble::NoAnswer | Trouble::Unreachable) | None => b"X",
     }
 }
@@ -92,6 +95,7 @@ fn free_reason(trouble: Option<Trouble>) -> &'static [u8]
     match trouble {
         Some(Trouble::Refused(Refusal::NoCode)) => b"X NO CODE",
         Some(Trouble::PasteCut) => b"X PASTE CUT",
+        Some(Trouble::NotSaved) => b"X NOT SAVED",
         _ => b"",
     }
 }
