@@ -298,10 +298,10 @@ turns_are_moves gave took number up down queues old links answer new left serves
 -- ---- many turns
 
 module _ {L : Type 0} (gave : L → ℕ → ℕ → List ℕ → LinkRead → L → Type 0) (took : L → ℕ → List ℕ → LinkWrite → L → Type 0) (every : EveryTerminalOverBytes)
-    (number : ℕ) (lu : List ℕ) (up down : L → List ℕ) (queues : AreQueues gave took number up down) (old : ServedState gave took) (sound : AreSound old.host.panels)
-    (begins : BeginsOverBytes (application_of old.host.panels) number lu (over_served gave took up down old)) where
+    (number : ℕ) (lu : List ℕ) (up down : L → List ℕ) (queues : AreQueues gave took number up down) (begin : OverBytes) (sound : AreSound begin.host.panels)
+    (begins : BeginsOverBytes (application_of begin.host.panels) number lu begin) where
   abbrev app : Application
-  app = application_of old.host.panels
+  app = application_of begin.host.panels
 
   abbrev over : ServedState gave took → OverBytes
   over at = over_served gave took up down at
@@ -309,10 +309,10 @@ module _ {L : Type 0} (gave : L → ℕ → ℕ → List ℕ → LinkRead → L 
   -- what has led so far
   record Led (now : ServedState gave took) : Type 0 where
     states : List OverBytes
-    lead : LeadTo app number states (over old) (over now)
+    lead : LeadTo app number states begin (over now)
 
   same_app : (now : ServedState gave took) → Led now → application_of now.host.panels ≡ app
-  same_app now led = ap application_of (lead_panels app number led.states (over old) (over now) led.lead)
+  same_app now led = ap application_of (lead_panels app number led.states begin (over now) led.lead)
 
   one_turn : (now next : ServedState gave took) (answer : Served) → Led now → (answer ≢ served.Memory) → Serves gave took number now.host now.links answer next.host next.links
       → next.tracked ≡ now.tracked → next.waits ≡ now.waits → Led next
@@ -320,19 +320,19 @@ module _ {L : Type 0} (gave : L → ℕ → ℕ → List ℕ → LinkRead → L 
       let turn = turn_is_moves gave took number up down queues now.tracked now.waits now.host now.links answer next.host next.links serves in
       let unread : OverBytes = record (over_queues gave took up down next.host next.links now.tracked now.waits) { up = turn.unread ++ up next.links } in
       let more : LeadTo app number turn.states (over now) unread = subst (λ (a : Application). LeadTo a number turn.states (over now) unread) (same_app now led) turn.lead in
-      let lead = lead_on app number led.states turn.states (over old) (over now) unread led.lead more in
-      let here = (every number lu (over old) unread (led.states ++ turn.states) sound begins lead).represents.is_open in
+      let lead = lead_on app number led.states turn.states begin (over now) unread led.lead more in
+      let here = (every number lu begin unread (led.states ++ turn.states) sound begins lead).represents.is_open in
       let is_next : unread ≡ over next =
       ap (λ (bytes : List ℕ). record unread { up = bytes ++ up next.links }) (turn.all_read here able)
       ∙ ap (λ (t : TrackedTerminal). over_queues gave took up down next.host next.links t now.waits) (sym tracked)
       ∙ ap (λ (w : Bool). over_queues gave took up down next.host next.links next.tracked w) (sym waits) in
-      record { states = led.states ++ turn.states; lead = subst (λ (b : OverBytes). LeadTo app number (led.states ++ turn.states) (over old) b) is_next lead }
+      record { states = led.states ++ turn.states; lead = subst (λ (b : OverBytes). LeadTo app number (led.states ++ turn.states) begin b) is_next lead }
 
   one_happens : (now next : ServedState gave took) → Led now → Happens gave took number up down now next → Led next
   one_happens now next led (Happens.turns answer able serves tracked waits) = one_turn now next answer led able serves tracked waits
   one_happens now next led (Happens.moves move) = record {
     states = led.states ++ over next ∷ [];
-    lead = lead_on app number led.states (over next ∷ []) (over old) (over now) (over next) led.lead
+    lead = lead_on app number led.states (over next ∷ []) begin (over now) (over next) led.lead
         (subst (λ (a : Application). Moves a number (over now) (over next)) (same_app now led) move, refl);
   }
 
@@ -340,10 +340,12 @@ module _ {L : Type 0} (gave : L → ℕ → ℕ → List ℕ → LinkRead → L 
   all_happen [] now new led same = subst Led (sym same) led
   all_happen (next ∷ places) now new led on = all_happen places next new (one_happens now next led on.0) on.1
 
-  led_to : (places : List (ServedState gave took)) (new : ServedState gave took) → Happen gave took number up down places old new → IsAfterMoves number lu begins.begin (over old) (over new)
-  led_to places new on =
-      let led = all_happen places old new (record { states = []; lead = refl }) on in
-      record { states = led.states; lead = led.lead; right = every number lu (over old) (over new) led.states sound begins led.lead }
+  led_to : (before : List OverBytes) (old : ServedState gave took) → LeadTo app number before begin (over old) → (places : List (ServedState gave took)) (new : ServedState gave took)
+      → Happen gave took number up down places old new → IsAfterMoves number lu begins.begin begin (over new)
+  led_to before old lead places new on =
+      let led = all_happen places old new (record { states = before; lead = lead }) on in
+      record { states = led.states; lead = led.lead; right = every number lu begin (over new) led.states sound begins led.lead }
 
 pub every_terminal_served : {L : Type 0} (gave : L → ℕ → ℕ → List ℕ → LinkRead → L → Type 0) (took : L → ℕ → List ℕ → LinkWrite → L → Type 0) → EveryTerminalOverBytes → EveryTerminalServed gave took
-every_terminal_served gave took every number lu up down queues old new places sound begins on = led_to gave took every number lu up down queues old sound begins places new on
+every_terminal_served gave took every number lu up down queues begin old new before places sound begins lead on =
+    led_to gave took every number lu up down queues begin sound begins before old lead places new on

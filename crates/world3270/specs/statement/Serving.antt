@@ -83,10 +83,12 @@ module _ {L : Type 0} (gave : L → ℕ → ℕ → List ℕ → LinkRead → L 
   Happen number up down [] old new = new ≡ old
   Happen number up down (next ∷ others) old new = Happens number up down old next × Happen number up down others next new
 
-  -- From each begin of `EveryTerminalOverBytes`, after any turns of serving and any moves.
+  -- From each begin of `EveryTerminalOverBytes`, after any moves, and then any turns of serving and any moves. (The begin
+  -- lies within the turn in which the host agrees; the rest of that turn is moves.)
   abbrev pub EveryTerminalServed : Type 0
   EveryTerminalServed = (number : ℕ) (lu : List ℕ) (up down : L → List ℕ) → AreQueues number up down
-      → (old new : ServedState) (states : List ServedState) → AreSound old.host.panels
-      → (begins : BeginsOverBytes (application_of old.host.panels) number lu (over_served up down old))
-      → Happen number up down states old new
-      → IsAfterMoves number lu begins.begin (over_served up down old) (over_served up down new)
+      → (begin : OverBytes) (old new : ServedState) (before : List OverBytes) (states : List ServedState)
+      → let app = application_of begin.host.panels in
+      AreSound begin.host.panels → (begins : BeginsOverBytes app number lu begin)
+      → LeadTo app number before begin (over_served up down old) → Happen number up down states old new
+      → IsAfterMoves number lu begins.begin begin (over_served up down new)
