@@ -545,6 +545,7 @@ module _ (given : LowerLaws) (app : Application) (is : IsApplication app) (lu : 
     unreturned = r.kept.unreturned;
     as_left = r.kept.as_left;
     exact = record { known = given.belief.nothing_exact.0; protected = given.belief.nothing_exact.1 };
+    unrestored = r.kept.unrestored;
     wanted = r.kept.wanted;
     moment = LinkPhase.InSession r.session (SessionPhase.Painting refuser.next_seq (paint (cells_in wants.size) Shadow.NothingKnown wants) wants Shadow.NothingKnown);
     sizes = record {
