@@ -74,8 +74,8 @@ def frame(opcode, payload=b"", final=True, mask=b"\x37\xfa\x21\x3d"):
 class Page:
     """A page's WebSocket, after the handshake."""
 
-    def __init__(self, port, **fields):
-        self.socket = socket.create_connection((LOCALHOST, port), PATIENCE)
+    def __init__(self, port, source=LOCALHOST, **fields):
+        self.socket = socket.create_connection((LOCALHOST, port), PATIENCE, (source, 0))
         key = base64.b64encode(os.urandom(16)).decode()
         self.socket.sendall(handshake(port, key, **fields))
         self.rest = b""

@@ -12,6 +12,7 @@ import select
 import signal
 import socket
 import subprocess
+import tempfile
 import threading
 import time
 
@@ -56,7 +57,7 @@ SHIFTED_KEYS = [
     *(b"\x1b[%d;2~" % it for it in (15, 17, 18, 19, 20, 21, 23, 24)),
 ]
 FUNCTIONS = {
-    "Enter": (b"\r", "Enter"), "New Line": (b"\n", "Shift-Enter"),
+    "Enter": (b"\r", "Enter", "KeypadEnter"), "New Line": (b"\n", "Shift-Enter"),
     "Clear": (b"\x03", "Pause", "Alt-C"), "Reset": (b"\x12", "Escape", "Ctrl-R"),
     "Tab": (b"\t", "Tab"), "Back Tab": (b"\x1b[Z", "Shift-Tab"),
     "Erase": (b"\x7f", "Backspace"), "Backspace": (b"\b", "Shift-Backspace"),
@@ -64,7 +65,7 @@ FUNCTIONS = {
     "Home": (b"\x1b[H", "Home"), "Up": (b"\x1b[A", "ArrowUp"), "Down": (b"\x1b[B", "ArrowDown"),
     "Right": (b"\x1b[C", "ArrowRight"), "Left": (b"\x1b[D", "ArrowLeft"),
     "Erase EOF": (b"\x05", "End", "Ctrl-E"), "Erase Input": (b"\x15", "Alt-End", "Ctrl-U"),
-    "Draw again": (b"\x0c", "Ctrl-L"),
+    "Redraw": (b"\x0c", "Ctrl-L"),
     "PA1": (b"\x1b1", "Alt-1", "Alt-Insert"), "PA2": (b"\x1b2", "Alt-2", "Alt-Home"),
     "PA3": (b"\x1b3", "Alt-3"),
     **{f"PF{n + 1}": (it, f"F{n + 1}") for n, it in enumerate(FUNCTION_KEYS)},
@@ -72,12 +73,14 @@ FUNCTIONS = {
     "PF7": (FUNCTION_KEYS[6], "F7", "PageUp"), "PF8": (FUNCTION_KEYS[7], "F8", "PageDown"),
 }
 # What the page does itself.
-OWN = {"Keys": ("Ctrl-Alt-K",), "Buttons": ("Ctrl-Alt-B",)}
+OWN = {"Help": ("Ctrl-Alt-K",), "Buttons": ("Ctrl-Alt-B",)}
 MODIFIERS = {"Ctrl": CTRL, "Alt": ALT, "Shift": SHIFT}
 
 
 def presses_key(page, spelt):
     """Presses a key as the page spells it, such as `Shift-F1`."""
+    if spelt == "KeypadEnter":
+        return page.key("Enter", "NumpadEnter")
     *held, name = spelt.split("-")
     code = f"Digit{name}" if name.isdigit() else f"Key{name}" if len(name) == 1 else name
     key = name.lower() if len(name) == 1 else name
@@ -96,6 +99,7 @@ def sends(page, what, act, wanted):
 
 def listed(page):
     """The table of keys that the page shows."""
+    page.value("showKeys(); help.close()")
     rows = page.value("""[...document.querySelectorAll('#help dl > div')].map(it =>
       [it.querySelector('dt').textContent, [...it.querySelectorAll('kbd')].map(it => it.textContent)])""")
     return {name: tuple(keys) for name, keys in rows}
@@ -115,6 +119,25 @@ def each_listed_key_sends_its_bytes() -> None:
         sends(page, "Ctrl-C", lambda: presses_key(page, "Ctrl-C"), [])
         sends(page, "a letter", lambda: page.types("a"), [b"a"])
         sends(page, "a capital", lambda: page.types("B"), [b"B"])
+
+
+@check
+def a_keymap_is_shown_and_done() -> None:
+    """With --keymap the table that the page shows has each key with what it does now, and each of these
+    keys sends the bytes of its function."""
+    moved = {"Backspace": ("BackSpace", "Backspace"), "F12": ("PA(1)", "PA1"), "End": ("Tab", "Tab"), "Ctrl-A": ("Home", "Home")}
+    wanted = {name: [it for it in keys if it not in moved] for name, (_, *keys) in FUNCTIONS.items()}
+    for key, (_, function) in moved.items():
+        wanted[function].append(key)
+    with tempfile.NamedTemporaryFile("w") as file:
+        file.writelines(f"{key} = {action}\n" for key, (action, _) in moved.items())
+        file.flush()
+        with terminal("model=2", "--keymap", file.name) as page:
+            table = {name: set(keys) for name, keys in listed(page).items() if name in FUNCTIONS}
+            expect("the table", table, {name: set(keys) for name, keys in wanted.items() if keys})
+            for name, keys in table.items():
+                for key in sorted(keys):
+                    sends(page, f"{name} by {key}", lambda: presses_key(page, key), [FUNCTIONS[name][0]])
 
 
 @check
@@ -155,7 +178,7 @@ def buttons_send_their_bytes() -> None:
     with terminal() as page:
         names = page.value("[...document.querySelectorAll('#keys > button')].map(it => it.textContent)")
         wanted = ["Enter", "Clear", "Reset", "Erase EOF", "Erase Input", "New Line", "PA1", "PA2", "PA3"]
-        wanted += [f"PF{n}" for n in range(1, 25)] + ["Keys", "Larger", "Smaller"]
+        wanted += [f"PF{n}" for n in range(1, 25)] + ["Help", "Larger", "Smaller"]
         expect("missing buttons", set(wanted) - set(names), set())
         for name in names:
             if name in FUNCTIONS:
@@ -227,27 +250,33 @@ CHARACTERS = bytes(range(0x40, 0xFF)).decode("cp037")
 
 @check
 def each_character_has_one_cell() -> None:
-    """Each character of code page 037 is as wide as a blank; U+00AD, which has no width, is drawn as a
-    hyphen."""
-    with terminal() as page:
-        for begin in range(0, len(CHARACTERS), 60):
-            text = CHARACTERS[begin : begin + 60]
-            page.value(f"draw(new TextEncoder().encode(CSI + '001;001H' + {json.dumps(text)}))")
-            widths = page.value("""(() => {
-              const walk = document.createTreeWalker(screen.children[0], NodeFilter.SHOW_TEXT), all = [];
+    """Each character of code page 037 that a host shows is as wide as a blank; U+00AD, which has no
+    width in Chromium, is drawn as a hyphen."""
+    rows = [CHARACTERS[begin : begin + 60] for begin in range(0, len(CHARACTERS), 60)]
+    texts = [
+        f"{{ row = {at}, col = 10, text = {json.dumps(it, ensure_ascii=False)} }}" for at, it in enumerate(rows, 2)
+    ]
+    head = 'start = "ALL"\nlus = ["PNL01"]\n[[panel]]\nname = "ALL"\n'
+    panels = f"{head}text = [{', '.join(texts)}]\n".encode()
+    with Web(text=panels) as web, Chromium(f"http://{LOCALHOST}:{web.port}/") as page:
+        page.shows("ABCDEFGHI")
+        for row, text in enumerate(rows, 1):
+            widths = page.value(f"""(() => {{
+              const walk = document.createTreeWalker(screen.children[{row}], NodeFilter.SHOW_TEXT), all = [];
               for (let node; node = walk.nextNode();)
-                for (let at = 0; at < node.length; at += 1) {
+                for (let at = 0; at < node.length; at += 1) {{
                   const range = document.createRange();
                   range.setStart(node, at);
                   range.setEnd(node, at + 1);
                   all.push(range.getBoundingClientRect().width);
-                }
+                }}
               return all;
-            })()""")
-            for letter, width in zip(text, widths):
-                if abs(width - widths[-1]) > 0.02:
-                    raise Difference(f"U+{ord(letter):04X} is {widths[-1]} wide", width)
-            expect("drawn", page.rows()[0][: len(text)], text.replace("\xad", "-"))
+            }})()""")
+            expect("cells", len(widths), 80)
+            for letter, width in zip(text, widths[9:]):
+                if abs(width - widths[0]) > 0.02:
+                    raise Difference(f"U+{ord(letter):04X} is {widths[0]} wide", width)
+            expect("drawn", page.rows()[row][9 : 9 + len(text)], text.replace("\xad", "-"))
 
 
 # ---- the keyboard's lock, and the network
@@ -391,6 +420,24 @@ def keys_without_a_network_are_kept() -> None:
 
 
 @check
+def a_reload_loses_no_key() -> None:
+    """Keys that `web` hasn't got when the page is loaded again are sent then, and no key twice."""
+    with relayed() as page:
+        page.types("4")
+        page.shows("4")
+        page.relay.die()
+        page.types("711")
+        page.relay.is_dead = False
+        page.relay.pairs.clear()
+        page.call("Page.reload")
+        page.until("it is resumed", lambda: "event=resumed" in page.web.logged())
+        page.shows("4711")
+        expect("stored", page.value("sessionStorage.getItem('unheard')"), None)
+        page.types("2")
+        page.shows("47112")
+
+
+@check
 def a_reload_loses_nothing() -> None:
     """After a reload the page shows what was typed, and the same session goes on."""
     with terminal() as page:
@@ -484,13 +531,59 @@ def the_menu_begins_a_session() -> None:
 
 @check
 def a_paste_ends_at_the_last_field() -> None:
-    """What doesn't fit behind the cursor is left out, and the page says so."""
+    """What doesn't fit behind the cursor is left out, and the status row says so, also to who doesn't see
+    it. The next key works."""
     with terminal() as page:
         page.pastes("1" * 5000)
-        page.says("The paste ended at the last field: 4982 characters are left out.")
+        page.until("it is cut", lambda: "X PASTE CUT" in page.status())
+        page.announces("X PASTE CUT")
         page.shows("111111")
-        sent = b"".join(page.sent())
-        expect("sent", sent, b"1" * 18)
+        page.key("Backspace")
+        page.until("it is free", lambda: page.status()[16:32].strip() == "")
+        page.key("Enter")
+        page.shows("TRANSFER OF FUNDS")
+
+
+@check
+def keys_under_way_move_a_paste() -> None:
+    """A pasted text begins where the keys before it lead, although the page doesn't show that yet: here at
+    the second field of three. The first gets nothing; control characters are left out."""
+    with terminal() as page:
+        page.web.process.send_signal(signal.SIGSTOP)
+        page.key("Tab")
+        page.pastes("1" * 8 + "\x03\x1b" + "2" * 12)
+        expect("where it is drawn", page.cursor(), [4, 29])
+        page.web.process.send_signal(signal.SIGCONT)
+        page.until("it is cut", lambda: "X PASTE CUT" in page.status())
+        page.shows("2222")
+        expect("the first field", page.rows()[4][29:39].strip(), "")
+
+
+@check
+def nothing_is_pasted_in_the_wait() -> None:
+    """While the host doesn't answer, a paste is refused, and the page says so."""
+    with terminal() as page:
+        page.web.process.send_signal(signal.SIGSTOP)
+        page.key("F3")
+        before = len(page.sent())
+        page.pastes("4711")
+        page.says("Nothing can be pasted until the host has answered.")
+        expect("what is sent", page.sent()[before:], [])
+        page.web.process.send_signal(signal.SIGCONT)
+        page.until("the lock is gone", lambda: page.status()[16:32].strip() == "")
+
+
+@check
+def enter_begins_one_session() -> None:
+    """Enter between the end of a session and that of its WebSocket begins one session, not two."""
+    with terminal() as page:
+        page.value("notice('ended it was ended by a key')")
+        page.key("Enter")
+        page.until("a session", lambda: page.web.logged().count("event=bound") == 2)
+        page.types("4")
+        page.shows("4")
+        time.sleep(1)
+        expect("sessions", page.web.logged().count("event=opened"), 2)
 
 
 @check
@@ -677,7 +770,7 @@ def the_page_is_announced() -> None:
         fields = [name for role, name, _ in nodes if role == "textbox"]
         expect("fields", {"TELLER NUMBER", "PASSWORD"} <= set(fields), True)
         buttons = {name for role, name, _ in nodes if role == "button"}
-        expect("buttons", {"Enter", "Clear", "PA1", "PF1", "PF24", "Keys", "Larger", "New session"} <= buttons, True)
+        expect("buttons", {"Enter", "Clear", "PA1", "PF1", "PF24", "Help", "Larger", "New session"} <= buttons, True)
         expect("a live region", ("status", "", "") in nodes, True)
         page.types("47")
         page.until("the text of a field", lambda: page.value(

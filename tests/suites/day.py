@@ -147,6 +147,13 @@ class Sight:
         return found
 
 
+def models_paste(keys, model):
+    """The model pastes keys, and tells if some are left out."""
+    if not model.paste(keys):
+        model.keyboard.has_rung = True
+        model.keyboard.refusal = model.keyboard.refusal or PASTE_CUT
+
+
 class AtTty:
     """An operator at bin/operate."""
 
@@ -174,9 +181,7 @@ class AtTty:
     def pastes(self, text, keys, model):
         """A tty marks a pasted text."""
         self.typed(ESC + b"[200~" + text.encode() + ESC + b"[201~")
-        if not model.paste(keys):
-            model.keyboard.has_rung = True
-            model.keyboard.refusal = model.keyboard.refusal or PASTE_CUT
+        models_paste(keys, model)
 
     def sees(self):
         self.operator.looks(0.01)
@@ -281,7 +286,7 @@ class AtPage:
 
     def pastes(self, text, keys, model):
         self.page.pastes(text)
-        model.paste(keys)
+        models_paste(keys, model)
 
     def sees(self):
         with contextlib.suppress(Difference):
@@ -292,9 +297,7 @@ class AtPage:
         """What `web` hasn't taken before the session ends is lost with it."""
 
     def is_over(self, sight):
-        # Enter before the socket is closed would begin two sessions.
-        is_closed = "socket.readyState === WebSocket.CLOSED"
-        return self.page.value(f"state.textContent.includes('has ended') && {is_closed}")
+        return self.page.value("state.textContent.includes('has ended')")
 
     def connects_in_vain(self):
         self.waits_for(b"reason=cannot-connect", lambda: self.types(["enter"]))
@@ -340,9 +343,7 @@ class AtPage:
         does()
         hosts.until(f"web logs {words.decode()}", lambda: count() > before)
 
-    # Keys that `web` hasn't taken are lost at a reload.
-    events_in_the_wait = [is_resized, is_cut_off]
-    events = [is_resized, is_loaded_again, is_cut_off]
+    events = events_in_the_wait = [is_resized, is_loaded_again, is_cut_off]
 
 
 # ---- the host
@@ -496,6 +497,16 @@ class Day:
         self.model.type(keys)
         self.agrees()
 
+    def types_over_a_reload(self):
+        """The page is loaded again while keys are under way: those that `web` hasn't heard are sent
+        again."""
+        keys = self.typist.burst(self.model.keyboard.lock)
+        self.noted("types over a reload", keys)
+        self.terminal.types(keys)
+        self.terminal.is_loaded_again(self.chance)
+        self.model.type(keys)
+        self.agrees()
+
     def panels_are_read(self):
         self.noted("panels are read", [])
         self.host.reads_panels()
@@ -580,7 +591,10 @@ class Day:
             self.network_is_lost: 1,
             self.host_is_restarted: 1,
             **{functools.partial(self.happens, it): 1 for it in self.terminal.events},
-            **({self.types_over_a_cut: 3} if isinstance(self.terminal, AtPage) else {}),
+            **(
+                {self.types_over_a_cut: 3, self.types_over_a_reload: 3}
+                if isinstance(self.terminal, AtPage) else {}
+            ),
         }
 
     def goes_on(self, is_over):

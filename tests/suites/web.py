@@ -312,14 +312,16 @@ def first_messages_are_checked() -> None:
         expect("keys", page.closing(), 1008)
 
 
-def clients(web: Web, stack: contextlib.ExitStack, count: int, said=b"") -> list[socket.socket]:
-    """Clients that send no more than this."""
+def clients(
+    web: Web, stack: contextlib.ExitStack, count: int, said=b"", source=LOCALHOST, pause=0.2
+) -> list[socket.socket]:
+    """Clients that send no more than this, from an address of this machine."""
     made = []
     for _ in range(count):
-        it = stack.enter_context(socket.create_connection((LOCALHOST, web.port), 20))
+        it = stack.enter_context(socket.create_connection((LOCALHOST, web.port), 20, (source, 0)))
         it.sendall(said)
         made.append(it)
-    time.sleep(0.2)
+    time.sleep(pause)
     return made
 
 
@@ -409,6 +411,60 @@ def a_lost_session_makes_room() -> None:
         expect("the next", web.page().ending(), ("busy", 1000))
         there.keys(b"4")
         screen_of(there, "4")
+
+
+@check
+def an_address_has_its_share() -> None:
+    """With --per-address a page is refused, is told why, and is logged, if its address has so many sessions;
+    another address isn't. A session that a page at the address has left makes room."""
+    with Web("--per-address", "2", "--keep", "300") as web:
+        there, left = web.page("open 2 BANK01"), web.page("open 2 BANK02")
+        screen_of(there, "BANK01")
+        screen_of(left, "BANK02")
+        refusal = "ended your address has as many sessions as one address may have"
+        expect("the third", web.page().ending(), (refusal, 1000))
+        web.logs("event=refused reason=address-full")
+        screen_of(web.page("open 2 BANK03", source="127.0.0.2"), "BANK03")
+        left.close()
+        web.logs("event=page-lost reason=lost")
+        screen_of(web.page("open 2 BANK04"), "BANK04")
+        web.logs("event=ended reason=made-room")
+        there.keys(b"4")
+        screen_of(there, "4")
+
+
+@check
+def one_address_crowds_nobody_out() -> None:
+    """Of 16 clients that have sent something, those of an address that has more than 8 of the places make
+    room at once for one of another address, the oldest first; others make room only after a second."""
+    with Web() as web, contextlib.ExitStack() as stack:
+        begun = {"said": b"GET / HTTP/1.1\r\n", "pause": 0.05}
+        crowd = clients(web, stack, 9, **begun)
+        others = clients(web, stack, 7, source="127.0.0.2", **begun)
+        [first] = clients(web, stack, 1, source="127.0.0.3", **begun)
+        [second] = clients(web, stack, 1, source="127.0.0.3", **begun)
+        expect("one that finds 8", has_ended(second), True)
+        expect("one that finds 9", has_ended(first), False)
+        expect("the crowd", [has_ended(it) for it in crowd], [True] + [False] * 8)
+        expect("others", [has_ended(it) for it in others], [False] * 7)
+
+
+@check
+def a_keymap_is_sent() -> None:
+    """A page is told what the file of --keymap says, before it has a screen, by the names of the table of
+    keys. A file that is no keymap is refused, with its line."""
+    with tempfile.NamedTemporaryFile("w") as file:
+        file.write("# Keys of a 3278.\nbackspace = backspace()\n f12 = pa(1)\nAlt-= = Clear\nCtrl-a=Home\n")
+        file.flush()
+        with Web("--keymap", file.name) as web:
+            page = web.page()
+            expect("the keymap", page.told("keymap"), "Backspace=BackSpace F12=PA(1) Ctrl-A=Home Alt-==Clear")
+            screen_of(page, "TELLER")
+        file.write("F13 = Enter\n")
+        file.flush()
+        words = ["web", "--port", str(free_port()), "--connect", "3270", "--keymap"]
+        expect("status and line", run([*words, file.name], b"")[::2], (1, f"{file.name}:6: unknown key 'F13'\n"))
+        expect("no file", run([*words, "/no/keys"], b"")[::2], (1, "/no/keys: no such file\n"))
 
 
 @check

@@ -93,26 +93,29 @@ KEYS = f"""
 {HELPERS}
 const typed = {{ focus() {{}} }}, terminal = {{ contains: () => true }}, help = {{ open: false }};
 const navigator = {{ platform: 'Linux x86_64' }}, document = {{}}, keys = {{}};
-const isWaiting = false, isOver = true, tell = () => {{}}, reason = () => '';
+const isWaiting = false, isOver = true, tell = () => {{}}, reason = () => '', isLocked = () => false;
 let last;
-const send = bytes => last = bytes;
+const send = (...texts) => last = texts.join(''), ring = () => last = 'bell', showKeys = () => last = 'help';
 %s
-const given = JSON.parse(require('fs').readFileSync(0, 'utf8'));
+const {{ keymap, events }} = JSON.parse(require('fs').readFileSync(0, 'utf8'));
+useKeymap(keymap);
 const sent = it => {{
   last = null;
   let kept = false;
   onKey({{ getModifierState: () => false, preventDefault: () => kept = true, ...it }});
   return kept ? last : null;
 }};
-console.log(JSON.stringify(given.map(sent)));
+console.log(JSON.stringify(events.map(sent)));
 """
 
 
 SESSION = f"""
 {HELPERS}
-const enter = code(13), log = [], sockets = [], waits = [], stored = {{}}, model = {{}}, lu = {{}};
+const enter = code(13), log = [], sockets = [], waits = [], model = {{}}, lu = {{}}, listeners = {{}};
+const stored = JSON.parse(require('fs').readFileSync(0, 'utf8'));
 const state = {{ textContent: '' }}, typed = {{ focus() {{}} }}, screen = {{ querySelector: () => null }};
-const document = {{ body: {{ classList: {{ toggle() {{}} }} }} }}, addEventListener = () => 0;
+const document = {{ body: {{ classList: {{ toggle() {{}} }} }} }};
+const addEventListener = (name, then) => listeners[name] = then, useKeymap = words => log.push(['keymap', ...words]);
 const resize = (...size) => log.push(['size', ...size]), fit = 0, first = 0, ring = () => log.push('bell');
 const show = () => 0, say = () => 0, isLocked = () => false, summary = () => ({{}}), changes = () => [];
 const read = bytes => log.push(['draw', [...bytes]]), setInterval = then => every = then;
@@ -234,6 +237,7 @@ SENT = [
 ]
 CONTROLS = [
     ({"key": "Enter"}, "\r"),
+    ({"key": "Enter", "code": "NumpadEnter"}, "\r"),
     ({"key": "Enter", **SHIFT}, "\n"),
     ({"key": "Tab"}, "\t"),
     ({"key": "Backspace"}, "\x7f"),
@@ -269,16 +273,44 @@ CONTROLS = [
 def its_keys_send_what_a_tty_sends() -> None:
     """Each key sends the bytes of its function, and no other is kept from the browser."""
     wanted = [(key, "\x1b" + it) for key, it in SENT] + CONTROLS
+    expect_sent([], wanted)
+
+
+def expect_sent(keymap, wanted):
+    """With these words of a keymap these keys send these texts."""
     events = [{"code": key["key"], **key} for key, _ in wanted]
-    found = of_node(KEYS % section("Keys", "The operator"), events)
-    for (key, bytes_), sent in zip(wanted, found):
-        expect(f"bytes of {key}", sent, bytes_)
+    given = {"keymap": keymap, "events": events}
+    found = of_node(KEYS % section("Keys", "The operator"), given)
+    for (key, text), sent in zip(wanted, found):
+        expect(f"text of {key}", sent, text)
 
 
-def of_session(steps):
-    """What a session's part of the script does in these steps."""
+@check
+def a_keymap_changes_keys() -> None:
+    """A key that the server's keymap names, as crates/tty spells it, has that action, and others have what
+    is usual. An action that a page hasn't does nothing."""
+    words = [
+        "Backspace=BackSpace", "F12=PA(1)", "Shift-F2=EraseEOF", "Enter=Newline", "KeypadEnter=Enter", "Up=PF(7)",
+        "Ctrl-A=Home", "Alt-c=Tab", "Alt-Q=BackTab", "Alt-!=PF(13)", "Alt-==Clear", "Alt-Space=Reset",
+        "End=Help", "F1=Quit", "Ctrl-End=Redraw",
+    ]  # fmt: skip
+    wanted = [
+        ({"key": "Backspace"}, "\b"), ({"key": "F12"}, "\x1b1"), ({"key": "F2", **SHIFT}, "\x05"),
+        ({"key": "Enter"}, "\n"), ({"key": "Enter", "code": "NumpadEnter"}, "\r"),
+        ({"key": "ArrowUp"}, "\x1b[18~"), ({"key": "a", "code": "KeyA", **CTRL}, "\x1b[H"),
+        ({"key": "c", "code": "KeyC", **ALT}, "\t"), ({"key": "q", "code": "KeyQ", **ALT}, None),
+        ({"key": "Q", "code": "KeyQ", **ALT, **SHIFT}, "\x1b[Z"),
+        ({"key": "!", "code": "Digit1", **ALT, **SHIFT}, "\x1b[1;2P"), ({"key": "=", "code": "Equal", **ALT}, "\x03"),
+        ({"key": " ", "code": "Space", **ALT}, "\x12"), ({"key": "End"}, "help"), ({"key": "F1"}, "bell"),
+        ({"key": "End", **CTRL}, "\x0c"), ({"key": "F2"}, "\x1bOQ"), ({"key": "ArrowDown"}, "\x1b[B"),
+    ]  # fmt: skip
+    expect_sent(words, wanted)
+
+
+def of_session(steps, stored=None):
+    """What a session's part of the script does in these steps, in a tab that has this stored."""
     script = inside("script").split("// ---- The session")[1].split("\n", 1)[1]
-    return of_node(SESSION % (script, steps), None)
+    return of_node(SESSION % (script, steps), stored or {})
 
 
 @check
@@ -320,6 +352,44 @@ def it_stays_when_a_session_has_ended() -> None:
     )
     wanted = ["The session has ended: signed off. Enter begins a new one.", 0]
     expect("log", found, [*wanted, ["connect", "wss://bank.example/t/terminal"], ["open 4 BANK02"]])
+
+
+@check
+def an_ended_session_is_followed_by_one() -> None:
+    """Enter between `ended` and the end of its WebSocket begins one session, not two."""
+    found = of_session(
+        "last().onopen(); says('size 25 80', 'token 0f', 'ended signed off'); const old = last();"
+        "log.length = 0; send(enter); old.onclose?.({ code: 1000 }); old.onmessage?.({ data: 'heard 1' });"
+        "last().onopen(); says('size 25 80', 'token 1f', 'heard 0'); log.push(waits.length, sockets.length);"
+        "send('a'); log.push(last().sent);"
+    )
+    connect = ["connect", "wss://bank.example/t/terminal"]
+    expect("log", found, [connect, 0, 2, ["open 4 BANK02", "a"]])
+
+
+@check
+def a_reload_keeps_what_was_typed() -> None:
+    """Keys that the server hasn't heard are stored while the page is loaded again, and are sent then, unless
+    the server has them meanwhile. Nothing that is typed is stored before, or stays stored."""
+    kept, stored = of_session(
+        "last().onopen(); says('size 25 80', 'token 0f', 'heard 40'); send('a'); send('€'); send('d');"
+        "says('heard 41'); log.length = 0; log.push({ ...stored }); listeners.pagehide(); log.push(stored);"
+    )
+    expect("stored while typing", kept, {"token": "0f"})
+    for heard, sent in ((41, ["€", "d"]), (44, ["d"]), (45, [])):
+        found = of_session(
+            f"last().onopen(); says('size 25 80', 'token 0f', 'heard {heard}'); log.length = 0;"
+            "log.push(last().sent, stored);",
+            stored,
+        )
+        expect(f"sent after {heard}", found, [["resume 0f", *sent], {"token": "0f"}])
+
+
+@check
+def a_keymap_is_taken() -> None:
+    """The words behind `keymap` are those of the keymap."""
+    found = of_session("last().onopen(); log.length = 0; says('keymap Backspace=BackSpace F12=PA(1)');")
+    expect("log", found, [["keymap", "Backspace=BackSpace", "F12=PA(1)"]])
 
 
 @check

@@ -10,12 +10,13 @@ use crate::selfrun::run_selfrun;
 use cli::{Refusal, VERSION, WordFault, refuse_words, run_help, run_version, words};
 use jobs::{
     CountedReader, CountedWriter, Fault, Job, Operand, OperateOptions, Sink, UntilClosed,
-    read_whole, refuse_file, refuse_keymap, report_and_exit_code,
+    WebOptions, read_whole, refuse_file, refuse_keymap, report_and_exit_code,
 };
 use operate::run_operate;
 use scripts::{run_check, run_script_with, run_show, run_term};
 use service::{ServeOptions, open_panels, run_host, run_serve, run_tell};
 use std::env;
+use std::fs::{File, OpenOptions};
 use std::io::{self, ErrorKind, IsTerminal, Stdout};
 use std::process::ExitCode;
 use tty::{Keymap, KeymapFault};
@@ -112,13 +113,55 @@ fn keymap_of<E: Sink>(
     }
 }
 
+/// The file to which screens are appended; None if none is given. Else the exit status: why it can't be opened is printed.
+fn save_file<E: Sink>(
+    rt: &HostRuntime,
+    file: &Option<Operand<'_>>,
+    faults: &mut E,
+) -> Result<Option<CountedWriter<File>>, u8> {
+    let Some(file) = file else {
+        return Ok(None);
+    };
+    let name = file.as_str();
+    match OpenOptions::new().append(true).create(true).open(rt, name) {
+        Ok(opened) => Ok(Some(CountedWriter::new(opened))),
+        Err(error) => Err(end_without(name, error.kind(), faults)),
+    }
+}
+
 /// Runs a terminal for the operator at this tty, and returns the exit status.
 fn operate(rt: &HostRuntime, options: &OperateOptions<'_>) -> u8 {
-    let input = CountedReader::new(rt.stdin());
-    let out = CountedWriter::new(rt.stdout());
+    let mut faults = CountedWriter::new(rt.stderr());
+    let keymap = match keymap_of(rt, &options.keymap, &mut faults) {
+        Ok(keymap) => keymap,
+        Err(status) => return status,
+    };
+    let mut saves = match save_file(rt, &options.save, &mut faults) {
+        Ok(saves) => saves,
+        Err(status) => return status,
+    };
+    let (input, out) = (
+        CountedReader::new(rt.stdin()),
+        CountedWriter::new(rt.stdout()),
+    );
+    let alloc = rt.alloc();
+    run_operate(
+        rt,
+        alloc,
+        options,
+        keymap,
+        &mut saves,
+        input,
+        out,
+        &mut faults,
+    )
+}
+
+/// Serves a page that is a terminal, and returns the exit status.
+fn web(rt: &HostRuntime, options: &WebOptions<'_>) -> u8 {
     let mut faults = CountedWriter::new(rt.stderr());
     match keymap_of(rt, &options.keymap, &mut faults) {
-        Ok(keymap) => run_operate(rt, rt.alloc(), options, keymap, input, out, &mut faults),
+        Ok(keymap) => run_web(rt, rt.alloc(), options, &keymap, &mut faults),
         Err(status) => status,
     }
 }
@@ -156,7 +199,7 @@ fn do_job(rt: &HostRuntime, job: &Job<'_>) -> u8 {
             run_term(rt, *port, *model, *lu, &mut input, &mut out, &mut faults)
         }
         Job::Operate(options) => operate(rt, options),
-        Job::Web(options) => run_web(rt, alloc, options, &mut faults),
+        Job::Web(options) => web(rt, options),
         Job::Help(topic) => run_help(*topic, &mut open_ended(rt), &mut faults),
         Job::Version => run_version(&mut open_ended(rt), &mut faults),
     }

@@ -1,6 +1,7 @@
 -- How many clients a server of pages has (our profile).
 use Rattle.std.specs.Prelude.{ℕ, ◌-◌, ◌≤◌, Bool, not, nat_le, List, length, Option, position}
 use Rattle.std.specs.Option.{option_or}
+use Rattle.web.specs.Networks.{crowded_place}
 
 -- how many clients have no session yet, how many sessions there are, how many clients depart; and the most sessions
 pub record Crowd : Type 0 where
@@ -21,11 +22,14 @@ crowd_of visitors seats departing most = record {
 abbrev pub sure_time : ℕ
 sure_time = 1000
 
--- Which of the clients without a session, the oldest first, makes room for a new one: the first that has sent nothing,
--- or else the first that isn't sure of its place any more.
-abbrev pub leaving_place : {V : Type 0} → (has_sent : V → Bool) → (began : V → ℕ) → (now : ℕ) → List V → Option ℕ
-leaving_place has_sent began now visitors = option_or (position (λ it. not (has_sent it)) visitors)
-    (position (λ it. nat_le sure_time (now - began it)) visitors)
+-- Which of the clients without a session, the oldest first, makes room for a new one of a network: the first that has
+-- sent nothing; or else the first of another network that has more than its share; or else the first that isn't sure of
+-- its place any more.
+abbrev pub leaving_place : {V : Type 0} → (has_sent : V → Bool) → (of : V → ℕ) → (began : V → ℕ) → (network now : ℕ)
+    → List V → Option ℕ
+leaving_place has_sent of began network now visitors =
+    option_or (position (λ it. not (has_sent it)) visitors) (option_or (crowded_place of network visitors)
+    (position (λ it. nat_le sure_time (now - began it)) visitors))
 
 -- holds for every server
 pub record IsBounded (crowd : Crowd) : Type 0 where

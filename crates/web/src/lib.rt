@@ -9,6 +9,7 @@
 mod departing;
 mod limits;
 mod log;
+mod network;
 mod page_link;
 mod page_turn;
 mod seat;

@@ -1,4 +1,7 @@
 //! A session: a terminal, its page, and its connection to the host.
+ghost use Rattle.std.specs.Prelude.{◌≡◌};
+ghost use Rattle.web.specs.Networks.{count_of, has_most};
+
 use crate::limits::time_kept;
 use crate::page_link::PageLink;
 use crate::page_turn::{PageTerminal, PageTurn, draw_again, take_page_turn};
@@ -9,7 +12,7 @@ use operate::{OperatorRequest, OperatorSession};
 use std::alloc::Global;
 use std::fmt;
 use std::io::ErrorKind;
-use std::net::{IpAddr, SocketAddr};
+use std::net::SocketAddr;
 use term_core::TermPhase;
 use tn3270e_msg::{Lu, Reason};
 use tty::Colors;
@@ -119,8 +122,8 @@ pub(crate) struct Seat {
     /// The connection to the host while it is being established, and since when.
     dialed: Option<(TcpStream, u64)>,
     page: Option<PageLink<TcpStream>>,
-    /// The address of its last page.
-    peer: IpAddr,
+    /// The network of its last page.
+    network: u128,
     /// How many bytes of keys its pages sent.
     typed: u64,
     /// How long it is kept without a page, in milliseconds.
@@ -130,6 +133,21 @@ pub(crate) struct Seat {
     /// When the page was last sent a ping.
     pinged: u64,
     is_bound: bool,
+}
+
+/// How many sessions are of a network.
+fn sessions_of(seats: &[Seat], network: u128) -> usize
+    ensures { result ≡ count_of (λ it. it.network) network seats.now }
+{
+    seats.iter().filter(|seat| seat.network == network).count()
+}
+
+/// Whether a network has as many of these sessions as it may have, `most`; 0 is no limit.
+pub(crate) fn has_most(seats: &[Seat], network: u128, most: usize) -> bool
+    ensures { result ≡ has_most (λ it. it.network) network most seats.now }
+{
+    let count = sessions_of(seats, network);
+    most != 0 && most <= count
 }
 
 /// The size of the tty in a page for a model: the alternate screen, and a row below it for the status.
@@ -164,7 +182,7 @@ impl Seat {
         model: Model,
         wanted: Option<Lu>,
         dialed: TcpStream,
-        peer: IpAddr,
+        network: u128,
         now: u64,
     ) -> Result<Seat, Fault> {
         Ok(Seat {
@@ -182,7 +200,7 @@ impl Seat {
             )?,
             dialed: Some((dialed, now)),
             page: None,
-            peer,
+            network,
             typed: 0,
             kept_for: 0,
             heard: now,
@@ -197,7 +215,7 @@ impl Seat {
         &mut self,
         alloc: Global,
         mut page: PageLink<TcpStream>,
-        peer: IpAddr,
+        network: u128,
         now: u64,
     ) -> Result<Option<PageLink<TcpStream>>, Fault> {
         let TtySize { rows, columns } = page_size(self.model);
@@ -210,15 +228,15 @@ impl Seat {
         if self.dialed.is_none() {
             draw_again(alloc, &mut page, &mut self.terminal)?;
         }
-        self.peer = peer;
+        self.network = network;
         self.heard = now;
         self.pinged = now;
         Ok(std::mem::replace(&mut self.page, Some(page)))
     }
 
-    /// Whether it has no page, and its last one was at this address.
-    pub(crate) fn was_left_by(&self, peer: IpAddr) -> bool {
-        self.page.is_none() && self.peer == peer
+    /// Whether it has no page, and its last one was of this network.
+    pub(crate) fn was_left_by(&self, network: u128) -> bool {
+        self.page.is_none() && self.network == network
     }
 
     /// Its page, once it has ended.

@@ -1,6 +1,8 @@
 //! A client that has no session yet: it sends a request, or has begun a WebSocket and not opened a session.
 ghost use Rattle.std.specs.Prelude.{◌≡◌, ◌-◌, ◌<◌, IfOk, IfSome, length, nat_le, not, option_map, position};
+ghost use Rattle.std.specs.Option.{option_or};
 ghost use Rattle.web.specs.Crowds.{leaving_place, sure_time};
+ghost use Rattle.web.specs.Networks.{count_of, crowded_place, is_crowd};
 ghost use Rattle.web_wire.specs.Heads.{IsAnswerTo, with_more};
 ghost use Rattle.web_wire.specs.Responses.{response};
 
@@ -79,6 +81,8 @@ pub(crate) struct Visitor<B> {
     link: PageLink<B>,
     /// The address of the client.
     pub(crate) peer: SocketAddr,
+    /// Its network.
+    pub(crate) network: u128,
     /// When it connected, in milliseconds of the server's time.
     pub(crate) began: u64,
     /// Whether it has sent anything.
@@ -110,24 +114,76 @@ fn unsure_place<B>(visitors: &[Visitor<B>], now: u64) -> Option<usize>
         .position(|visitor| SURE_TIME <= now.saturating_sub(visitor.began))
 }
 
-/// Which client without a session makes room for a new one, of these, the oldest first: the first that has sent
-/// nothing, or else the first that has been there for a second.
-pub(crate) fn leaving_place<B>(visitors: &[Visitor<B>], now: u64) -> Option<usize>
-    ensures place { result ≡ leaving_place (λ it. it.has_sent) (λ it. it.began) now visitors.now }
+/// How many clients without a session of one network keep their places from those of others.
+const FAIR_SHARE: usize = 8;
+
+/// How many clients are of a network.
+fn visitors_of<B>(visitors: &[Visitor<B>], network: u128) -> usize
+    ensures { result ≡ count_of (λ it. it.network) network visitors.now }
+{
+    visitors
+        .iter()
+        .filter(|visitor| visitor.network == network)
+        .count()
+}
+
+/// Whether a client of the network `other` makes room for one of this network, since it has more than its share.
+fn is_crowd<B>(visitors: &[Visitor<B>], network: u128, other: u128) -> bool
+    ensures { result ≡ is_crowd (λ it. it.network) network visitors.now other }
+{
+    let count = visitors_of(visitors, other);
+    other != network && FAIR_SHARE < count
+}
+
+/// The first client of a network that has more than its share, if a client of another network comes.
+fn crowded_place<B>(visitors: &[Visitor<B>], network: u128) -> Option<usize>
+    ensures place { result ≡ crowded_place (λ it. it.network) network visitors.now }
     ensures in_range { IfSome result (λ place. place < length visitors.now) }
 {
-    match silent_place(visitors) {
+    visitors
+        .iter()
+        .position(|visitor| is_crowd(visitors, network, visitor.network))
+}
+
+/// The first client that makes room for a new one of a network and has sent something.
+fn busy_place<B>(visitors: &[Visitor<B>], network: u128, now: u64) -> Option<usize>
+    ensures place { result ≡ option_or (crowded_place (λ it. it.network) network visitors.now)
+        (position (λ it. nat_le sure_time (now - it.began)) visitors.now) }
+    ensures in_range { IfSome result (λ place. place < length visitors.now) }
+{
+    match crowded_place(visitors, network) {
         Some(place) => Some(place),
         None => unsure_place(visitors, now),
     }
 }
 
+/// Which client without a session makes room for a new one of a network, of these, the oldest first: the first that has
+/// sent nothing; or else the first of another network that has more than 8 of these; or else the first that has been there
+/// for a second.
+pub(crate) fn leaving_place<B>(visitors: &[Visitor<B>], network: u128, now: u64) -> Option<usize>
+    ensures place { result
+        ≡ leaving_place (λ it. it.has_sent) (λ it. it.network) (λ it. it.began) network now visitors.now }
+    ensures in_range { IfSome result (λ place. place < length visitors.now) }
+{
+    match silent_place(visitors) {
+        Some(place) => Some(place),
+        None => busy_place(visitors, network, now),
+    }
+}
+
 impl<B: RawRead + RawWrite + Drop> Visitor<B> {
     /// A client that has just connected.
-    pub(crate) fn new(alloc: Global, socket: B, peer: SocketAddr, began: u64) -> Visitor<B> {
+    pub(crate) fn new(
+        alloc: Global,
+        socket: B,
+        peer: SocketAddr,
+        network: u128,
+        began: u64,
+    ) -> Visitor<B> {
         Visitor {
             link: PageLink::new(alloc, socket),
             peer,
+            network,
             began,
             has_sent: false,
             head: Some(HeadReader::new(alloc)),

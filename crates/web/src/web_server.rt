@@ -1,11 +1,12 @@
 //! The server of pages, and its loop.
-ghost use Rattle.std.specs.Prelude.{◌≡◌, ◌<◌, IfErr, IfOk};
+ghost use Rattle.std.specs.Prelude.{◌≡◌, ◌<◌, None, IfErr, IfOk};
 
 use crate::departing::{Departing, Progress};
 use crate::limits::time_after;
 use crate::log::{EventLog, WebEvent, WebLog};
+use crate::network::network_of;
 use crate::page_link::PageLink;
-use crate::seat::{Seat, SeatTurn, SessionEnd, closing_word};
+use crate::seat::{Seat, SeatTurn, SessionEnd, closing_word, has_most};
 use crate::visitor::{Visit, Visitor, leaving_place};
 use codes3270::Model as TerminalModel;
 use jobs::{Fault, LiveFault, RawRandom, Sink, WebOptions, poll_timeout, report_and_exit_code};
@@ -16,10 +17,11 @@ use std::alloc::Global;
 use std::fmt;
 use std::io::{self, ErrorKind};
 use std::marker::Model;
-use std::net::{IpAddr, Net, SocketAddr};
+use std::net::{Net, SocketAddr};
 use std::random::RandomSource;
 use std::time::{Clock, Instant};
 use tn3270e_msg::Lu;
+use tty::Keymap;
 use web_wire::{
     HttpStatus, Notice, Origin, OriginFault, PAGE, PageParts, SCRIPT_HASH, STYLE_HASH, Site,
     Token as PageToken,
@@ -87,6 +89,35 @@ fn refusal_word(visit: &Visit, has_sent: bool) -> Option<&'static str> {
     }
 }
 
+/// Why there is no room for a session.
+#[derive(Clone, Copy)]
+enum Lack {
+    /// All sessions are in use.
+    AllInUse,
+    /// The client's network has as many sessions as it may have.
+    NetworkFull,
+}
+
+impl Lack {
+    /// The word for the log.
+    fn word(self) -> &'static str {
+        match self {
+            Lack::AllInUse => "all-in-use",
+            Lack::NetworkFull => "address-full",
+        }
+    }
+
+    /// What the page is told.
+    fn notice(self) -> Notice<'static> {
+        match self {
+            Lack::AllInUse => Notice::Busy,
+            Lack::NetworkFull => {
+                Notice::Ended("your address has as many sessions as one address may have")
+            }
+        }
+    }
+}
+
 /// The server: its listener and poll, the clients without a session, the sessions, and the clients that depart.
 /// Contracts see how many these are; there are never more than 16, `most_sessions`, and 80.
 #[derive(Drop)]
@@ -98,6 +129,10 @@ struct WebServer {
     site: Site,
     host: SocketAddr,
     most_sessions: usize,
+    /// The most sessions of one network; 0 is no limit.
+    most_of_one: usize,
+    /// What keys do that don't do what is usual.
+    keymap: String,
     /// How long a session is kept without a page, in milliseconds.
     keep: u64,
     visitors: Vec<Visitor<TcpStream>>,
@@ -161,12 +196,14 @@ impl WebServer {
         alloc: Global,
         site: Site,
         options: &WebOptions<'_>,
+        keymap: &Keymap,
     ) -> Result<WebServer, Fault> {
         let address = SocketAddr::new(options.listen, options.port.get());
         let visitors = Vec::with_capacity(alloc, MOST_VISITORS)?;
         let seats = Vec::with_capacity(alloc, MOST_SESSIONS)?;
         let departing = Vec::with_capacity(alloc, MOST_DEPARTING)?;
         let events = Events::with_capacity(alloc, MOST_EVENTS)?;
+        let keymap = keymap.words(alloc)?;
         let (listener, poll) = match listen(net, address) {
             Ok(parts) => parts,
             Err(error) => return Err(Fault::CannotListen(address, error.kind())),
@@ -179,6 +216,8 @@ impl WebServer {
             site,
             host: SocketAddr::new(options.host.host, options.host.port.get()),
             most_sessions: usize::from(options.sessions.get()),
+            most_of_one: usize::from(options.per_address.get()),
+            keymap,
             keep: u64::from(options.keep.get()).saturating_mul(1000),
             visitors,
             seats,
@@ -219,23 +258,24 @@ impl WebServer {
 
     /// Takes a client, unless there are 16 without a session of which none makes room, or memory is refused.
     fn admit<L: EventLog>(&mut self, mut socket: TcpStream, peer: SocketAddr, log: &mut L) {
-        self.make_room(log);
+        let network = network_of(peer.ip().to_canonical());
+        self.make_room(network, log);
         if self.visitors.len() >= MOST_VISITORS {
             return log.note(&WebEvent::TurnedAway(peer));
         }
         // If one of these calls fails, the socket is still served.
         let _ = socket.set_nodelay(true);
         register(&self.poll, &mut socket);
-        let visitor = Visitor::new(self.alloc, socket, peer, self.now);
+        let visitor = Visitor::new(self.alloc, socket, peer, network, self.now);
         let _ = self.visitors.push(visitor);
     }
 
-    /// If there are 16 clients without a session, drops the one that makes room for a new one, if one does.
-    fn make_room<L: EventLog>(&mut self, log: &mut L) {
+    /// If there are 16 clients without a session, drops the one that makes room for a new one of a network, if one does.
+    fn make_room<L: EventLog>(&mut self, network: u128, log: &mut L) {
         if self.visitors.len() < MOST_VISITORS {
             return;
         }
-        if let Some(place) = leaving_place(self.visitors.as_slice(), self.now) {
+        if let Some(place) = leaving_place(self.visitors.as_slice(), network, self.now) {
             let visitor = self.visitors.remove(place);
             log.note(&WebEvent::TurnedAway(visitor.peer));
         }
@@ -309,16 +349,20 @@ impl WebServer {
         visit: Visit,
         log: &mut L,
     ) {
-        let peer = visitor.peer;
+        let (peer, network) = (visitor.peer, visitor.network);
         if let Some(word) = refusal_word(&visit, visitor.has_sent) {
             log.note(&WebEvent::Refused(peer, word));
         }
-        let (link, response) = visitor.into_parts();
+        let (mut link, response) = visitor.into_parts();
+        if matches!(visit, Visit::Opened(..) | Visit::Resumed(_)) {
+            // Without memory its keys do what is usual.
+            let _ = link.tell(self.alloc, &Notice::Keymap(&self.keymap));
+        }
         match visit {
             Visit::Going { .. } | Visit::Late | Visit::Gone => {}
             Visit::Answered(_) | Visit::Closed(_) => self.depart(link, response),
-            Visit::Opened(model, lu) => self.open(rt, link, peer, model, lu, log),
-            Visit::Resumed(token) => self.resume(link, peer, PageToken::new(token), log),
+            Visit::Opened(model, lu) => self.open(rt, link, peer, network, model, lu, log),
+            Visit::Resumed(token) => self.resume(link, peer, network, PageToken::new(token), log),
         }
     }
 
@@ -328,18 +372,16 @@ impl WebServer {
         rt: &R,
         link: PageLink<TcpStream>,
         peer: SocketAddr,
+        network: u128,
         model: TerminalModel,
         lu: Option<Lu>,
         log: &mut L,
     ) {
-        if self.seats.len() >= self.most_sessions {
-            self.make_seat(peer.ip(), log);
+        if let Some(lack) = self.find_lack(network, log) {
+            log.note(&WebEvent::Refused(peer, lack.word()));
+            return self.dismiss(link, &lack.notice());
         }
-        if self.seats.len() >= self.most_sessions {
-            log.note(&WebEvent::Refused(peer, "all-in-use"));
-            return self.dismiss(link, &Notice::Busy);
-        }
-        let mut seat = match self.new_seat(rt, model, lu, peer.ip()) {
+        let mut seat = match self.new_seat(rt, model, lu, network) {
             Ok(seat) => seat,
             Err(fault) => {
                 let end = SessionEnd::Failed(fault);
@@ -347,16 +389,40 @@ impl WebServer {
                 return self.dismiss_for(link, &end);
             }
         };
-        if seat.attach(self.alloc, link, peer.ip(), self.now).is_err() {
+        if seat.attach(self.alloc, link, network, self.now).is_err() {
             return log.note(&WebEvent::Refused(peer, "no-memory"));
         }
         log.note(&WebEvent::Opened(seat.number, peer));
         self.add(seat);
     }
 
-    /// Ends the oldest session that a page at this address has left, if there is one.
-    fn make_seat<L: EventLog>(&mut self, peer: IpAddr, log: &mut L) {
-        let left = self.seats.iter().position(|seat| seat.was_left_by(peer));
+    /// Why there is no room for a session of this network; None if there is some.
+    fn lack(&self, network: u128) -> Option<Lack>
+        ensures { result ≡ None → self.exit.now.sessions < self.exit.now.most_sessions }
+    {
+        if self.seats.len() >= self.most_sessions {
+            Some(Lack::AllInUse)
+        } else if has_most(self.seats.as_slice(), network, self.most_of_one) {
+            Some(Lack::NetworkFull)
+        } else {
+            None
+        }
+    }
+
+    /// Why there is no room for a session of this network, also if a session ends that one of its pages has left; None
+    /// if there is some.
+    fn find_lack<L: EventLog>(&mut self, network: u128, log: &mut L) -> Option<Lack>
+        ensures { result ≡ None → self.new.sessions < self.new.most_sessions }
+    {
+        if self.lack(network).is_some() {
+            self.make_seat(network, log);
+        }
+        self.lack(network)
+    }
+
+    /// Ends the oldest session that a page of this network has left, if there is one.
+    fn make_seat<L: EventLog>(&mut self, network: u128, log: &mut L) {
+        let left = self.seats.iter().position(|seat| seat.was_left_by(network));
         if let Some(place) = left {
             let seat = self.seats.remove(place);
             log.note(&WebEvent::Ended(seat.number, "made-room"));
@@ -376,7 +442,7 @@ impl WebServer {
         rt: &R,
         model: TerminalModel,
         lu: Option<Lu>,
-        peer: IpAddr,
+        network: u128,
     ) -> Result<Seat, Fault>
         ensures { self.new ≡ self.old }
     {
@@ -398,7 +464,7 @@ impl WebServer {
             model,
             lu,
             socket,
-            peer,
+            network,
             self.now,
         )
     }
@@ -408,6 +474,7 @@ impl WebServer {
         &mut self,
         link: PageLink<TcpStream>,
         peer: SocketAddr,
+        network: u128,
         token: PageToken,
         log: &mut L,
     ) {
@@ -417,7 +484,7 @@ impl WebServer {
             return self.dismiss(link, &Notice::Ended("it isn't kept any more"));
         };
         let number = seat.number;
-        match seat.attach(alloc, link, peer.ip(), now) {
+        match seat.attach(alloc, link, network, now) {
             Ok(replaced) => {
                 log.note(&WebEvent::Resumed(number, peer));
                 if let Some(replaced) = replaced {
@@ -623,9 +690,10 @@ fn serve<R: Net + Clock + RandomSource, E: Sink>(
     alloc: Global,
     site: Site,
     options: &WebOptions<'_>,
+    keymap: &Keymap,
     faults: &mut E,
 ) -> Result<(), Fault> {
-    let mut server = WebServer::new(rt, alloc, site, options)?;
+    let mut server = WebServer::new(rt, alloc, site, options, keymap)?;
     let address = SocketAddr::new(options.listen, options.port.get());
     let _ = faults.write_line(Serving(address));
     let mut log = WebLog {
@@ -639,10 +707,11 @@ fn serve<R: Net + Clock + RandomSource, E: Sink>(
 /// Serves the page to browsers: each page is a terminal at the host of the options. The page is served to browsers of
 /// this machine, and at the origin of the options. `faults` first gets a line that says where it is, and then the log:
 /// which client is refused and why; and of each session when it begins, is connected, is bound to an LU, loses its
-/// page, is resumed, and ends. Nothing that is typed or shown is logged.
+/// page, is resumed, and ends. Nothing that is typed or shown is logged. The keys of a page do what the keymap says.
 ///
-/// At most 16 clients have no session, for at most 5 seconds each. For a further one the oldest makes room that has
-/// sent nothing, or else the oldest of all, once it has been there for a second. A page that takes too little isn't
+/// At most 16 clients have no session, for at most 5 seconds each. For a further one the oldest makes room that has sent
+/// nothing; or else the oldest of another address that has more than 8 of these places; or else the oldest of all, once
+/// it has been there for a second. A page at an address that has as many sessions as one may have is refused. A page that takes too little isn't
 /// drawn until it has taken what waits. One that is silent for a minute is dropped; it gets a ping every 5 seconds. A
 /// session that has lost its page is kept for the time of the options, and for 5 seconds at most if the page closed
 /// its WebSocket.
@@ -653,6 +722,7 @@ pub fn run_web<R: Net + Clock + RandomSource, E: Sink>(
     rt: &R,
     alloc: Global,
     options: &WebOptions<'_>,
+    keymap: &Keymap,
     faults: &mut E,
 ) -> u8 {
     let site = match site_of(alloc, options) {
@@ -663,7 +733,7 @@ pub fn run_web<R: Net + Clock + RandomSource, E: Sink>(
             return 2;
         }
     };
-    match serve(rt, alloc, site, options, faults) {
+    match serve(rt, alloc, site, options, keymap, faults) {
         Ok(()) => 0,
         Err(fault) => report_and_exit_code(fault, faults),
     }

@@ -14,6 +14,8 @@ pub enum Notice<'a> {
     Token(Token),
     /// `heard COUNT`: the server has so many bytes of keys from the pages of the session. It says that it is there, too.
     Heard(u64),
+    /// `keymap KEY=ACTION ..`: what keys do that don't do what is usual. The text begins with a blank.
+    Keymap(&'a str),
     /// `busy`: all terminals are in use, and the page tries again by itself.
     Busy,
     /// `ended REASON`: the session has ended, and the page doesn't connect again by itself.
@@ -29,6 +31,7 @@ impl Notice<'_> {
             Notice::Size(rows, columns) => format!(in alloc; "size {rows} {columns}"),
             Notice::Token(token) => token_text(alloc, *token),
             Notice::Heard(count) => format!(in alloc; "heard {count}"),
+            Notice::Keymap(words) => format!(in alloc; "keymap{words}"),
             Notice::Busy => format!(in alloc; "busy"),
             Notice::Ended(reason) => format!(in alloc; "ended {reason}"),
         }

@@ -3,10 +3,10 @@
 //! literal is the page.
 
 /// The SHA-256 of what is in the page's element `script`, in base64.
-pub const SCRIPT_HASH: &str = "nsy7i1atZUIqog0EOje3lkATYRvTAMaTAGNgo1pCp0c=";
+pub const SCRIPT_HASH: &str = "4RMf/3Ois0dZRQ3rgL1HsDxH+vuwiksA+ss+rJgL/fA=";
 
 /// The SHA-256 of what is in the page's element `style`, in base64.
-pub const STYLE_HASH: &str = "5d4GZytdkizMCw6CRfrSpD16MT+O8YscEKEEk881ae0=";
+pub const STYLE_HASH: &str = "UfnloE6u4KpOzA9eXp9MTtZ6Xa5GeuX3RtcEUmzyfQI=";
 
 /// The page, in HTML.
 pub const PAGE: &str = "<!DOCTYPE html>
@@ -42,7 +42,7 @@ button, input, select { min-width: 3.2em; padding: 4px 6px; background: var(--ra
 button, input, select { border: 1px solid var(--plain); border-radius: 3px; font: 13px sans-serif; }
 input { width: 6em; margin-right: 4px; }
 dialog { width: 60em; max-width: 90vw; background: var(--back); color: var(--plain); }
-dialog dl { columns: 17em; margin: 0 0 8px; }
+dialog dl { columns: 17em; margin: 0 0 8px; } dialog kbd { white-space: nowrap; }
 dialog dl div { display: flex; justify-content: space-between; break-inside: avoid; }
 .lost #screen { outline: 2px dashed var(--red); }
 .bell #screen { outline: 3px solid var(--bright); }
@@ -94,11 +94,9 @@ function erase() {
   grid = Array.from({ length: rows }, () => Array.from({ length: columns }, () => blank));
   changed = new Set(grid.keys());
 }
-// U+00AD has no width in some browsers; as a hyphen it has one cell, as every other character.
 function put(number) {
   const { row, column } = cursor;
-  const glyph = number === 0xAD ? '-' : String.fromCodePoint(number);
-  const cell = { glyph, name: Object.values(look).filter(it => it).join(' ') };
+  const cell = { glyph: code(number), name: Object.values(look).filter(it => it).join(' ') };
   if (row < rows && column < columns) grid[row][column] = cell;
   changed.add(row);
   cursor = { row, column: column + 1 };
@@ -137,20 +135,6 @@ function fieldName(row, column) {
   if (start === 0 && row > 0 && isInput(grid[row - 1].at(-1))) return fieldName(row - 1, columns - 1);
   const from = line.findLastIndex((cell, at) => at < start && isInput(cell)) + 1;
   return textOf(line.slice(from, start)).trim().split(/ {2,}/).at(-1).replace(/[ .:=>_-]+$/, '') || 'field';
-}
-// How much of a pasted text there is a place for: none after the last field of the screen.
-function placeFor(letters) {
-  const cells = grid.slice(0, rows - 1).flat().map(isInput), last = cells.lastIndexOf(true);
-  let at = cursor.row * columns + cursor.column;
-  if (last < 0) return cells.length - at;
-  const fieldFrom = place => cells.findIndex((it, index) => it && index >= place && !cells[index - 1]);
-  for (const [count, letter] of letters.entries()) {
-    if (at < 0 || at > last) return count;
-    if (letter === tab) at = fieldFrom(at + 1);
-    else if (letter === newLine) at = fieldFrom((Math.floor(at / columns) + 1) * columns);
-    else if (cells[at]) at = cells[at + 1] ? at + 1 : fieldFrom(at + 1);
-  }
-  return letters.length;
 }
 // ---- What is shown: a line for each row, with a span for each run of characters of one look, in one for each field.
 let isWaiting = false, isAhead = false, selection = null;
@@ -230,32 +214,43 @@ const functionBytes = [letters.map(it => ESC + 'O' + it), numbers.map(it => CSI 
 const functionKeys = functionBytes.map((bytes, place) => ['PF' + (place + 1), bytes,
   (place < 12 ? 'F' : 'Shift-F') + (place % 12 + 1), ...{ 6: ['PageUp'], 7: ['PageDown'] }[place] ?? []]);
 const table = [
-  ['Enter', enter, 'Enter'], ['Clear', code(3), 'Pause', alt + 'C'], ['Reset', code(18), 'Escape', 'Ctrl-R'],
-  ['Erase EOF', code(5), 'End', 'Ctrl-E'], ['Erase Input', code(21), alt + 'End', 'Ctrl-U'],
-  ['New Line', newLine, 'Shift-Enter'], ['Tab', tab, 'Tab'], ['Back Tab', CSI + 'Z', 'Shift-Tab'],
-  ['PA1', ESC + '1', alt + '1', alt + 'Insert'], ['PA2', ESC + '2', alt + '2', alt + 'Home'],
-  ['PA3', ESC + '3', alt + '3'], ...functionKeys, ['Erase', code(127), 'Backspace'],
-  ['Backspace', code(8), 'Shift-Backspace'], ['Delete', CSI + '3~', 'Delete'], ['Insert', CSI + '2~', 'Insert'],
-  ['Home', CSI + 'H', 'Home'], ['Up', CSI + 'A', 'ArrowUp'], ['Down', CSI + 'B', 'ArrowDown'],
-  ['Right', CSI + 'C', 'ArrowRight'], ['Left', CSI + 'D', 'ArrowLeft'], ['Draw again', code(12), 'Ctrl-L'],
+  ['Enter', enter, 'Enter', 'KeypadEnter'], ['Clear', code(3), 'Pause', alt + 'C'],
+  ['Reset', code(18), 'Escape', 'Ctrl-R'], ['Erase EOF', code(5), 'End', 'Ctrl-E'],
+  ['Erase Input', code(21), alt + 'End', 'Ctrl-U'], ['New Line', newLine, 'Shift-Enter'], ['Tab', tab, 'Tab'],
+  ['Back Tab', CSI + 'Z', 'Shift-Tab'], ['PA1', ESC + '1', alt + '1', alt + 'Insert'],
+  ['PA2', ESC + '2', alt + '2', alt + 'Home'], ['PA3', ESC + '3', alt + '3'], ...functionKeys,
+  ['Erase', code(127), 'Backspace'], ['Backspace', code(8), 'Shift-Backspace'], ['Delete', CSI + '3~', 'Delete'],
+  ['Insert', CSI + '2~', 'Insert'], ['Home', CSI + 'H', 'Home'], ['Redraw', code(12), 'Ctrl-L'],
+  ...['Up', 'Down', 'Right', 'Left'].map((name, at) => [name, CSI + 'ABCD'[at], 'Arrow' + name]),
 ];
 const others = [
-  ['Keys', () => help.showModal(), 'Ctrl-Alt-K'], ['Buttons', () => keys.firstChild.focus(), 'Ctrl-Alt-B'],
+  ['Help', showKeys, 'Ctrl-Alt-K'], ['Buttons', () => keys.firstChild.focus(), 'Ctrl-Alt-B'],
   ['Larger', () => enlarge(1.1)], ['Smaller', () => enlarge(1 / 1.1)], ['Fit', () => enlarge(0)],
 ];
-const byKey = new Map([...table, ...others].flatMap(row => row.slice(2).map(key => [key, row])));
+const actions = [...table, ...others], byKey = new Map(actions.flatMap(row => row.slice(2).map(key => [key, row])));
+// The keymap of the server: words KEY=ACTION, by the names of crates/tty.
+const bare = name => name.replace(/[^A-Za-z0-9]/g, '').toLowerCase();
+const actionNamed = name => actions.find(([it]) => bare(it) === bare(name)) ?? ['Ignore', () => ring()];
+const keyNamed = name => name.replace(/^(Up|Down|Left|Right)$/, 'Arrow$1').replace(/^Alt-(?=[A-Z]$)/, 'Alt-Shift-')
+  .replace(/^Alt-[a-z]$/, it => 'Alt-' + it.at(-1).toUpperCase()).replace('Space', ' ').replace('Alt-', alt);
+const useKeymap = words => words.forEach(word => {
+  const [, key, action] = word.match(/^(.+)=(.+)$/);
+  byKey.set(keyNamed(key), actionNamed(action));
+});
 const isAttention = name => /^(Enter|Clear|P[AF][0-9]+)$/.test(name);
 // The name of a key: digits by their place on the keyboard, letters by the layout if it has Latin ones.
 function nameOf({ key, code, ctrlKey, altKey, shiftKey }) {
-  const isPlaced = /^Digit/.test(code) || /^Key/.test(code) && !/^[a-z]$/i.test(key);
+  const isPlaced = /^Digit/.test(code) && !shiftKey || /^Key/.test(code) && !/^[a-z]$/i.test(key);
   const name = isPlaced ? code.at(-1) : key.length === 1 ? key.toUpperCase() : key;
-  return (ctrlKey ? 'Ctrl-' : '') + (altKey ? 'Alt-' : '') + (shiftKey ? 'Shift-' : '') + name;
+  if (code === 'NumpadEnter' && !(ctrlKey || altKey || shiftKey)) return 'KeypadEnter';
+  const shift = shiftKey && !/^[^A-Z]$/.test(name) ? 'Shift-' : '';
+  return (ctrlKey ? 'Ctrl-' : '') + (altKey ? 'Alt-' : '') + shift + name;
 }
 // After a key that sends, the page locks until a drawing comes, unless keys are refused already.
 function press([name, action]) {
   if (typeof action === 'function') return action();
   if (isAttention(name) && isWaiting) return refuse('The host has not answered yet.');
-  const locks = isAttention(name) && !isOver && ['', 'X NO CODE'].includes(reason());
+  const locks = isAttention(name) && !isOver && ['', 'X NO CODE', 'X PASTE CUT'].includes(reason());
   send(action);
   if (locks) [isWaiting, lockedAt] = [true, Date.now()];
   tell();
@@ -271,12 +266,12 @@ function onKey(event) {
   if (!isOutside) press(row);
 }
 const onTyped = () => { send(typed.value); typed.value = ''; };
+// A pasted text has the marks by which crates/tty knows it, and lets it end at the last field of the screen.
 function paste(text) {
   const isTyped = it => it === newLine || it === tab || it >= ' ' && (it < code(127) || it > code(159));
-  const letters = Array.from(text.replaceAll(enter + newLine, newLine).replaceAll(enter, newLine)).filter(isTyped);
-  const rest = letters.splice(placeFor(letters));
-  send(letters.join(''));
-  if (rest.length > 0) note(`The paste ended at the last field: ${rest.length} characters are left out.`);
+  const lines = text.replaceAll(enter + newLine, newLine).replaceAll(enter, newLine);
+  if (isLocked()) return refuse('Nothing can be pasted until the host has answered.');
+  send(CSI + '200~', Array.from(lines).filter(isTyped).join(''), CSI + '201~');
 }
 function moveTo({ row, column }) {
   const steps = (count, more, less) => (CSI + (count < 0 ? less : more)).repeat(Math.abs(count));
@@ -321,7 +316,7 @@ const onpointerdown = event => event.preventDefault();
 const button = (name, onclick) => Object.assign(make('button', name), { onclick, onpointerdown });
 const isOnButton = ([, , key]) => !/^(Back|Shift-Back|Arrow|Home|Delete|Ctrl-L|Ctrl-Alt-B)/.test(key);
 const buttonOf = row => button(row[0], () => { typed.focus(); press(row); });
-keys.append(...[...table, ...others].filter(isOnButton).map(buttonOf));
+keys.append(...actions.filter(isOnButton).map(buttonOf));
 const model = make('select', ...['2', '3', '4', '5'].map(it => make('option', it))), lu = make('input');
 const menu = make('form', make('label', 'Model ', model), make('label', ' LU ', lu), make('button', 'New session'));
 menu.addEventListener('submit', event => {
@@ -332,29 +327,36 @@ menu.addEventListener('submit', event => {
   typed.focus();
 });
 keys.append(menu);
-const entries = [...table, ...others].filter(row => row.length > 2).map(([name, , ...keys]) =>
-  make('div', make('dt', name), make('dd', ...keys.flatMap(key => [make('kbd', key), ' ']))));
-help.append(make('dl', ...entries), button('Close', () => help.close()));
+function showKeys() {
+  const keysOf = row => [...byKey].filter(([, it]) => it === row).flatMap(([key]) => [make('kbd', key), ' ']);
+  const rows = actions.map(row => [row[0], keysOf(row)]).filter(([, keys]) => keys.length > 0);
+  const entries = rows.map(([name, keys]) => make('div', make('dt', name), make('dd', ...keys)));
+  help.replaceChildren(make('dl', ...entries), button('Close', () => help.close()));
+  help.showModal();
+}
 help.addEventListener('close', () => typed.focus());
 // ---- The session: `open MODEL [LU]` begins one, `resume TOKEN` resumes the one of this tab. With `heard COUNT` the
 // server says, each 5 seconds, how many bytes of keys it has; those that it hasn't got are kept, and sent again.
 const mostKept = 1000, silence = 6000, patience = 15000;
 let socket, timer, wait = 500, isOver = false, isResuming = false, isLive = false, size = null;
-let heard = null, unheard = [], heardAt = 0, lockedAt = 0, problem = '', remark = '';
+let heardAt = 0, lockedAt = 0, problem = '', remark = '';
+// They are stored only while the page is loaded again, since a password may be among them.
+let [heard, unheard] = JSON.parse(sessionStorage.getItem('unheard')) ?? [null, []];
+sessionStorage.removeItem('unheard');
 function opening() {
   const asked = new URLSearchParams(location.hash.slice(1));
   [model.value, lu.value] = [asked.get('model') || '2', asked.get('lu') ?? ''];
   return ['open', asked.get('model') || '2', lu.value].join(' ').trim();
 }
-function send(text) {
-  if (isOver) return void (text === enter && begin());
+const encoded = text => new TextEncoder().encode(text), pieces = text => text.match(/[^]{1,1000}/gu) ?? [];
+function send(...texts) {
+  if (isOver) return void (texts[0] === enter && begin());
   if (unheard.length >= mostKept) return refuse('No more keys are kept until the server answers.');
   if (isLocked() || !isLive) isAhead = true;
   note('');
-  const letters = Array.from(text);
-  for (let place = 0; place < letters.length; place += 1000) {
-    unheard.push(new TextEncoder().encode(letters.slice(place, place + 1000).join('')));
-    if (isLive) socket.send(unheard.at(-1));
+  for (const piece of texts.flatMap(pieces)) {
+    unheard.push(piece);
+    if (isLive) socket.send(encoded(piece));
   }
 }
 const note = words => { remark = words; tell(); };
@@ -380,6 +382,8 @@ function begin() {
   const address = new URL('terminal', location.href.split('#')[0]);
   address.protocol = address.protocol === 'https:' ? 'wss:' : 'ws:';
   clearTimeout(timer);
+  // The socket that it had isn't listened to any more, nor closed: to the server that would be the end of the page.
+  Object.assign(socket ?? {}, { onopen: null, onmessage: null, onclose: null });
   [isOver, isLive, awaited, socket] = [false, false, first, new WebSocket(address)];
   socket.binaryType = 'arraybuffer';
   socket.onopen = () => {
@@ -400,14 +404,7 @@ function begin() {
     wait = Math.min(wait * 2, 15000);
   };
 }
-// Takes no notice of the socket any more. It isn't closed: to the server that would be the end of the page.
-const abandon = () => [socket.onopen, socket.onmessage, socket.onclose, isLive] = [null, null, null, false];
-function restart() {
-  abandon();
-  socket.close();
-  forget();
-  begin();
-}
+const restart = () => { socket.close(); forget(); begin(); };
 function forget() {
   sessionStorage.removeItem('token');
   if (unheard.length > 0) remark = `${unheard.length} keys of the session that ended are dropped.`;
@@ -434,6 +431,7 @@ function notice(text) {
   if (word === 'size') [size, wait, isResuming, problem] = [rest.map(Number), 500, false, ''];
   else if (word === 'token') sessionStorage.setItem('token', rest[0]);
   else if (word === 'heard') take(Number(rest[0]));
+  else if (word === 'keymap') useKeymap(rest);
   else if (word === 'busy') problem = 'All terminals are in use: trying again.';
   else if (word === 'ended' && isResuming) forget();
   else if (word === 'ended') end(rest.join(' '));
@@ -441,20 +439,21 @@ function notice(text) {
 }
 function take(count) {
   heard = heard ?? count;
-  while (unheard.length > 0 && heard + unheard[0].length <= count) heard += unheard.shift().length;
-  if (!isLive) unheard.forEach(bytes => socket.send(bytes));
+  const size = piece => encoded(piece).length;
+  while (unheard.length > 0 && heard + size(unheard[0]) <= count) heard += size(unheard.shift());
+  if (!isLive) unheard.forEach(piece => socket.send(encoded(piece)));
   isLive = true;
 }
 setInterval(() => {
-  if (!isOver && isLive && Date.now() - heardAt > patience) {
-    abandon();
-    begin();
-  }
+  if (!isOver && isLive && Date.now() - heardAt > patience) begin();
   tell();
 }, 1000);
 addEventListener('resize', fit);
 addEventListener('hashchange', restart);
-addEventListener('pagehide', () => socket.close());
+addEventListener('pagehide', () => {
+  socket.close();
+  sessionStorage.setItem('unheard', JSON.stringify([heard, unheard]));
+});
 resize(25, 80);
 begin();
 typed.focus();
