@@ -326,10 +326,14 @@ def clients(
 
 
 def has_ended(client: socket.socket) -> bool:
+    """Whether the server has closed the connection, also with bytes unread (RFC 9293, 3.10.4)."""
     client.settimeout(0.3)
-    with contextlib.suppress(TimeoutError):
+    try:
         return client.recv(4096) == b""
-    return False
+    except ConnectionResetError:
+        return True
+    except TimeoutError:
+        return False
 
 
 @check
