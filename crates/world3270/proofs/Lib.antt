@@ -124,3 +124,4 @@ pub mod ClearedHost
 pub mod ClearedDown
 pub mod ClearedKeys
 pub mod Repeating
+pub mod OverNothing
