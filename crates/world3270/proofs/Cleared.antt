@@ -39,10 +39,12 @@ use Rattle.world3270.proofs.Simulation.{Simulated, Since, has_agreed, is_waiting
 abbrev pub hearing_clear : Session → Session
 hearing_clear conn = record conn { unheard = unheards.Clear }
 
--- The hosts are the same; or this one has heard of Clear while a paint waits for its answer, where that does no harm.
+-- The hosts are the same; or this one has heard of Clear while a paint waits for its answer, where that does no harm; or an erase waits for
+-- its answer, after which it is the same what was believed before.
 pub data HostsAlike (told : Link) (now : Session) : Type 0 where
   same : now ≡ told.host → HostsAlike told now
   crossed : is_painting told.host.pending ≡ true → DoesNoHarm told.host.pending told.up → now ≡ hearing_clear told.host → HostsAlike told now
+  erasing : erases told.host.pending ≡ true → now ≡ record told.host { shadow = now.shadow; unheard = now.unheard } → may_have_changed now.unheard ≡ true → HostsAlike told now
 
 -- Clear was pressed in the wait, and the host hears of it, or paints the next panel whole; or such a paint was taken, and waits for its
 -- answer. `said`: what both say.
@@ -94,14 +96,16 @@ pub data Follows (app : Application) (lu : List ℕ) (t : LinkWithReport) : Type
 pub agrees_still : {app : Application} {lu : List ℕ} {t : LinkWithReport} (c : Cleared app lu t) → is_agreed c.told.host.talk.state ≡ true
 agrees_still {app} {lu} c = has_agreed lu c.told.host.talk.state c.agreed
 
--- the hosts are alike but for what is unheard
-pub but_unheard : (told : Link) (now : Session) → HostsAlike told now → now ≡ record told.host { unheard = now.unheard }
-but_unheard told now (HostsAlike.same is) = is ∙ sym (ap (λ (u : Unheard). record told.host { unheard = u }) (ap (λ (c : Session). c.unheard) is))
-but_unheard told now (HostsAlike.crossed paints harmless is) = is ∙ sym (ap (λ (u : Unheard). record told.host { unheard = u }) (ap (λ (c : Session). c.unheard) is))
+-- the hosts are alike but for the belief and what is unheard
+pub but_belief : (told : Link) (now : Session) → HostsAlike told now → now ≡ record told.host { shadow = now.shadow; unheard = now.unheard }
+but_belief told now (HostsAlike.same is) = is ∙ sym (ap (λ (c : Session). record told.host { shadow = c.shadow; unheard = c.unheard }) is)
+but_belief told now (HostsAlike.crossed paints harmless is) = is ∙ sym (ap (λ (c : Session). record told.host { shadow = c.shadow; unheard = c.unheard }) is)
+but_belief told now (HostsAlike.erasing is_erasing is any) = is
 
 pub may_change : (told : Link) (now : Session) → HostsAlike told now → may_have_changed told.host.unheard ≡ true → may_have_changed now.unheard ≡ true
 may_change told now (HostsAlike.same is) any = ap (λ (c : Session). may_have_changed c.unheard) is ∙ any
 may_change told now (HostsAlike.crossed paints harmless is) any = ap (λ (c : Session). may_have_changed c.unheard) is
+may_change told now (HostsAlike.erasing is_erasing is changed) any = changed
 
 -- ---- the host hears of Clear
 

@@ -1,6 +1,6 @@
 -- What comes down after Clear in the wait: a paint over nothing erases, so that both terminals display the same then.
 use Rattle.std.proofs.Common.{◌≡◌, ◌<◌, inr, ℕ, Bool, true, false, None, Option, List, [], ◌∷◌, ◌++◌, length, refl, ap, sym, subst, ◌∙◌, if◌then◌else◌}
-use Rattle.std.specs.Prelude.{is_some}
+use Rattle.std.specs.Prelude.{⊤, is_some}
 use Rattle.codes3270.specs.Size.{ScreenSize, cells_in}
 use Rattle.datastream.specs.Grammar.{CommandParts}
 use Rattle.datastream.specs.Meaning.{after_command}
@@ -12,7 +12,9 @@ use Rattle.datastream.specs.Wanted.{WantedScreen}
 use Rattle.codes3270.specs.declared.size.Model.{Model}
 use Rattle.keyboard.specs.State.{Keyboard, freed}
 use Rattle.keyboard.specs.declared.key.Lock.TheVariants.{Wait}
-use Rattle.shadow.specs.Belief.{Shadow}
+use Rattle.shadow.specs.Belief.{Belief, Shadow}
+use Rattle.shadow.specs.Settled.{ReturnsInput}
+use Rattle.world3270.specs.statement.Showing.{WantsItsPanelOn}
 use Rattle.shadow.specs.Exactness.{is_erase}
 use Rattle.shadow.specs.Meets.{Meets}
 use Rattle.shadow.specs.Paint.{paint}
@@ -22,22 +24,25 @@ use Rattle.tn3270e_msg.specs.TermTable.{Term}
 use Rattle.host_core.specs.Application.{Application, IsApplication}
 use Rattle.host_core.specs.Messages.{ToHost, ToTerminal, Verdict}
 use Rattle.host_core.specs.Session.{Pending, Session}
-use Rattle.host_core.specs.Takes.{may_be_read}
-use Rattle.world3270.specs.statement.EveryTerminal.{IsWithoutFields, LinkWithReport, is_pa, once_shown, paint_executed, told_after, told_if}
+use Rattle.host_core.specs.Takes.{may_be_read, may_have_changed}
+use Rattle.host_core.specs.declared.turn.Turn.TheVariants as whose
+use Rattle.world3270.specs.statement.EveryTerminal.{LinkWithReport, is_pa, once_shown, paint_executed, told_after, told_if}
 use Rattle.world3270.specs.statement.Shown.{is_painting}
 use Rattle.world3270.specs.refinement.LowerLaws.{LowerLaws}
 use Rattle.world3270.specs.model.Link.{Link, sent, term_stepped}
-use Rattle.world3270.specs.refinement.Invariant.{ConnectionInvariant}
+use Rattle.world3270.specs.refinement.Invariant.{ConnectionInvariant, IsPainted, local_state_of}
 use Rattle.world3270.specs.refinement.Phases.{IsAt, IsInFlight, LinkPhase, SessionPhase}
 use Rattle.world3270.specs.model.Terminal.{Display, TermEnd, TermStep, bound_to, is_bound, note_came, once_bound, paint_came, talked}
 use Rattle.world3270.specs.refinement.View.{view_of}
-use Rattle.world3270.proofs.Cleared.{Cleared, HostsAlike, IsPlain, Stage, agrees_still}
+use Rattle.world3270.proofs.Cleared.{Cleared, HostsAlike, IsPlain, Stage, agrees_still, but_belief, may_change}
 use Rattle.world3270.proofs.ClearedQueue.{AddsKeys, SaysToo, any_later, both_say_too, erases, says_last}
 use Rattle.world3270.proofs.ClearsDue.{Fate, clears_due, clears_in, due_answered}
 use Rattle.world3270.proofs.ComesDown.{NoteComes, PaintComes, note_comes, paint_comes}
 use Rattle.world3270.proofs.Down.{bound, paints_on, shape_of_model, showing, term_view}
 use Rattle.world3270.proofs.NotesHeld.{bare_held, no_attributes}
 use Rattle.world3270.proofs.Obeys.{obeys}
+use Rattle.world3270.proofs.OverNothing.{fits_nothing, same_paint, same_taken, wants_over_nothing}
+use Rattle.world3270.proofs.Returning.{HostReturns, returns_at, returns_if}
 use Rattle.world3270.proofs.Queues.{empty_queue, front, nothing}
 use Rattle.world3270.proofs.SecondKeys.{SaysAlike, alike_silent}
 use Rattle.world3270.proofs.Simulation.{Since, since_same}
@@ -81,6 +86,12 @@ note_unpainted app link number command rest e k bound_here = by_moment k.moment 
     by_moment (LinkPhase.Negotiating talking) at = ap is_painting at.pending
     by_moment (LinkPhase.FirstPaint lu noted other wanted over) at = absurd (let wrong : false ≡ true = sym (ap (λ state. is_some (bound_to state)) at.term_talk) ∙ bound_here in cc)
     by_moment (LinkPhase.InSession lu serving) at = by_serving lu serving at
+
+-- the host knew of no field
+abbrev IsWithoutFields : Shadow → Type 0
+IsWithoutFields Shadow.NothingKnown = ⊤
+IsWithoutFields (Shadow.Unformatted known) = ⊤
+IsWithoutFields (Shadow.Formatted beliefs) = ⊥
 
 module _ (given : LowerLaws) (app : Application) (is : IsApplication app) (lu : List ℕ) (t : LinkWithReport) (c : Cleared app lu t) where
   abbrev end : Link
@@ -142,7 +153,7 @@ module _ (given : LowerLaws) (app : Application) (is : IsApplication app) (lu : 
       by_stage (Stage.erased uncleared erasing silent since) = absurd (let wrong = sym silent ∙ (sym c.down ∙ e) in cc)
 
   -- An erase over nothing, or over a screen without fields; what comes up before its answer does no harm.
-  pub painted_cleared : (number : ℕ) (wanted : WantedScreen) (over : Shadow) (rest : List ToTerminal) → now.down ≡ ToTerminal.Paint number wanted over ∷ rest → is_erase (paint (cells_in wanted.size) over wanted).code ≡ true → IsWithoutFields over
+  painted_cleared : (number : ℕ) (wanted : WantedScreen) (over : Shadow) (rest : List ToTerminal) → now.down ≡ ToTerminal.Paint number wanted over ∷ rest → is_erase (paint (cells_in wanted.size) over wanted).code ≡ true → IsWithoutFields over
       → Cleared app lu (taken_so (is_bound now.term) (ToTerminal.Paint number wanted over) (paint_executed number wanted over now.term) rest)
   painted_cleared number wanted over rest e erases_it without =
       subst (λ (b : Bool). Cleared app lu (taken_so b (ToTerminal.Paint number wanted over) (paint_executed number wanted over now.term) rest)) (sym bound_now)
@@ -203,6 +214,7 @@ module _ (given : LowerLaws) (app : Application) (is : IsApplication app) (lu : 
       hosts : HostsAlike end now.host → HostsAlike (term_view step rest end) now.host
       hosts (HostsAlike.same same) = HostsAlike.same same
       hosts (HostsAlike.crossed paints harmless crossed) = HostsAlike.crossed paints (λ paints. inr erasing) crossed
+      hosts (HostsAlike.erasing is_erasing is_now any) = HostsAlike.erasing is_erasing is_now any
 
       -- whatever was displayed, but for the model
       drawn : (k : Keyboard) → record now.term.display { size = wanted.size; screen = new; keyboard = k; last_restored = new; before_restored = screen; erased = false }
@@ -240,6 +252,154 @@ module _ (given : LowerLaws) (app : Application) (is : IsApplication app) (lu : 
         rest = λ shown. since.rest;
         plain = λ cleared. absurd (cc);
       }
+
+  -- An erase of a screen of which the host knew the fields, of another size: it might as well be over nothing.
+  painted_over : (number : ℕ) (wanted : WantedScreen) (beliefs : List Belief) (rest : List ToTerminal) → now.down ≡ ToTerminal.Paint number wanted (Shadow.Formatted beliefs) ∷ rest
+      → is_erase (paint (cells_in wanted.size) (Shadow.Formatted beliefs) wanted).code ≡ true
+      → Cleared app lu (taken_so (is_bound now.term) (ToTerminal.Paint number wanted (Shadow.Formatted beliefs)) (paint_executed number wanted (Shadow.Formatted beliefs) now.term) rest)
+  painted_over number wanted beliefs rest e erases_it =
+      subst (λ (b : Bool). Cleared app lu (taken_so b (ToTerminal.Paint number wanted (Shadow.Formatted beliefs)) (paint_executed number wanted (Shadow.Formatted beliefs) now.term) rest)) (sym bound_now)
+      (subst (λ (cleared : Bool). Cleared app lu (shown_so cleared number wanted (Shadow.Formatted beliefs) (paint_executed number wanted (Shadow.Formatted beliefs) now.term) rest)) (sym gone.0)
+      (subst (λ (shown : Bool). Cleared app lu (shown_if shown number wanted (Shadow.Formatted beliefs) (paint_executed number wanted (Shadow.Formatted beliefs) now.term) rest)) (sym erases_it)
+      (subst (λ (drawn : Screen). Cleared app lu (shown_if true number wanted (Shadow.Formatted beliefs) (drawn_so number wanted drawn) rest)) (sym (ap (λ (command : CommandParts). after_command command screen) (same_paint beliefs wanted erases_it) ∙ given.belief.painted Shadow.NothingKnown wanted screen cells fresh_fact.paintable.fits tt)) goes)))
+    where
+      gone : Gone
+      gone = gone_now (ToTerminal.Paint number wanted (Shadow.Formatted beliefs)) rest e
+
+      comes : PaintComes app end c.kept.wanted rest number wanted (Shadow.Formatted beliefs)
+      comes = paint_comes app end number wanted (Shadow.Formatted beliefs) rest (sym c.down ∙ e) c.kept (agrees_still c)
+
+      screen : Screen
+      screen = now.term.display.screen
+
+      new : Screen
+      new = plainly_painted wanted screen
+
+      over : Shadow
+      over = Shadow.Formatted beliefs
+
+      -- the waiting terminal's link, where the paint is over nothing
+      fresh : Link
+      fresh = record end { host = record end.host { shadow = Shadow.NothingKnown }; down = ToTerminal.Paint number wanted Shadow.NothingKnown ∷ rest }
+
+      fresh_at : IsAt (view_of fresh) c.kept.wanted (LinkPhase.InSession comes.lu (SessionPhase.Painting number comes.command wanted Shadow.NothingKnown))
+      fresh_at = record {
+        host_talk = comes.at.host_talk;
+        term_talk = comes.at.term_talk;
+        turn = comes.at.turn;
+        pending = comes.at.pending;
+        goes_down = record {
+          vanished = comes.left.vanished;
+          whole = ap (λ (l : List ToTerminal). ToTerminal.Paint number wanted Shadow.NothingKnown ∷ l) comes.left.whole;
+          none = comes.left.none;
+        };
+        goes_up = comes.at.goes_up;
+      }
+
+      fresh_fact : IsPainted (local_state_of (view_of fresh)) comes.command wanted Shadow.NothingKnown
+      fresh_fact = record {
+        lock = comes.fact.lock;
+        over_is = refl;
+        command_is = comes.fact.command_is ∙ same_paint beliefs wanted erases_it;
+        meets = tt;
+        closed = λ relies. absurd (let wrong : false ≡ true = sym (ap may_have_changed relies) ∙ c.any in cc);
+        uncleared = comes.fact.uncleared;
+        doubts = λ changed erased now held. tt;
+        paintable = record { fits = fits_nothing beliefs wanted erases_it comes.fact.paintable.fits; showable = comes.fact.paintable.showable };
+      }
+
+      fresh_asked : WantsItsPanelOn app end.term.waits (record end.host { shadow = Shadow.NothingKnown }) Shadow.NothingKnown wanted end.term.display.screen
+      fresh_asked = record {
+        wants = wants_over_nothing app end.host.talk end.host.panel end.host.values end.host.message beliefs wanted erases_it comes.asked.wants;
+        told = λ waits. absurd (let wrong : false ≡ true = sym c.unsure ∙ waits in cc);
+      }
+
+      fresh_kept : ConnectionInvariant app (view_of fresh)
+      fresh_kept = record {
+        whole = c.kept.whole;
+        cursor = c.kept.cursor;
+        unreturned = c.kept.unreturned;
+        as_left = c.kept.as_left;
+        exact = record { known = given.belief.nothing_exact.0; protected = given.belief.nothing_exact.1 };
+        wanted = c.kept.wanted;
+        moment = LinkPhase.InSession comes.lu (SessionPhase.Painting number comes.command wanted Shadow.NothingKnown);
+        sizes = record { host = c.kept.sizes.host; screen = c.kept.sizes.screen; same = λ steady. absurd (cc) };
+        at = fresh_at;
+        fact = fresh_fact;
+        shown = fresh_asked;
+      }
+
+      fresh_returning : HostReturns fresh.host
+      fresh_returning =
+          returns_if fresh.host whose.Terminal (Pending.Writing number comes.command) comes.at.turn comes.at.pending
+          (subst ReturnsInput (same_taken (cells_in end.host.size) comes.command end.host.shadow Shadow.NothingKnown (ap (λ (command : CommandParts). is_erase command.code) comes.fact.command_is ∙ erases_it))
+          (returns_at end.host whose.Terminal (Pending.Writing number comes.command) comes.at.turn comes.at.pending c.returning))
+
+      step : TermStep
+      step = paint_came number wanted (showing screen end.term)
+
+      pending : end.host.pending ≡ Pending.Writing number comes.command
+      pending = comes.at.pending
+
+      erasing : erases end.host.pending ≡ true
+      erasing = ap erases pending ∙ ap (λ (command : CommandParts). is_erase command.code) comes.fact.command_is
+          ∙ erases_it
+
+      silent : end.up ≡ []
+      silent = empty_queue end.lost end.up comes.at.goes_up
+
+      keys : AddsKeys c.clears false end.host.turn end.host.pending [] now.up
+      keys = any_later c.clears t.cleared false end.host.turn end.host.pending now.up
+          (subst (λ (said : List ToHost). AddsKeys c.clears t.cleared end.host.turn end.host.pending said now.up) (alike_silent end.host end.up c.up.said silent c.up.alike) c.up.up)
+
+      kept : ConnectionInvariant app (view_of (term_view step rest fresh))
+      kept = paints_on given app is fresh rest fresh_kept comes.lu number comes.command wanted Shadow.NothingKnown fresh_at fresh_fact fresh_asked comes.left screen tt (λ waits. absurd (let wrong : false ≡ true = sym c.unsure ∙ waits in cc))
+
+      cells : length wanted.cells ≡ cells_in wanted.size
+      cells = comes.fact.paintable.showable.cells ∙ ap (λ (shape : ScreenSize). cells_in shape) (sym comes.fact.paintable.showable.size)
+
+      -- whatever was displayed, but for the model
+      drawn : (k : Keyboard) → record now.term.display { size = wanted.size; screen = new; keyboard = k; last_restored = new; before_restored = screen; erased = false }
+          ≡ record end.term.display { size = wanted.size; screen = new; keyboard = k; last_restored = new; before_restored = screen; erased = false }
+      drawn k = ap (λ (m : Model). record end.term.display { model = m; size = wanted.size; screen = new; keyboard = k; last_restored = new; before_restored = screen; erased = false }) c.model
+
+      since : Since step.end.display (paint_came number wanted now.term).end.display
+      since = since_same given step.end.display (paint_came number wanted now.term).end.display
+          (drawn (freed now.term.display.keyboard))
+          (subst (λ (size : ℕ). new.cursor < size) (sym kept.whole) kept.cursor)
+
+      goes : Cleared app lu (shown_if true number wanted (Shadow.Formatted beliefs) (paint_came number wanted now.term) rest)
+      goes = record {
+        told = term_view step rest fresh;
+        kept = kept;
+        agreed = c.agreed;
+        any = c.any;
+        unsure = c.unsure;
+        marks = c.marks;
+        returning = fresh_returning;
+        display = sym (drawn (freed end.term.display.keyboard));
+        waits = refl;
+        bound = c.bound;
+        host_here = c.host_here;
+        term_here = c.term_here;
+        host = HostsAlike.erasing erasing (but_belief end now.host c.host) (may_change end now.host c.host c.any);
+        lost = c.lost;
+        down = refl;
+        talk = c.talk;
+        clears = c.clears;
+        up = both_say_too c.clears false fresh.host end.lost now.lost end.up now.up (ToHost.Response number Verdict.Positive) c.lost (λ paints. erasing)
+            (record { said = []; alike = SaysAlike.same (sym silent); up = keys });
+        stage = Stage.erased refl erasing (empty_queue end.lost rest comes.left) since;
+        model = c.model;
+        rest = λ shown. since.rest;
+        plain = λ cleared. absurd (cc);
+      }
+
+  pub painted_erasing : (number : ℕ) (wanted : WantedScreen) (over : Shadow) (rest : List ToTerminal) → now.down ≡ ToTerminal.Paint number wanted over ∷ rest → is_erase (paint (cells_in wanted.size) over wanted).code ≡ true
+      → Cleared app lu (taken_so (is_bound now.term) (ToTerminal.Paint number wanted over) (paint_executed number wanted over now.term) rest)
+  painted_erasing number wanted Shadow.NothingKnown rest e erases_it = painted_cleared number wanted Shadow.NothingKnown rest e erases_it tt
+  painted_erasing number wanted (Shadow.Unformatted known) rest e erases_it = painted_cleared number wanted (Shadow.Unformatted known) rest e erases_it tt
+  painted_erasing number wanted (Shadow.Formatted beliefs) rest e erases_it = painted_over number wanted beliefs rest e erases_it
 
   -- ---- a note
 
@@ -292,6 +452,7 @@ module _ (given : LowerLaws) (app : Application) (is : IsApplication app) (lu : 
 
   hosts_noted : (up : List ToHost) (down : List ToTerminal) (term : TermEnd) → is_painting end.host.pending ≡ false → HostsAlike end now.host → HostsAlike (record end { up = up; down = down; term = term }) now.host
   hosts_noted up down term unpainted (HostsAlike.same same) = HostsAlike.same same
+  hosts_noted up down term unpainted (HostsAlike.erasing is_erasing is_now any) = absurd (let wrong : false ≡ true = sym (unpainted_erases end.host.pending unpainted) ∙ is_erasing in cc)
   hosts_noted up down term unpainted (HostsAlike.crossed paints harmless crossed) = absurd (let wrong : false ≡ true = sym unpainted ∙ paints in cc)
 
   pub noted_cleared : (number : ℕ) (command : CommandParts) (rest : List ToTerminal) → now.down ≡ ToTerminal.Note number command ∷ rest

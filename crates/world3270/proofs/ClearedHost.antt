@@ -36,13 +36,14 @@ use Rattle.world3270.specs.refinement.Invariant.{ConnectionInvariant}
 use Rattle.world3270.specs.refinement.Phases.{Kind}
 use Rattle.world3270.specs.refinement.View.{view_of}
 use Rattle.world3270.proofs.Acting.{acts, answers_are_shown, asking_parts, loses, may_act_at, may_act_when}
-use Rattle.world3270.proofs.Cleared.{Cleared, Follows, HearsOfClear, HostsAlike, IsPlain, PaintAnswered, Stage, agrees_still, but_unheard, hearing_clear, hears_of_clear, may_change, paint_answers, still_cleared}
+use Rattle.world3270.proofs.Cleared.{Cleared, Follows, HearsOfClear, HostsAlike, IsPlain, PaintAnswered, Stage, agrees_still, but_belief, hearing_clear, hears_of_clear, may_change, paint_answers, still_cleared}
 use Rattle.world3270.proofs.ClearedQueue.{AddsKeys, DoesNoHarm, IsAnyKey, SaysToo, alike_cleared, clear_dropped, clears_behind, erases, noted_keys, only_keys, second_keys, second_of}
 use Rattle.world3270.proofs.ClearsDue.{Fate, clears_due, clears_in, due_behind, due_dropped, erases_no_more}
 use Rattle.world3270.proofs.HeardTurns.{GoesOn, goes_on}
 use Rattle.world3270.proofs.HostSteps.{act_changed, just_talks, still_changed}
 use Rattle.world3270.proofs.Noting.{notes}
 use Rattle.world3270.proofs.OneOfMany.{same_number}
+use Rattle.world3270.proofs.OverNothing.{same_taken}
 use Rattle.world3270.proofs.Queues.{nothing_sent}
 use Rattle.world3270.proofs.Returning.{HostReturns, returns_acted, returns_heard, returns_noted}
 use Rattle.world3270.proofs.SecondKeys.{IsSecondKey, SaysAlike, alike_silent, alike_unread, is_dropping, is_key, pending_after, second_key_dropped, turn_after, unless_read}
@@ -84,14 +85,25 @@ only_input unheards.Clear any may = absurd (cc)
 erases_is : (pending : Pending) (number : ℕ) (command : CommandParts) → pending ≡ Pending.Writing number command → erases pending ≡ true → is_erase command.code ≡ true
 erases_is pending number command is erasing = sym (ap erases is) ∙ erasing
 
--- A host that has heard of Clear makes the same of the answer to an erase.
-erase_answered : (pool : Answers) (told : Session) (number : ℕ) (command : CommandParts) → is_agreed told.talk.state ≡ true → told.pending ≡ Pending.Writing number command → is_erase command.code ≡ true → may_have_changed told.unheard ≡ true
-    → may_be_read told.unheard ≡ true → host_took pool (hearing_clear told) (ToHost.Response number Verdict.Positive) ≡ host_took pool told (ToHost.Response number Verdict.Positive)
-erase_answered pool told number command agrees pends is any may =
-    ap (λ (b : Bool). once_agreed b (response_came number Verdict.Positive told.pending (hearing_clear told)) (hearing_clear told)) agrees
-    ∙ ap (λ (p : Pending). response_came number Verdict.Positive p (hearing_clear told)) pends
-    ∙ ap (λ (b : Bool). if_answers b (quiet (if is_erase command.code then answered command (record told { unheard = unheards.Input }) else refused (hearing_clear told))) (hearing_clear told)) (same_number number)
-    ∙ ap (λ (b : Bool). quiet (if b then answered command (record told { unheard = unheards.Input }) else refused (hearing_clear told))) is
+-- A host makes the same of the answer to an erase, whatever it believed before, and whether or not it has heard of Clear.
+erase_answered_so : (pool : Answers) (told : Session) (shadow : Shadow) (unheard : Unheard) (number : ℕ) (command : CommandParts) → is_agreed told.talk.state ≡ true → told.pending ≡ Pending.Writing number command → is_erase command.code ≡ true
+    → may_have_changed told.unheard ≡ true → may_be_read told.unheard ≡ true → may_have_changed unheard ≡ true
+    → host_took pool (record told { shadow = shadow; unheard = unheard }) (ToHost.Response number Verdict.Positive) ≡ host_took pool told (ToHost.Response number Verdict.Positive)
+erase_answered_so pool told shadow unheards.Nothing number command agrees pends is any may changed = absurd (cc)
+erase_answered_so pool told shadow unheards.Input number command agrees pends is any may changed =
+    ap (λ (b : Bool). once_agreed b (response_came number Verdict.Positive told.pending (record told { shadow = shadow; unheard = unheards.Input })) (record told { shadow = shadow; unheard = unheards.Input })) agrees
+    ∙ ap (λ (p : Pending). response_came number Verdict.Positive p (record told { shadow = shadow; unheard = unheards.Input })) pends
+    ∙ ap (λ (b : Bool). if_answers b (quiet (answered command (record told { shadow = shadow; unheard = unheards.Input }))) (record told { shadow = shadow; unheard = unheards.Input })) (same_number number)
+    ∙ ap (λ (s : Shadow). quiet (record told { shadow = s; unheard = unheards.Input; pending = Pending.Nothing })) (same_taken (cells_in told.size) command shadow told.shadow is)
+    ∙ ap (λ (u : Unheard). quiet (answered command (record told { unheard = u }))) (sym (only_input told.unheard any may))
+    ∙ sym (response_took pool told Kind.APaint number command agrees pends may)
+erase_answered_so pool told shadow unheards.Clear number command agrees pends is any may changed =
+    ap (λ (b : Bool). once_agreed b (response_came number Verdict.Positive told.pending (record told { shadow = shadow; unheard = unheards.Clear })) (record told { shadow = shadow; unheard = unheards.Clear })) agrees
+    ∙ ap (λ (p : Pending). response_came number Verdict.Positive p (record told { shadow = shadow; unheard = unheards.Clear })) pends
+    ∙ ap (λ (b : Bool). if_answers b (quiet (if is_erase command.code then answered command (record told { shadow = shadow; unheard = unheards.Input }) else refused (record told { shadow = shadow; unheard = unheards.Clear }))) (record told { shadow = shadow; unheard = unheards.Clear }))
+    (same_number number)
+    ∙ ap (λ (b : Bool). quiet (if b then answered command (record told { shadow = shadow; unheard = unheards.Input }) else refused (record told { shadow = shadow; unheard = unheards.Clear }))) is
+    ∙ ap (λ (s : Shadow). quiet (record told { shadow = s; unheard = unheards.Input; pending = Pending.Nothing })) (same_taken (cells_in told.size) command shadow told.shadow is)
     ∙ ap (λ (u : Unheard). quiet (answered command (record told { unheard = u }))) (sym (only_input told.unheard any may))
     ∙ sym (response_took pool told Kind.APaint number command agrees pends may)
 
@@ -125,7 +137,7 @@ module _ (given : LowerLaws) (app : Application) (is_app : IsApplication app) (l
   now = t.link
 
   agreed_now : is_agreed now.host.talk.state ≡ true
-  agreed_now = ap (λ (s : Session). is_agreed s.talk.state) (but_unheard told now.host c.host) ∙ agrees_still c
+  agreed_now = ap (λ (s : Session). is_agreed s.talk.state) (but_belief told now.host c.host) ∙ agrees_still c
 
   abbrev heard_by : Session → Option Cause → List ToTerminal → List ToHost → LinkWithReport
   heard_by conn closes sends rest = record t { link = host_left_if closes (record now { up = rest; host = conn; down = sent now.lost now.down sends }) }
@@ -150,7 +162,7 @@ module _ (given : LowerLaws) (app : Application) (is_app : IsApplication app) (l
       → Cleared app lu (record t { link = host_stepped (host_took pool now.host message) rest now })
   drops_key pool message rest queue drops second x =
       let is : host_took pool now.host message ≡ dropping second.parts.aid now.host =
-      second_key_dropped pool now.host message second agreed_now (may_change told now.host c.host c.any) (ap (λ (s : Session). is_dropping s.turn s.pending) (but_unheard told now.host c.host) ∙ drops) in
+      second_key_dropped pool now.host message second agreed_now (may_change told now.host c.host c.any) (ap (λ (s : Session). is_dropping s.turn s.pending) (but_belief told now.host c.host) ∙ drops) in
       subst (λ (step : HostStep). Cleared app lu (record t { link = host_stepped step rest now })) (sym is)
       (dropped_so told.host now.host rest c.kept refl refl refl c.any c.host c.returning (record { said = c.up.said; alike = c.up.alike; up = x }) fate)
     where
@@ -167,18 +179,10 @@ module _ (given : LowerLaws) (app : Application) (is_app : IsApplication app) (l
   drops_clear pool message rest queue drops key clear x = by_painting (is_painting told.host.pending) refl
     where
       dropping_now : is_dropping now.host.turn now.host.pending ≡ true
-      dropping_now = ap (λ (s : Session). is_dropping s.turn s.pending) (but_unheard told now.host c.host) ∙ drops
+      dropping_now = ap (λ (s : Session). is_dropping s.turn s.pending) (but_belief told now.host c.host) ∙ drops
 
       painting_now : is_painting now.host.pending ≡ is_painting told.host.pending
-      painting_now = ap (λ (s : Session). is_painting s.pending) (but_unheard told now.host c.host)
-
-      hearing_alike : hearing_clear now.host ≡ hearing_clear told.host
-      hearing_alike = ap hearing_clear (but_unheard told now.host c.host)
-
-      goes : Cleared app lu (heard_by (hearing_clear now.host) None [] rest) → (is_painting now.host.pending ≡ false → is_unread now.host.turn_reason ≡ false) → Cleared app lu (record t { link = host_stepped (host_took pool now.host message) rest now })
-      goes so read =
-          subst (λ (step : HostStep). Cleared app lu (record t { link = host_stepped step rest now }))
-          (sym (clear_dropped pool now.host message key.parts key.is key.form clear agreed_now (may_change told now.host c.host c.any) dropping_now read)) so
+      painting_now = ap (λ (s : Session). is_painting s.pending) (but_belief told now.host c.host)
 
       harmless : DoesNoHarm told.host.pending told.up
       harmless paints = by_said ((key.fits clear).1 paints)
@@ -186,6 +190,23 @@ module _ (given : LowerLaws) (app : Application) (is_app : IsApplication app) (l
           by_said : (c.up.said ≡ []) ⊎ (erases told.host.pending ≡ true) → (told.up ≡ []) ⊎ (erases told.host.pending ≡ true)
           by_said (inl none) = inl (silent_told told.host told.up c.up.said none c.up.alike)
           by_said (inr erasing) = inr erasing
+
+      -- while a paint waits for its answer
+      hosts_hearing : is_painting told.host.pending ≡ true → HostsAlike told now.host → HostsAlike told (hearing_clear now.host)
+      hosts_hearing paints (HostsAlike.same is) = HostsAlike.crossed paints harmless (ap hearing_clear is)
+      hosts_hearing paints (HostsAlike.crossed painting harmless is) = HostsAlike.crossed paints harmless (ap hearing_clear is)
+      hosts_hearing paints (HostsAlike.erasing is_erasing is any) = HostsAlike.erasing is_erasing (ap hearing_clear is) refl
+
+      -- or none does
+      hearing_alike : is_painting told.host.pending ≡ false → HostsAlike told now.host → hearing_clear now.host ≡ hearing_clear told.host
+      hearing_alike none (HostsAlike.same is) = ap hearing_clear is
+      hearing_alike none (HostsAlike.crossed paints harmless is) = ap hearing_clear is
+      hearing_alike none (HostsAlike.erasing is_erasing is any) = absurd (let wrong : false ≡ true = sym none ∙ paints_so told.host.pending is_erasing in cc)
+
+      goes : Cleared app lu (heard_by (hearing_clear now.host) None [] rest) → (is_painting now.host.pending ≡ false → is_unread now.host.turn_reason ≡ false) → Cleared app lu (record t { link = host_stepped (host_took pool now.host message) rest now })
+      goes so read =
+          subst (λ (step : HostStep). Cleared app lu (record t { link = host_stepped step rest now }))
+          (sym (clear_dropped pool now.host message key.parts key.is key.form clear agreed_now (may_change told now.host c.host c.any) dropping_now read)) so
 
       -- where no erase waits for its answer, the host has heard of it
       fate_at : (waiting : Session) → waiting.pending ≡ told.host.pending → (erasing : Bool) → erases told.host.pending ≡ erasing → Fate told c.up.said now → Fate (record told { host = waiting }) c.up.said (heard_by (hearing_clear now.host) None [] rest).link
@@ -205,14 +226,14 @@ module _ (given : LowerLaws) (app : Application) (is_app : IsApplication app) (l
       by_painting : (paints : Bool) → is_painting told.host.pending ≡ paints → Cleared app lu (record t { link = host_stepped (host_took pool now.host message) rest now })
       by_painting true paints =
           goes (dropped_so told.host (hearing_clear now.host) rest c.kept refl refl refl c.any
-          (HostsAlike.crossed paints harmless hearing_alike) c.returning
+          (hosts_hearing paints c.host) c.returning
           (record { said = c.up.said; alike = c.up.alike; up = x }) (fate_at told.host refl (erases told.host.pending) refl))
           (λ none. absurd (let wrong : true ≡ false = sym (painting_now ∙ paints) ∙ none in cc))
       by_painting false none =
           let hears : HearsOfClear app told = hears_of_clear app told c.kept c.any (no_pa none c.stage) drops none in
-          goes (dropped_so (hearing_clear told.host) (hearing_clear now.host) rest hears.kept refl refl refl refl (HostsAlike.same hearing_alike) c.returning
+          goes (dropped_so (hearing_clear told.host) (hearing_clear now.host) rest hears.kept refl refl refl refl (HostsAlike.same (hearing_alike none c.host)) c.returning
           (record { said = c.up.said; alike = alike_cleared told.host told.up c.up.said c.any c.up.alike; up = x }) (fate_at (hearing_clear told.host) refl (erases told.host.pending) refl))
-          (λ unpainted. ap (λ (s : Session). is_unread s.turn_reason) (but_unheard told now.host c.host) ∙ hears.read)
+          (λ unpainted. ap (λ (s : Session). is_unread s.turn_reason) (but_belief told now.host c.host) ∙ hears.read)
 
   -- Any other message is heard of both; of what the waiting terminal says first the host makes the same.
   hears_both : (entries : List Entry) → IsSound entries → (message : ToHost) → host_took (answer_to entries) now.host message ≡ host_took (answer_to entries) told.host message → (rest others : List ToHost) → now.up ≡ message ∷ rest → c.up.said ≡ message ∷ others
@@ -263,6 +284,7 @@ module _ (given : LowerLaws) (app : Application) (is_app : IsApplication app) (l
           by_harm : (told.up ≡ []) ⊎ (erases told.host.pending ≡ true) → step.conn.unheard ≡ now.host.unheard
           by_harm (inl silent) = absurd (let wrong = sym silent ∙ alike.is in cc)
           by_harm (inr erasing) = absurd (let wrong : false ≡ true = sym none ∙ erasing in cc)
+      unheard_is none (HostsAlike.erasing is_erasing is any) = absurd (let wrong : false ≡ true = sym none ∙ is_erasing in cc)
 
       fate : Fate told c.up.said now → Fate (host_view step others told) others (heard_by step.conn None step.sends rest).link
       fate (Fate.is_lost lost) = Fate.is_lost lost
@@ -338,32 +360,31 @@ module _ (given : LowerLaws) (app : Application) (is_app : IsApplication app) (l
       pool : Answers
       pool = answer_to entries
 
+      -- both say the same, since no read is pending
+      message_is : (it : PaintAnswered told alike.first) → message ≡ ToHost.Response it.number Verdict.Positive
+      message_is it = heads message alike.first others others (sym some ∙ by_alike c.up.alike ∙ alike.is) ∙ it.first_is
+        where
+          by_alike : SaysAlike told.host told.up c.up.said → c.up.said ≡ told.up
+          by_alike (SaysAlike.same same) = same
+          by_alike (SaysAlike.checked number one other more pends skips one_kept other_kept is_told is_said) =
+              absurd (let wrong : Pending.Reading number ≡ Pending.Writing it.number it.command = sym pends ∙ it.pending in cc)
+
+      by_erase : (shadow : Shadow) (unheard : Unheard) → now.host ≡ record told.host { shadow = shadow; unheard = unheard } → may_have_changed unheard ≡ true → erases told.host.pending ≡ true → host_took pool now.host message ≡ host_took pool told.host message
+      by_erase shadow unheard is changed erasing =
+          let it : PaintAnswered told alike.first = paint_answers app told alike.first others c.kept (paints_so told.host.pending erasing) alike.is in
+          ap (λ (s : Session). host_took pool s message) is
+          ∙ ap (λ (m : ToHost). host_took pool (record told.host { shadow = shadow; unheard = unheard }) m) (message_is it)
+          ∙ erase_answered_so pool told.host shadow unheard it.number it.command (agrees_still c) it.pending (erases_is told.host.pending it.number it.command it.pending erasing) c.any it.uncleared changed
+          ∙ ap (λ (m : ToHost). host_took pool told.host m) (sym (message_is it))
+
       by_host : HostsAlike told now.host → host_took pool now.host message ≡ host_took pool told.host message
       by_host (HostsAlike.same is) = ap (λ (s : Session). host_took pool s message) is
       by_host (HostsAlike.crossed paints harmless is) = by_harm (harmless paints)
         where
-          it : PaintAnswered told alike.first
-          it = paint_answers app told alike.first others c.kept paints alike.is
-
-          -- both say the same, since unpainted read is pending
-          same_said : c.up.said ≡ told.up
-          same_said = by_alike c.up.alike
-            where
-              by_alike : SaysAlike told.host told.up c.up.said → c.up.said ≡ told.up
-              by_alike (SaysAlike.same same) = same
-              by_alike (SaysAlike.checked number one other more pends skips one_kept other_kept is_told is_said) =
-                  absurd (let wrong : Pending.Reading number ≡ Pending.Writing it.number it.command = sym pends ∙ it.pending in cc)
-
-          message_is : message ≡ ToHost.Response it.number Verdict.Positive
-          message_is = heads message alike.first others others (sym some ∙ same_said ∙ alike.is) ∙ it.first_is
-
           by_harm : (told.up ≡ []) ⊎ (erases told.host.pending ≡ true) → host_took pool now.host message ≡ host_took pool told.host message
           by_harm (inl none) = absurd (let wrong = sym none ∙ alike.is in cc)
-          by_harm (inr erasing) =
-              ap (λ (s : Session). host_took pool s message) is
-              ∙ ap (λ (m : ToHost). host_took pool (hearing_clear told.host) m) message_is
-              ∙ erase_answered pool told.host it.number it.command (agrees_still c) it.pending (erases_is told.host.pending it.number it.command it.pending erasing) c.any it.uncleared
-              ∙ ap (λ (m : ToHost). host_took pool told.host m) (sym message_is)
+          by_harm (inr erasing) = by_erase told.host.shadow unheards.Clear is refl erasing
+      by_host (HostsAlike.erasing is_erasing is any) = by_erase now.host.shadow now.host.unheard is any is_erasing
 
   pub hears_cleared : (entries : List Entry) → IsSound entries → (message : ToHost) (rest : List ToHost) → now.up ≡ message ∷ rest
       → Follows app lu (record t { link = host_stepped (host_took (answer_to entries) now.host message) rest now })
@@ -480,6 +501,8 @@ module _ (given : LowerLaws) (app : Application) (is : IsApplication app) (lu : 
     where
       by_host : HostsAlike end t.link.host → Cleared app lu (sends_so (sends t.link.host))
       by_host (HostsAlike.same same) = subst (λ (conn : Session). Cleared app lu (sends_so (sends conn))) (sym same) (goes same)
+      by_host (HostsAlike.erasing is_erasing is_now any) =
+          subst (λ (sending : Option Sent). Cleared app lu (sends_so sending)) (sym (none t.link.host (ap (λ (s : Session). is_painting s.pending) is_now ∙ paints_so end.host.pending is_erasing))) c
       by_host (HostsAlike.crossed paints harmless is_now) =
           subst (λ (sending : Option Sent). Cleared app lu (sends_so sending)) (sym (none t.link.host (ap (λ (s : Session). is_painting s.pending) is_now ∙ paints))) c
 
@@ -549,3 +572,4 @@ module _ (given : LowerLaws) (app : Application) (is : IsApplication app) (lu : 
       hosts_lost : HostsAlike end t.link.host → HostsAlike (cut end) t.link.host
       hosts_lost (HostsAlike.same same) = HostsAlike.same same
       hosts_lost (HostsAlike.crossed paints harmless is_now) = HostsAlike.crossed paints harmless is_now
+      hosts_lost (HostsAlike.erasing is_erasing is_now any) = HostsAlike.erasing is_erasing is_now any

@@ -331,149 +331,151 @@ module _ (app : Application) (lu : List ℕ) (t : LinkWithReport) where
 
 module _ (given : LowerLaws) (app : Application) (lu : List ℕ) (t : LinkWithReport) (c : Cleared app lu t) (uncleared : t.cleared ≡ false) (erasing : erases c.told.host.pending ≡ true) (silent : c.told.down ≡ []) (since : Since c.told.term.display t.link.term.display)
   where
-  abbrev waiting : Link
-  waiting = c.told
+    abbrev waiting : Link
+    waiting = c.told
 
-  abbrev here : Link
-  here = t.link
+    abbrev here : Link
+    here = t.link
 
-  keys_now : AddsKeys c.clears false waiting.host.turn waiting.host.pending c.up.said here.up
-  keys_now = subst (λ (later : Bool). AddsKeys c.clears later waiting.host.turn waiting.host.pending c.up.said here.up) uncleared c.up.up
+    keys_now : AddsKeys c.clears false waiting.host.turn waiting.host.pending c.up.said here.up
+    keys_now = subst (λ (later : Bool). AddsKeys c.clears later waiting.host.turn waiting.host.pending c.up.said here.up) uncleared c.up.up
 
-  up_now : SaysToo c.clears false waiting.host waiting.up here.up
-  up_now = record { said = c.up.said; alike = c.up.alike; up = keys_now }
+    up_now : SaysToo c.clears false waiting.host waiting.up here.up
+    up_now = record { said = c.up.said; alike = c.up.alike; up = keys_now }
 
-  -- the waiting terminal is at this display and queue then, and this one at that
-  typed_on : (end : Link) (link : Link) (told : Display) (waits : Bool) → end ≡ record waiting { term = record waiting.term { display = end.term.display }; up = end.up } → link ≡ record here { term = record here.term { display = link.term.display }; up = link.up }
-      → ConnectionInvariant app (view_of end) → end.term.display ≡ record told { keyboard = end.term.display.keyboard } → waits ≡ is_waiting end.term.display.keyboard.lock
-      → SaysToo c.clears false waiting.host end.up link.up → Since end.term.display link.term.display → Cleared app lu (record { link = link; told = told; waits = waits; cleared = false })
-  typed_on end link told waits end_is link_is kept display waits_is up since = record {
-    told = end;
-    kept = kept;
-    agreed = ap (λ (l : Link). agreed_lu l.host.talk.state) end_is ∙ c.agreed;
-    any = ap (λ (l : Link). may_have_changed l.host.unheard) end_is ∙ c.any;
-    unsure = ap (λ (l : Link). l.term.waits) end_is ∙ c.unsure;
-    marks = c.marks;
-    returning = subst (λ (h : Session). HostReturns h) (sym host_is) c.returning;
-    display = display;
-    waits = waits_is;
-    bound = ap (λ (l : Link). is_bound l.term) end_is ∙ c.bound;
-    host_here = ap (λ (l : Link). l.host_here) link_is ∙ c.host_here;
-    term_here = ap (λ (l : Link). is_some l.term_here) link_is ∙ c.term_here;
-    host = subst (λ (h : Session). HostsAlike end h) (sym (ap (λ (l : Link). l.host) link_is)) (hosts c.host);
-    lost = ap (λ (l : Link). l.lost) link_is ∙ c.lost ∙ sym (ap (λ (l : Link). l.lost) end_is);
-    down = ap (λ (l : Link). l.down) link_is ∙ c.down ∙ sym (ap (λ (l : Link). l.down) end_is);
-    talk = ap (λ (l : Link). l.term.talk) link_is ∙ c.talk ∙ sym (ap (λ (l : Link). l.term.talk) end_is);
-    clears = c.clears;
-    up = subst (λ (h : Session). SaysToo c.clears false h end.up link.up) (sym host_is) up;
-    stage = Stage.erased refl (ap (λ (h : Session). erases h.pending) host_is ∙ erasing) (ap (λ (l : Link). l.down) end_is ∙ silent) since;
-    model = ap (λ (d : Display). d.model) since.rest;
-    rest = λ shown. since.rest;
-    plain = λ cleared. absurd (cc);
-  }
-    where
-      host_is : end.host ≡ waiting.host
-      host_is = ap (λ (l : Link). l.host) end_is
+    -- the waiting terminal is at this display and queue then, and this one at that
+    typed_on : (end : Link) (link : Link) (told : Display) (waits : Bool) → end ≡ record waiting { term = record waiting.term { display = end.term.display }; up = end.up } → link ≡ record here { term = record here.term { display = link.term.display }; up = link.up }
+        → ConnectionInvariant app (view_of end) → end.term.display ≡ record told { keyboard = end.term.display.keyboard } → waits ≡ is_waiting end.term.display.keyboard.lock
+        → SaysToo c.clears false waiting.host end.up link.up → Since end.term.display link.term.display → Cleared app lu (record { link = link; told = told; waits = waits; cleared = false })
+    typed_on end link told waits end_is link_is kept display waits_is up since = record {
+      told = end;
+      kept = kept;
+      agreed = ap (λ (l : Link). agreed_lu l.host.talk.state) end_is ∙ c.agreed;
+      any = ap (λ (l : Link). may_have_changed l.host.unheard) end_is ∙ c.any;
+      unsure = ap (λ (l : Link). l.term.waits) end_is ∙ c.unsure;
+      marks = c.marks;
+      returning = subst (λ (h : Session). HostReturns h) (sym host_is) c.returning;
+      display = display;
+      waits = waits_is;
+      bound = ap (λ (l : Link). is_bound l.term) end_is ∙ c.bound;
+      host_here = ap (λ (l : Link). l.host_here) link_is ∙ c.host_here;
+      term_here = ap (λ (l : Link). is_some l.term_here) link_is ∙ c.term_here;
+      host = subst (λ (h : Session). HostsAlike end h) (sym (ap (λ (l : Link). l.host) link_is)) (hosts c.host);
+      lost = ap (λ (l : Link). l.lost) link_is ∙ c.lost ∙ sym (ap (λ (l : Link). l.lost) end_is);
+      down = ap (λ (l : Link). l.down) link_is ∙ c.down ∙ sym (ap (λ (l : Link). l.down) end_is);
+      talk = ap (λ (l : Link). l.term.talk) link_is ∙ c.talk ∙ sym (ap (λ (l : Link). l.term.talk) end_is);
+      clears = c.clears;
+      up = subst (λ (h : Session). SaysToo c.clears false h end.up link.up) (sym host_is) up;
+      stage = Stage.erased refl (ap (λ (h : Session). erases h.pending) host_is ∙ erasing) (ap (λ (l : Link). l.down) end_is ∙ silent) since;
+      model = ap (λ (d : Display). d.model) since.rest;
+      rest = λ shown. since.rest;
+      plain = λ cleared. absurd (cc);
+    }
+      where
+        host_is : end.host ≡ waiting.host
+        host_is = ap (λ (l : Link). l.host) end_is
 
-      hosts : HostsAlike waiting here.host → HostsAlike end here.host
-      hosts (HostsAlike.same is) = HostsAlike.same (is ∙ sym host_is)
-      hosts (HostsAlike.crossed paints harmless is) =
-          HostsAlike.crossed (ap (λ (h : Session). is_painting h.pending) host_is ∙ paints) (λ paints. inr (ap (λ (h : Session). erases h.pending) host_is ∙ erasing)) (is ∙ ap hearing_clear (sym host_is))
+        hosts : HostsAlike waiting here.host → HostsAlike end here.host
+        hosts (HostsAlike.same is) = HostsAlike.same (is ∙ sym host_is)
+        hosts (HostsAlike.erasing is_erasing is any) =
+            HostsAlike.erasing (ap (λ (h : Session). erases h.pending) host_is ∙ is_erasing) (is ∙ ap (λ (h : Session). record h { shadow = here.host.shadow; unheard = here.host.unheard }) (sym host_is)) any
+        hosts (HostsAlike.crossed paints harmless is) =
+            HostsAlike.crossed (ap (λ (h : Session). is_painting h.pending) host_is ∙ paints) (λ paints. inr (ap (λ (h : Session). erases h.pending) host_is ∙ erasing)) (is ∙ ap hearing_clear (sym host_is))
 
-  -- in the operator's turn
-  abbrev typed : TermStep → LinkWithReport
-  typed step = record { link = term_stepped step here.down here; told = step.end.display; waits = is_queued step.sends; cleared = false }
+    -- in the operator's turn
+    abbrev typed : TermStep → LinkWithReport
+    typed step = record { link = term_stepped step here.down here; told = step.end.display; waits = is_queued step.sends; cleared = false }
 
-  silent_up : SaysToo c.clears false waiting.host (sent waiting.lost waiting.up []) (sent here.lost here.up [])
-  silent_up =
-      subst (λ (up : List ToHost). SaysToo c.clears false waiting.host up (sent here.lost here.up [])) (sym (nothing_sent waiting.lost waiting.up))
-      (subst (λ (up : List ToHost). SaysToo c.clears false waiting.host waiting.up up) (sym (nothing_sent here.lost here.up)) up_now)
+    silent_up : SaysToo c.clears false waiting.host (sent waiting.lost waiting.up []) (sent here.lost here.up [])
+    silent_up =
+        subst (λ (up : List ToHost). SaysToo c.clears false waiting.host up (sent here.lost here.up [])) (sym (nothing_sent waiting.lost waiting.up))
+        (subst (λ (up : List ToHost). SaysToo c.clears false waiting.host waiting.up up) (sym (nothing_sent here.lost here.up)) up_now)
 
-  edits_typing : (waiting.term.display.keyboard.lock ≡ Wait → ⊥) → (keyboard : Keyboard) (cells : List Cell) (cursor : ℕ) (nulls : Bool) → KeptByKeys nulls here.term.display.screen.cells cells → cursor < length cells
-      → Cleared app lu (typed (shows keyboard (edited cells cursor nulls here.term.display) [] here.term))
-  edits_typing free keyboard cells cursor nulls held on =
-      let same : here.term.display ≡ record waiting.term.display { keyboard = here.term.display.keyboard } = since.same free in
-      let held_told : KeptByKeys nulls waiting.term.display.screen.cells cells = subst (λ (d : Display). KeptByKeys nulls d.screen.cells cells) same held in
-      let step : TermStep = shows keyboard (edited cells cursor nulls here.term.display) [] here.term in
-      typed_on (edited_link cells cursor nulls waiting) (typed step).link step.end.display false refl refl
-      (edits_kept given app waiting cells cursor nulls c.kept free held_told on)
-      (ap (λ (d : Display). record (edited cells cursor nulls d) { keyboard = freed waiting.term.display.keyboard }) (sym same)) refl silent_up
-      (since_same given (edited_link cells cursor nulls waiting).term.display step.end.display (ap (λ (d : Display). record (edited cells cursor nulls d) { keyboard = keyboard }) same) on)
+    edits_typing : (waiting.term.display.keyboard.lock ≡ Wait → ⊥) → (keyboard : Keyboard) (cells : List Cell) (cursor : ℕ) (nulls : Bool) → KeptByKeys nulls here.term.display.screen.cells cells → cursor < length cells
+        → Cleared app lu (typed (shows keyboard (edited cells cursor nulls here.term.display) [] here.term))
+    edits_typing free keyboard cells cursor nulls held on =
+        let same : here.term.display ≡ record waiting.term.display { keyboard = here.term.display.keyboard } = since.same free in
+        let held_told : KeptByKeys nulls waiting.term.display.screen.cells cells = subst (λ (d : Display). KeptByKeys nulls d.screen.cells cells) same held in
+        let step : TermStep = shows keyboard (edited cells cursor nulls here.term.display) [] here.term in
+        typed_on (edited_link cells cursor nulls waiting) (typed step).link step.end.display false refl refl
+        (edits_kept given app waiting cells cursor nulls c.kept free held_told on)
+        (ap (λ (d : Display). record (edited cells cursor nulls d) { keyboard = freed waiting.term.display.keyboard }) (sym same)) refl silent_up
+        (since_same given (edited_link cells cursor nulls waiting).term.display step.end.display (ap (λ (d : Display). record (edited cells cursor nulls d) { keyboard = keyboard }) same) on)
 
-  sends_typing : (waiting.term.display.keyboard.lock ≡ Wait → ⊥) → (keyboard : Keyboard) (aid : Aid) → (aid ≡ NoAid → ⊥) → Cleared app lu (typed (shows keyboard (after_sending aid here.term.display) (data_by aid here.term) here.term))
-  sends_typing free keyboard aid some =
-      let same : here.term.display ≡ record waiting.term.display { keyboard = here.term.display.keyboard } = since.same free in
-      let end : Link = sent_link aid waiting in
-      let step : TermStep = shows keyboard (after_sending aid here.term.display) (data_by aid here.term) here.term in
-      let bound_here : is_bound here.term ≡ true = ap (λ talk. is_some (bound_to talk.talk.state)) c.talk ∙ c.bound in
-      let screen_told : Screen = with_aid aid waiting.term.display.screen in
-      let data_told : ToHost = ToHost.Data (modified_data Modified waiting.term.display.size screen_told) in
-      let says_told : data_by aid waiting.term ≡ data_told ∷ [] = ap (λ (bound : Bool). data_of bound (Send aid) waiting.term.display.size screen_told) c.bound in
-      let says_so : data_by aid here.term ≡ data_told ∷ [] =
-      ap (λ (bound : Bool). data_of bound (Send aid) here.term.display.size (with_aid aid here.term.display.screen)) bound_here
-      ∙ ap (λ (d : Display). ToHost.Data (modified_data Modified d.size (with_aid aid d.screen)) ∷ []) same in
-      typed_on end (typed step).link step.end.display (is_queued (data_by aid here.term)) refl refl
-      (sends_kept given app waiting aid c.kept free some)
-      (ap (λ (d : Display). record (after_sending aid d) { keyboard = record waiting.term.display.keyboard { lock = Wait } }) (sym same))
-      (ap (λ (bound : Bool). is_queued (data_of bound (Send aid) here.term.display.size (with_aid aid here.term.display.screen))) bound_here)
-      (subst (λ (says : List ToHost). SaysToo c.clears false waiting.host (sent waiting.lost waiting.up says) (sent here.lost here.up (data_by aid here.term))) (sym says_told)
-      (subst (λ (says : List ToHost). SaysToo c.clears false waiting.host (sent waiting.lost waiting.up (data_told ∷ [])) (sent here.lost here.up says)) (sym says_so)
-      (both_say_too c.clears false waiting.host waiting.lost here.lost waiting.up here.up data_told c.lost (λ paints. erasing) up_now)))
-      (since_same given end.term.display step.end.display (ap (λ (d : Display). record (after_sending aid d) { keyboard = keyboard }) same)
-      (subst (λ (size : ℕ). (with_aid aid here.term.display.screen).cursor < size) (sym (with_aid-whole aid here.term.display.screen)) (with_aid-cursor aid here.term.display.screen (length here.term.display.screen.cells) since.cursor)))
+    sends_typing : (waiting.term.display.keyboard.lock ≡ Wait → ⊥) → (keyboard : Keyboard) (aid : Aid) → (aid ≡ NoAid → ⊥) → Cleared app lu (typed (shows keyboard (after_sending aid here.term.display) (data_by aid here.term) here.term))
+    sends_typing free keyboard aid some =
+        let same : here.term.display ≡ record waiting.term.display { keyboard = here.term.display.keyboard } = since.same free in
+        let end : Link = sent_link aid waiting in
+        let step : TermStep = shows keyboard (after_sending aid here.term.display) (data_by aid here.term) here.term in
+        let bound_here : is_bound here.term ≡ true = ap (λ talk. is_some (bound_to talk.talk.state)) c.talk ∙ c.bound in
+        let screen_told : Screen = with_aid aid waiting.term.display.screen in
+        let data_told : ToHost = ToHost.Data (modified_data Modified waiting.term.display.size screen_told) in
+        let says_told : data_by aid waiting.term ≡ data_told ∷ [] = ap (λ (bound : Bool). data_of bound (Send aid) waiting.term.display.size screen_told) c.bound in
+        let says_so : data_by aid here.term ≡ data_told ∷ [] =
+        ap (λ (bound : Bool). data_of bound (Send aid) here.term.display.size (with_aid aid here.term.display.screen)) bound_here
+        ∙ ap (λ (d : Display). ToHost.Data (modified_data Modified d.size (with_aid aid d.screen)) ∷ []) same in
+        typed_on end (typed step).link step.end.display (is_queued (data_by aid here.term)) refl refl
+        (sends_kept given app waiting aid c.kept free some)
+        (ap (λ (d : Display). record (after_sending aid d) { keyboard = record waiting.term.display.keyboard { lock = Wait } }) (sym same))
+        (ap (λ (bound : Bool). is_queued (data_of bound (Send aid) here.term.display.size (with_aid aid here.term.display.screen))) bound_here)
+        (subst (λ (says : List ToHost). SaysToo c.clears false waiting.host (sent waiting.lost waiting.up says) (sent here.lost here.up (data_by aid here.term))) (sym says_told)
+        (subst (λ (says : List ToHost). SaysToo c.clears false waiting.host (sent waiting.lost waiting.up (data_told ∷ [])) (sent here.lost here.up says)) (sym says_so)
+        (both_say_too c.clears false waiting.host waiting.lost here.lost waiting.up here.up data_told c.lost (λ paints. erasing) up_now)))
+        (since_same given end.term.display step.end.display (ap (λ (d : Display). record (after_sending aid d) { keyboard = keyboard }) same)
+        (subst (λ (size : ℕ). (with_aid aid here.term.display.screen).cursor < size) (sym (with_aid-whole aid here.term.display.screen)) (with_aid-cursor aid here.term.display.screen (length here.term.display.screen.cells) since.cursor)))
 
-  -- in the wait
-  abbrev untold_so : TermStep → LinkWithReport
-  untold_so step = record { link = term_stepped step here.down here; told = t.told; waits = true; cleared = false }
+    -- in the wait
+    abbrev untold_so : TermStep → LinkWithReport
+    untold_so step = record { link = term_stepped step here.down here; told = t.told; waits = true; cleared = false }
 
-  edits_waiting : waiting.term.display.keyboard.lock ≡ Wait → (keyboard : Keyboard) (cells : List Cell) (cursor : ℕ) (nulls : Bool) → KeptByKeys nulls here.term.display.screen.cells cells → cursor < length cells
-      → Cleared app lu (untold_so (shows keyboard (edited cells cursor nulls here.term.display) [] here.term))
-  edits_waiting waits keyboard cells cursor nulls held on =
-      typed_on waiting (untold_so (shows keyboard (edited cells cursor nulls here.term.display) [] here.term)).link t.told true refl refl c.kept c.display (sym (ap is_waiting waits))
-      (subst (λ (up : List ToHost). SaysToo c.clears false waiting.host waiting.up up) (sym (nothing_sent here.lost here.up)) up_now)
-      (record {
-        erased = since.erased || nulls;
-        held = given.keys.composes since.erased nulls waiting.term.display.screen.cells here.term.display.screen.cells cells since.held held;
-        rest = ap (λ (d : Display). record (edited cells cursor nulls d) { keyboard = keyboard }) since.rest;
-        erasing = ap (λ (b : Bool). b || nulls) since.erasing ∙ or_again waiting.term.display.erased since.erased nulls;
-        same = λ free. absurd (free waits);
-        cursor = on;
-      })
+    edits_waiting : waiting.term.display.keyboard.lock ≡ Wait → (keyboard : Keyboard) (cells : List Cell) (cursor : ℕ) (nulls : Bool) → KeptByKeys nulls here.term.display.screen.cells cells → cursor < length cells
+        → Cleared app lu (untold_so (shows keyboard (edited cells cursor nulls here.term.display) [] here.term))
+    edits_waiting waits keyboard cells cursor nulls held on =
+        typed_on waiting (untold_so (shows keyboard (edited cells cursor nulls here.term.display) [] here.term)).link t.told true refl refl c.kept c.display (sym (ap is_waiting waits))
+        (subst (λ (up : List ToHost). SaysToo c.clears false waiting.host waiting.up up) (sym (nothing_sent here.lost here.up)) up_now)
+        (record {
+          erased = since.erased || nulls;
+          held = given.keys.composes since.erased nulls waiting.term.display.screen.cells here.term.display.screen.cells cells since.held held;
+          rest = ap (λ (d : Display). record (edited cells cursor nulls d) { keyboard = keyboard }) since.rest;
+          erasing = ap (λ (b : Bool). b || nulls) since.erasing ∙ or_again waiting.term.display.erased since.erased nulls;
+          same = λ free. absurd (free waits);
+          cursor = on;
+        })
 
-  sends_waiting : waiting.term.display.keyboard.lock ≡ Wait → (keyboard : Keyboard) (aid : Aid) → (aid ≡ NoAid → ⊥) → (aid ≡ Clear → ⊥) → Cleared app lu (untold_so (shows keyboard (after_sending aid here.term.display) (data_by aid here.term) here.term))
-  sends_waiting waits keyboard aid some unclear =
-      typed_on waiting (untold_so (shows keyboard (after_sending aid here.term.display) (data_by aid here.term) here.term)).link t.told true refl refl c.kept c.display (sym (ap is_waiting waits))
-      (record { said = c.up.said; alike = c.up.alike; up = key_queued app waiting here c.clears false c.up.said c.kept c.up.alike waits c.lost (is_bound here.term) here.lost aid some (λ clear. absurd (unclear clear)) refl keys_now })
-      (record {
-        erased = since.erased;
-        held = subst (λ (cells : List Cell). KeptByKeys since.erased waiting.term.display.screen.cells cells) (sym (same_cells aid here.term.display.screen (keys_but_clear aid some unclear))) since.held;
-        rest = ap (λ (d : Display). record (after_sending aid d) { keyboard = keyboard }) since.rest;
-        erasing = since.erasing;
-        same = λ free. absurd (free waits);
-        cursor = subst (λ (size : ℕ). (with_aid aid here.term.display.screen).cursor < size) (sym (with_aid-whole aid here.term.display.screen))
-            (with_aid-cursor aid here.term.display.screen (length here.term.display.screen.cells) since.cursor);
-      })
+    sends_waiting : waiting.term.display.keyboard.lock ≡ Wait → (keyboard : Keyboard) (aid : Aid) → (aid ≡ NoAid → ⊥) → (aid ≡ Clear → ⊥) → Cleared app lu (untold_so (shows keyboard (after_sending aid here.term.display) (data_by aid here.term) here.term))
+    sends_waiting waits keyboard aid some unclear =
+        typed_on waiting (untold_so (shows keyboard (after_sending aid here.term.display) (data_by aid here.term) here.term)).link t.told true refl refl c.kept c.display (sym (ap is_waiting waits))
+        (record { said = c.up.said; alike = c.up.alike; up = key_queued app waiting here c.clears false c.up.said c.kept c.up.alike waits c.lost (is_bound here.term) here.lost aid some (λ clear. absurd (unclear clear)) refl keys_now })
+        (record {
+          erased = since.erased;
+          held = subst (λ (cells : List Cell). KeptByKeys since.erased waiting.term.display.screen.cells cells) (sym (same_cells aid here.term.display.screen (keys_but_clear aid some unclear))) since.held;
+          rest = ap (λ (d : Display). record (after_sending aid d) { keyboard = keyboard }) since.rest;
+          erasing = since.erasing;
+          same = λ free. absurd (free waits);
+          cursor = subst (λ (size : ℕ). (with_aid aid here.term.display.screen).cursor < size) (sym (with_aid-whole aid here.term.display.screen))
+              (with_aid-cursor aid here.term.display.screen (length here.term.display.screen.cells) since.cursor);
+        })
 
-  typing : (waiting.term.display.keyboard.lock ≡ Wait → ⊥) → (step : TermStep) → Operates here.term step → Cleared app lu (typed step)
-  typing free step (Operates.edits keyboard cells cursor nulls held on is) = subst (λ (step : TermStep). Cleared app lu (typed step)) (sym is) (edits_typing free keyboard cells cursor nulls held on)
-  typing free step (Operates.sends keyboard aid some is) = subst (λ (step : TermStep). Cleared app lu (typed step)) (sym is) (sends_typing free keyboard aid some)
+    typing : (waiting.term.display.keyboard.lock ≡ Wait → ⊥) → (step : TermStep) → Operates here.term step → Cleared app lu (typed step)
+    typing free step (Operates.edits keyboard cells cursor nulls held on is) = subst (λ (step : TermStep). Cleared app lu (typed step)) (sym is) (edits_typing free keyboard cells cursor nulls held on)
+    typing free step (Operates.sends keyboard aid some is) = subst (λ (step : TermStep). Cleared app lu (typed step)) (sym is) (sends_typing free keyboard aid some)
 
-  waits_on : waiting.term.display.keyboard.lock ≡ Wait → (step : TermStep) (does : Operates here.term step) → (key_pressed does ≡ Clear → ⊥) → Cleared app lu (untold_so step)
-  waits_on waits step (Operates.edits keyboard cells cursor nulls held on is) unclear = subst (λ (step : TermStep). Cleared app lu (untold_so step)) (sym is) (edits_waiting waits keyboard cells cursor nulls held on)
-  waits_on waits step (Operates.sends keyboard aid some is) unclear = subst (λ (step : TermStep). Cleared app lu (untold_so step)) (sym is) (sends_waiting waits keyboard aid some unclear)
+    waits_on : waiting.term.display.keyboard.lock ≡ Wait → (step : TermStep) (does : Operates here.term step) → (key_pressed does ≡ Clear → ⊥) → Cleared app lu (untold_so step)
+    waits_on waits step (Operates.edits keyboard cells cursor nulls held on is) unclear = subst (λ (step : TermStep). Cleared app lu (untold_so step)) (sym is) (edits_waiting waits keyboard cells cursor nulls held on)
+    waits_on waits step (Operates.sends keyboard aid some is) unclear = subst (λ (step : TermStep). Cleared app lu (untold_so step)) (sym is) (sends_waiting waits keyboard aid some unclear)
 
-  pub operates_erased : (step : TermStep) (does : Operates here.term step) → (t.waits ≡ true → key_pressed does ≡ Clear → ⊥) → Cleared app lu (operated step t)
-  operates_erased step does unclear = by_lock waiting.term.display.keyboard.lock refl
-    where
-      by_waits : (waits : Bool) → t.waits ≡ waits → Cleared app lu (record { link = term_stepped step here.down here; told = if waits then t.told else step.end.display; waits = waits || is_queued step.sends; cleared = false }) → Cleared app lu (operated step t)
-      by_waits waits is goes =
-          subst (λ (b : Bool). Cleared app lu (record (operated step t) { cleared = b })) (sym (operated_none t step does uncleared unclear))
-          (subst (λ (b : Bool). Cleared app lu (record { link = term_stepped step here.down here; told = if b then t.told else step.end.display; waits = b || is_queued step.sends; cleared = false })) (sym is) goes)
+    pub operates_erased : (step : TermStep) (does : Operates here.term step) → (t.waits ≡ true → key_pressed does ≡ Clear → ⊥) → Cleared app lu (operated step t)
+    operates_erased step does unclear = by_lock waiting.term.display.keyboard.lock refl
+      where
+        by_waits : (waits : Bool) → t.waits ≡ waits → Cleared app lu (record { link = term_stepped step here.down here; told = if waits then t.told else step.end.display; waits = waits || is_queued step.sends; cleared = false }) → Cleared app lu (operated step t)
+        by_waits waits is goes =
+            subst (λ (b : Bool). Cleared app lu (record (operated step t) { cleared = b })) (sym (operated_none t step does uncleared unclear))
+            (subst (λ (b : Bool). Cleared app lu (record { link = term_stepped step here.down here; told = if b then t.told else step.end.display; waits = b || is_queued step.sends; cleared = false })) (sym is) goes)
 
-      by_lock : (lock : Lock) → waiting.term.display.keyboard.lock ≡ lock → Cleared app lu (operated step t)
-      by_lock Wait is = by_waits true (c.waits ∙ ap is_waiting is) (waits_on is step does (unclear (c.waits ∙ ap is_waiting is)))
-      by_lock Free is = by_waits false (c.waits ∙ ap is_waiting is) (typing (λ waits. let both = sym is ∙ waits in absurd (cc)) step does)
-      by_lock Error is = by_waits false (c.waits ∙ ap is_waiting is) (typing (λ waits. let both = sym is ∙ waits in absurd (cc)) step does)
+        by_lock : (lock : Lock) → waiting.term.display.keyboard.lock ≡ lock → Cleared app lu (operated step t)
+        by_lock Wait is = by_waits true (c.waits ∙ ap is_waiting is) (waits_on is step does (unclear (c.waits ∙ ap is_waiting is)))
+        by_lock Free is = by_waits false (c.waits ∙ ap is_waiting is) (typing (λ waits. let both = sym is ∙ waits in absurd (cc)) step does)
+        by_lock Error is = by_waits false (c.waits ∙ ap is_waiting is) (typing (λ waits. let both = sym is ∙ waits in absurd (cc)) step does)
 
 -- ---- the operator does something
 

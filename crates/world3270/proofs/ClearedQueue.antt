@@ -100,8 +100,12 @@ with_clears clears later turn pending told (message ∷ real) (inl x) =
     let key = x.1 in
     inl (x.0, record { parts = key.parts; is = key.is; form = key.form; key = key.key; fits = λ clear. (refl, (key.fits clear).1) }, with_clears clears later turn pending told real x.2)
 with_clears clears later turn pending told (message ∷ real) (inr x) =
-    inr (x.0, x.1, subst (λ (b : Bool). AddsKeys b true (turn_after message turn) (pending_after message pending) x.0 real) (sym (both_true message))
-    (with_clears (clears_behind message clears later) later (turn_after message turn) (pending_after message pending) x.0 real x.2))
+    inr (
+      x.0,
+      x.1,
+      subst (λ (b : Bool). AddsKeys b true (turn_after message turn) (pending_after message pending) x.0 real) (sym (both_true message))
+          (with_clears (clears_behind message clears later) later (turn_after message turn) (pending_after message pending) x.0 real x.2),
+    )
 
 pub other_key : (aid : Aid) → is_any_key aid ≡ true → (aid ≡ Clear → ⊥) → is_key aid ≡ true
 other_key Enter key unclear = refl
@@ -124,8 +128,12 @@ second_keys turn pending told [] x = x
 second_keys turn pending told (message ∷ real) (inl x) =
     inl (x.0, second_of x.1 (λ clear. absurd (let wrong : false ≡ true = (x.1.fits clear).0 in cc)), second_keys turn pending told real x.2)
 second_keys turn pending told (message ∷ real) (inr x) =
-    inr (x.0, x.1, second_keys (turn_after message turn) (pending_after message pending) x.0 real
-    (subst (λ (b : Bool). AddsKeys b false (turn_after message turn) (pending_after message pending) x.0 real) (none_behind message) x.2))
+    inr (
+      x.0,
+      x.1,
+      second_keys (turn_after message turn) (pending_after message pending) x.0 real
+          (subst (λ (b : Bool). AddsKeys b false (turn_after message turn) (pending_after message pending) x.0 real) (none_behind message) x.2),
+    )
 
 -- ---- more is said
 
@@ -166,8 +174,11 @@ same_last_too clears later turn pending told (first ∷ real) message only (inl 
     let key = x.1 in
     inl (x.0, record { parts = key.parts; is = key.is; form = key.form; key = key.key; fits = λ clear. ((key.fits clear).0, λ paints. inr (only paints)) }, same_last_too clears later turn pending told real message only x.2)
 same_last_too clears later turn pending told (first ∷ real) message only (inr x) =
-    inr (x.0 ++ message ∷ [], ap (λ (l : List ToHost). l ++ message ∷ []) x.1,
-    same_last_too (clears_behind first clears later) later (turn_after first turn) (pending_after first pending) x.0 real message (erases_behind first pending only) x.2)
+    inr (
+      x.0 ++ message ∷ [],
+      ap (λ (l : List ToHost). l ++ message ∷ []) x.1,
+      same_last_too (clears_behind first clears later) later (turn_after first turn) (pending_after first pending) x.0 real message (erases_behind first pending only) x.2,
+    )
 
 pub alike_last : (conn : Session) (told said : List ToHost) (message : ToHost) → SaysAlike conn told said → SaysAlike conn (told ++ message ∷ []) (said ++ message ∷ [])
 alike_last conn told said message (SaysAlike.same is) = SaysAlike.same (ap (λ (l : List ToHost). l ++ message ∷ []) is)

@@ -68,9 +68,9 @@ use Rattle.world3270.proofs.SecondKeys.{AddsSecondKeys, SaysAlike}
 use Rattle.world3270.proofs.Simulation.{Simulated, since_same}
 use Rattle.world3270.proofs.Unreturned.{all_as_left, all_kept}
 use Rattle.world3270.proofs.Worlds.{some_cells}
-use Rattle.world3270.proofs.Cleared.{Cleared, Follows, HostsAlike, Stage, but_unheard, hearing_clear}
-use Rattle.world3270.proofs.ClearedDown.{Gone, gone_now, noted_cleared, painted_cleared, talked_cleared}
-use Rattle.world3270.proofs.ClearedHost.{acts_cleared, answers_cleared, hears_cleared, loses_cleared, notes_cleared, painting_waits}
+use Rattle.world3270.proofs.Cleared.{Cleared, Follows, HostsAlike, Stage, but_belief, hearing_clear}
+use Rattle.world3270.proofs.ClearedDown.{Gone, gone_now, noted_cleared, painted_erasing, talked_cleared}
+use Rattle.world3270.proofs.ClearedHost.{acts_cleared, answers_cleared, hears_cleared, loses_cleared, notes_cleared, painting_waits, paints_so}
 use Rattle.world3270.proofs.ClearedKeys.{operates_cleared, operates_first}
 use Rattle.world3270.proofs.Repeating.{AfterPaint, Repeating, acts_repeating, agrees_there, answers_repeating, hears_repeating, loses_repeating, notes_repeating, operates_repeating, paint_ruined}
 use Rattle.world3270.proofs.WithoutClear.{IsWithoutClear}
@@ -209,7 +209,7 @@ module _ (given : LowerLaws) (app : Application) (is : IsApplication app) (lu : 
       gone = gone_now given app is lu t c (ToTerminal.Paint number wanted over) rest is_down
 
       by_erase : (erases : Bool) → is_erase (paint (cells_in wanted.size) over wanted).code ≡ erases → IsBeside app lu (came_down (ToTerminal.Paint number wanted over ∷ rest) t)
-      by_erase true erases = IsBeside.follows (Follows.cleared (painted_cleared given app is lu t c number wanted over rest is_down erases (crosses gone.0 erases)))
+      by_erase true erases = IsBeside.follows (Follows.cleared (painted_erasing given app is lu t c number wanted over rest is_down erases))
       by_erase false keeps = IsBeside.repeats (paint_ruined app is lu t c gone.0 gone.1 gone.2 gone.3 number wanted over rest is_down keeps)
 
   move_cleared : (move : Move) (t : LinkWithReport) → IsByTheRules move t → Cleared app lu t → IsBeside app lu (moved app move t)
@@ -520,12 +520,13 @@ painting_turn app link k paints = by_moment k.moment k.at (sym (ap is_painting k
 right_cleared : LowerLaws → WrittenIsThere → KeptStaysThere → (app : Application) → IsApplication app → (lu : List ℕ) (t : LinkWithReport) → Cleared app lu t → RightOf app lu t
 right_cleared given written kept app is lu t c = by_painting (is_painting c.told.host.pending) refl
   where
-    alike : t.link.host ≡ record c.told.host { unheard = t.link.host.unheard }
-    alike = but_unheard c.told t.link.host c.host
+    alike : t.link.host ≡ record c.told.host { shadow = t.link.host.shadow; unheard = t.link.host.unheard }
+    alike = but_belief c.told t.link.host c.host
 
     same_host : is_painting c.told.host.pending ≡ false → HostsAlike c.told t.link.host → t.link.host ≡ c.told.host
     same_host unpainted (HostsAlike.same same) = same
     same_host unpainted (HostsAlike.crossed paints harmless crossed) = absurd (let wrong : false ≡ true = sym unpainted ∙ paints in cc)
+    same_host unpainted (HostsAlike.erasing is_erasing is_now any) = absurd (let wrong : false ≡ true = sym unpainted ∙ paints_so c.told.host.pending is_erasing in cc)
 
     held : Stage t c.told c.up.said → t.cleared ≡ false → (erased : Bool) × KeptByKeys erased c.told.term.display.screen.cells t.link.term.display.screen.cells
     held (Stage.gone cleared locked no_pa fate) uncleared = absurd (let wrong : true ≡ false = sym cleared ∙ uncleared in cc)

@@ -131,3 +131,4 @@ pub mod ClearedKeys
 pub mod Agreeing
 pub mod AgreeingTurns
 pub mod Repeating
+pub mod OverNothing

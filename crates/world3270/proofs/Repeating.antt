@@ -49,7 +49,7 @@ use Rattle.world3270.specs.statement.Rules.{Operates, after_sending, data_by, ed
 use Rattle.world3270.specs.statement.Showing.{IsDecided}
 use Rattle.world3270.specs.statement.Shown.{is_painting}
 use Rattle.world3270.proofs.Acting.{loses, model_here}
-use Rattle.world3270.proofs.Cleared.{Cleared, HostsAlike, IsPlain, Stage, agrees_still, but_unheard, hearing_clear, may_change}
+use Rattle.world3270.proofs.Cleared.{Cleared, HostsAlike, IsPlain, Stage, agrees_still, hearing_clear, may_change}
 use Rattle.world3270.proofs.ClearedHost.{IsClearOr, clear_or, key_unclear, no_act, no_answer, no_note, nothing_erases}
 use Rattle.world3270.proofs.ClearedQueue.{AddsKeys, DoesNoHarm, IsAnyKey, SaysToo, clear_dropped, erases, is_any_key, other_key}
 use Rattle.world3270.proofs.ClearsDue.{Fate, clears_due, clears_in, is_clear_data, one_more}
@@ -108,8 +108,11 @@ answered_last number heard [] keys (inl is) = inr (refl, is, tt)
 answered_last number heard [] keys (inr some) = absurd (let wrong : ⊥ = omega arith in wrong)
 answered_last number heard (message ∷ up) keys h =
     let key = keys.0 in
-    inl (key, answered_last number (heard || is_clear key.parts.aid) up keys.1
-    (one_left heard (is_clear key.parts.aid) (clears_in up) (subst (λ (m : ToHost). (heard ≡ true) ⊎ (0 < one_more (is_clear_data m) (clears_in up))) key.is h)))
+    inl (
+      key,
+      answered_last number (heard || is_clear key.parts.aid) up keys.1
+          (one_left heard (is_clear key.parts.aid) (clears_in up) (subst (λ (m : ToHost). (heard ≡ true) ⊎ (0 < one_more (is_clear_data m) (clears_in up))) key.is h)),
+    )
 
 keys_last : (up : List ToHost) (key : ToHost) → IsKeyData key → AreKeys up → AreKeys (up ++ key ∷ [])
 keys_last [] key is keys = (is, tt)
@@ -222,6 +225,11 @@ module _ (app : Application) (is : IsApplication app) (lu : List ℕ) (t : LinkW
       unerased : erases end.host.pending ≡ false
       unerased = ap erases comes.at.pending ∙ ap (λ (command : CommandParts). is_erase command.code) comes.fact.command_is ∙ no_erase
 
+      exact_host : erases end.host.pending ≡ false → HostsAlike end now.host → now.host ≡ record end.host { unheard = now.host.unheard }
+      exact_host none (HostsAlike.same same) = same ∙ sym (ap (λ (s : Session). record end.host { unheard = s.unheard }) same)
+      exact_host none (HostsAlike.crossed paints harmless crossed) = crossed ∙ sym (ap (λ (s : Session). record end.host { unheard = s.unheard }) crossed)
+      exact_host none (HostsAlike.erasing is_erasing is_now any) = absurd (let wrong : false ≡ true = sym none ∙ is_erasing in cc)
+
       said_none : c.up.said ≡ []
       said_none = alike_silent end.host end.up c.up.said silent c.up.alike
 
@@ -266,7 +274,7 @@ module _ (app : Application) (is : IsApplication app) (lu : List ℕ) (t : LinkW
         wanted = wanted;
         over = over;
         at = comes.at;
-        after = AfterPaint.answering number comes.command comes.at.pending (sym (ap erases comes.at.pending) ∙ unerased) (but_unheard end now.host c.host) (may_change end now.host c.host c.any) (by_lost now.lost refl);
+        after = AfterPaint.answering number comes.command comes.at.pending (sym (ap erases comes.at.pending) ∙ unerased) (exact_host unerased c.host) (may_change end now.host c.host c.any) (by_lost now.lost refl);
       }
 
 -- ---- the host hears
@@ -432,12 +440,16 @@ module _ (app : Application) (lu : List ℕ) (t : LinkWithReport) (r : Repeating
   key_or_none false aid some = inl refl
   key_or_none true aid some =
       let parts : InboundParts = modified_data Modified doing.term.display.size (with_aid aid doing.term.display.screen) in
-      inr (ToHost.Data parts, refl, record {
-        parts = parts;
-        is = refl;
-        form = key_form doing.term.display.size (with_aid aid doing.term.display.screen);
-        key = ap is_any_key (key_aid doing.term.display.size (with_aid aid doing.term.display.screen) ∙ with_aid-aid aid doing.term.display.screen) ∙ any_key aid some;
-      })
+      inr (
+        ToHost.Data parts,
+        refl,
+        record {
+          parts = parts;
+          is = refl;
+          form = key_form doing.term.display.size (with_aid aid doing.term.display.screen);
+          key = ap is_any_key (key_aid doing.term.display.size (with_aid aid doing.term.display.screen) ∙ with_aid-aid aid doing.term.display.screen) ∙ any_key aid some;
+        },
+      )
 
   does_so : (step : TermStep) → Operates doing.term step → Repeating app lu (untold step)
   does_so step (Operates.edits keyboard cells cursor nulls held on is) =

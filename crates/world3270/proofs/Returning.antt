@@ -78,7 +78,7 @@ pub returns_at : (conn : Session) (turn : Turn) (pending : Pending) → conn.tur
 returns_at conn turn pending turns pends returns =
     subst (λ (p : Pending). ReturnsWhile turn p conn.size conn.turn_reason conn.shadow) pends (subst (λ (t : Turn). ReturnsWhile t conn.pending conn.size conn.turn_reason conn.shadow) turns returns)
 
-returns_if : (conn : Session) (turn : Turn) (pending : Pending) → conn.turn ≡ turn → conn.pending ≡ pending → ReturnsWhile turn pending conn.size conn.turn_reason conn.shadow → HostReturns conn
+pub returns_if : (conn : Session) (turn : Turn) (pending : Pending) → conn.turn ≡ turn → conn.pending ≡ pending → ReturnsWhile turn pending conn.size conn.turn_reason conn.shadow → HostReturns conn
 returns_if conn turn pending turns pends returns =
     subst (λ (t : Turn). ReturnsWhile t conn.pending conn.size conn.turn_reason conn.shadow) (sym turns) (subst (λ (p : Pending). ReturnsWhile turn p conn.size conn.turn_reason conn.shadow) (sym pends) returns)
 

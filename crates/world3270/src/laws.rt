@@ -252,9 +252,9 @@ pub fn a_lost_connection_takes_nothing()
 /// leaves under way. The second panel has more rows than the first, so the size of the screen changes on the way there
 /// and back. When the host decides, it knows what was typed. Also runs of one connection: of a terminal whose Reset
 /// ends the wait, with a host that serves any terminal, and with one that relies on the wait, whose panel keeps what
-/// was typed meanwhile; of one whose second Enter the host drops, from which it learns nothing; of one whose Clear the host drops, before or
-/// after it sends a panel; of four terminals that
-/// break one rule each; and of one that keeps all rules.
+/// was typed meanwhile; of one whose second Enter the host drops, from which it learns nothing; of one whose Clear the
+/// host drops, before or after it sends a panel; of four terminals that break one rule each; and of one that keeps all
+/// rules.
 pub fn the_runs_end_so()
     ensures { TheRunsEndSo }
 {}
@@ -425,9 +425,9 @@ pub fn terminals_keep_the_rules()
 /// application decides on the key. If the host itself decides what to show, it is where the key leads on that screen.
 /// After a paint is answered, the screen that it left shows the panel, whatever was typed before. Neither end closes
 /// the connection for a cause. The terminal need not wait for the host: meanwhile its operator may type, and press any
-/// key. But Clear isn't pressed in the wait after PA; and it crosses no Read Buffer, and no erase of a screen of which the
-/// host knew the fields. After it the present screen isn't what the host believes, until the next panel, which is painted
-/// whole. A panel that was written without an erase, and that Clear crossed, is shown again.
+/// key. But Clear isn't pressed in the wait after PA, and crosses no Read Buffer. After it the present screen isn't
+/// what the host believes, until the next panel, which is painted whole. A panel that was written without an erase, and
+/// that Clear crossed, is shown again.
 pub fn every_terminal()
     ensures { EveryTerminal }
 {

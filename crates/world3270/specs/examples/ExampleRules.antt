@@ -172,7 +172,8 @@ pub record ToldRun : Type 0 where
 
 -- ---- Clear in the wait
 
--- `A` in the first field, and PF6, about which the host asks the application; then Reset and Clear, which the host hears
+-- `A` in the first field, and PF6, about which the host asks the application; then Reset and Clear, which the host
+-- hears
 abbrev pub clears_in_the_wait : List Deed
 clears_in_the_wait = signs_on ++ presses (key.Char 0x41) ∷ presses (key.Pf 6) ∷ goes_up ∷ presses key.Reset
     ∷ presses key.Clear ∷ goes_up ∷ []

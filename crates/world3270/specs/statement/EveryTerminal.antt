@@ -188,18 +188,11 @@ abbrev pub key_pressed : {end : TermEnd} {step : TermStep} → Operates end step
 key_pressed (Operates.edits keyboard cells cursor erases held on is) = NoAid
 key_pressed (Operates.sends keyboard aid some is) = aid
 
--- Holds if the host knew of no field when it sent a paint.
-abbrev pub IsWithoutFields : Shadow → Type 0
-IsWithoutFields Shadow.NothingKnown = ⊤
-IsWithoutFields (Shadow.Unformatted known) = ⊤
-IsWithoutFields (Shadow.Formatted beliefs) = ⊥
-
--- Holds if no Read Buffer, and no erase of a screen of which the host knew the fields, is next for the terminal: after
--- Clear in the wait these would have crossed it. Notes and other paints may.
+-- Holds if no Read Buffer is next for the terminal: after Clear in the wait it would have crossed it. Paints and notes
+-- may.
 abbrev pub CrossesNoClear : List ToTerminal → Type 0
 CrossesNoClear [] = ⊤
-CrossesNoClear (ToTerminal.Paint number wanted over ∷ rest) =
-    is_erase (paint (cells_in wanted.size) over wanted).code ≡ true → IsWithoutFields over
+CrossesNoClear (ToTerminal.Paint number wanted over ∷ rest) = ⊤
 CrossesNoClear (ToTerminal.ReadBuffer number ∷ rest) = ⊥
 CrossesNoClear (ToTerminal.Note number command ∷ rest) = ⊤
 CrossesNoClear (ToTerminal.TalksDown saying ∷ rest) = ⊤
@@ -265,9 +258,9 @@ pub record IsRepeating (host : Session) : Type 0 where
 -- connect and after Clear neither has a field, and else the screen that the last paint left shows the panel. The
 -- application decides on the key there, and after Enter no required field is left blank. If the host itself decides to
 -- show a panel, the key that was pressed on what it was told leads there.
--- After a paint is answered, the screen that it left shows the panel, whatever was typed in the wait before it, or
--- pressed: after Clear, too. Only a panel that is shown again since Clear crossed its paint is no decision on a key, and
--- isn't there before; that happens only after Clear in the wait.
+-- After a paint is answered, the screen that it left shows the panel, whatever was typed or pressed in the wait before
+-- it, Clear too. Only while the host is about to show a panel again, since Clear crossed its paint, it decides on no
+-- key, and the panel isn't there; that happens only after Clear in the wait.
 -- The host believes all that the terminal sends: no screen is restored. Neither end has closed the connection for a
 -- cause: both are attached.
 pub record RightOf (app : Application) (lu : List ℕ) (t : LinkWithReport) : Type 0 where
@@ -288,7 +281,8 @@ pub record RightOf (app : Application) (lu : List ℕ) (t : LinkWithReport) : Ty
   pub key_asked : ShowsItsFields app → WantsItsFields app → (session : ℕ) (question : Question)
       → question_in app session t.link.host ≡ Some question
       → IsKeyAsked app t.link.host question t.told.screen
-  pub leads : (IsRepeating t.link.host → ⊥) → ShowsItsFields app → WantsItsFields app → (asked : ℕ) (message : Message) (keep : Bool) (given : Values)
+  pub leads : (IsRepeating t.link.host → ⊥) → ShowsItsFields app → WantsItsFields app → (asked : ℕ) (message : Message)
+      (keep : Bool) (given : Values)
       → decision_in app t.link.host ≡ Some (Decision.Do (HostAct.Show asked message keep given))
       → IsLedTo app (model_in t.link.host) (panel_with_keys app t.link.host t.told.screen.aid) t.told.screen
       (app.shown (model_in t.link.host) asked) message keep
