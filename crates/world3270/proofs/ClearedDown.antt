@@ -321,6 +321,7 @@ module _ (given : LowerLaws) (app : Application) (is : IsApplication app) (lu : 
         unreturned = c.kept.unreturned;
         as_left = c.kept.as_left;
         exact = record { known = given.belief.nothing_exact.0; protected = given.belief.nothing_exact.1 };
+        unrestored = c.kept.unrestored;
         wanted = c.kept.wanted;
         moment = LinkPhase.InSession comes.lu (SessionPhase.Painting number comes.command wanted Shadow.NothingKnown);
         sizes = record { host = c.kept.sizes.host; screen = c.kept.sizes.screen; same = λ steady. absurd (cc) };
