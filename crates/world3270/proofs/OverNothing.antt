@@ -13,20 +13,18 @@ use Rattle.panels.specs.declared.message.Message.{Message}
 use Rattle.shadow.specs.Belief.{Belief, Shadow, cells_of_fields}
 use Rattle.shadow.specs.Exactness.{is_erase}
 use Rattle.shadow.specs.Fits.{fields_fit, fits, is_keep, is_paintable}
-use Rattle.shadow.specs.Paint.{erase_code, known_nulls, paint, painting, to_store, writes_over}
+use Rattle.shadow.specs.Paint.{erase_code, known_nulls, paint, painting, to_store}
 use Rattle.shadow.specs.Taken.{laid_out, marks_off_if, taken, taken_code}
 use Rattle.tn3270e_msg.specs.Talk.{Talk}
 use Rattle.tn3270e_msg.specs.declared.host_talk.HostState.{HostState}
-use Rattle.host_core.specs.Acts.{Act, Decision, after_key, decision_on, is_in_doubt, is_to_be_read, learned, may_keep, on_key, wanted_by, when_shown}
+use Rattle.host_core.specs.Acts.{Act, Decision, decision_on, is_in_doubt, learned, may_keep, on_key, wanted_by, when_shown}
 use Rattle.host_core.specs.Application.{Application}
-use Rattle.host_core.specs.Questions.{act_by, is_ask, panel_for}
+use Rattle.host_core.specs.Questions.{is_ask}
 use Rattle.host_core.specs.Session.{Session}
-use Rattle.host_core.specs.Takes.{is_verified, may_be_read, may_have_changed, unheard_next}
+use Rattle.host_core.specs.Takes.{may_be_read, may_have_changed}
 use Rattle.host_core.specs.declared.turn_reason.TurnReason.{TurnReason}
 use Rattle.host_core.specs.declared.turn_reason.TurnReason.TheVariants as turn_reasons
-use Rattle.host_core.specs.declared.unheard.Unheard.{Unheard}
-use Rattle.host_core.specs.declared.unheard.Unheard.TheVariants as unheards
-use Rattle.world3270.specs.statement.Showing.{IsDecided, IsWantedFor, KnowsItsFields}
+use Rattle.world3270.specs.statement.Showing.{IsDecided, IsWantedFor}
 use Rattle.world3270.proofs.Cleared.{hearing_clear}
 
 -- ---- what is painted
@@ -103,11 +101,12 @@ module _ (app : Application) (conn : Session) where
   same_decision : (reason : TurnReason) (decision : Decision) → (decision ≡ Decision.Do Act.Read → ⊥) → decision_on app conn reason ≡ decision → decision_on app (hearing_clear conn) reason ≡ decision
   same_decision turn_reasons.Agreement decision unread is = is
   same_decision turn_reasons.Refusal decision unread is = is
+  same_decision turn_reasons.Restoration decision unread is = is
   same_decision (turn_reasons.Key Clear buffered) decision unread is = is
   same_decision (turn_reasons.Key (Pa key) buffered) decision unread is = is
   same_decision (turn_reasons.Key Enter buffered) decision unread is = same_led Enter buffered decision (λ reads. unread (sym is ∙ ap (λ (b : Bool). if b then Decision.Do Act.Read else led Enter) reads)) is
   same_decision (turn_reasons.Key (Pf key) buffered) decision unread is = same_led (Pf key) buffered decision (λ reads. unread (sym is ∙ ap (λ (b : Bool). if b then Decision.Do Act.Read else led (Pf key)) reads)) is
-  same_decision (turn_reasons.Key NoAid buffered) decision unread is = same_led NoAid buffered decision (λ reads. unread (sym is ∙ ap (λ (b : Bool). if b then Decision.Do Act.Read else led NoAid) reads)) is
+  same_decision (turn_reasons.Key NoAid buffered) decision unread is = is
 
   same_ask : (reason : TurnReason) → is_ask (decision_on app conn reason) ≡ true → is_ask (decision_on app (hearing_clear conn) reason) ≡ true
   same_ask reason asks = ap is_ask (same_decision reason (decision_on app conn reason) (λ reads. let wrong : false ≡ true = sym (ap is_ask reads) ∙ asks in absurd (cc)) refl) ∙ asks
