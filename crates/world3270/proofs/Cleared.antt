@@ -1,9 +1,8 @@
 -- A terminal at which Clear was pressed in the wait, beside one that waits and displays what was told: the screens differ, but the host paints
 -- the next panel whole.
-use Rattle.std.proofs.Common.{◌≡◌, ◌||◌, not, ℕ, Bool, true, false, Some, List, [], ◌∷◌, length, refl, ap, sym, subst, ◌∙◌}
+use Rattle.std.proofs.Common.{◌≡◌, ◌||◌, not, ℕ, Bool, true, false, Some, List, [], ◌∷◌, length, ap, sym, subst, ◌∙◌}
 use Rattle.std.specs.Prelude.{is_some}
 use Rattle.codes3270.specs.Size.{ScreenSize}
-use Rattle.codes3270.specs.declared.attention.Aid.{Aid}
 use Rattle.datastream.specs.Fields.{fields}
 use Rattle.datastream.specs.Grammar.{CommandParts}
 use Rattle.datastream.specs.Screen.{Screen}
@@ -16,13 +15,11 @@ use Rattle.host_core.specs.Messages.{ToHost, Verdict}
 use Rattle.host_core.specs.Session.{Session, Pending, agreed_lu, is_agreed}
 use Rattle.host_core.specs.Takes.{is_after_pa, is_unread, may_be_read, may_have_changed}
 use Rattle.host_core.specs.declared.turn.Turn.{Turn}
-use Rattle.host_core.specs.declared.turn_reason.TurnReason.{TurnReason}
-use Rattle.host_core.specs.declared.turn_reason.TurnReason.TheVariants as turn_reasons
 use Rattle.host_core.specs.declared.unheard.Unheard.{Unheard}
 use Rattle.host_core.specs.declared.unheard.Unheard.TheVariants as unheards
 use Rattle.world3270.specs.model.Link.{Link}
 use Rattle.world3270.specs.model.Terminal.{TermEnd, is_bound}
-use Rattle.world3270.specs.refinement.Invariant.{ConnectionInvariant, Decides, Fact, IsNew, LocalState, Sees, ShownAt, Sizes, counts, local_state_of, once_taken}
+use Rattle.world3270.specs.refinement.Invariant.{ConnectionInvariant, Decides, Fact, LocalState, Sees, ShownAt, Sizes, local_state_of, once_taken}
 use Rattle.world3270.specs.refinement.Phases.{IsAt, IsInFlight, Kind, LinkPhase, SessionPhase, pending_at, turn_at}
 use Rattle.world3270.specs.refinement.View.{view_of}
 use Rattle.world3270.specs.statement.EveryTerminal.{LinkWithReport, is_pa}

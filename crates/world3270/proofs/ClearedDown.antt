@@ -32,13 +32,13 @@ use Rattle.world3270.specs.refinement.LowerLaws.{LowerLaws}
 use Rattle.world3270.specs.model.Link.{Link, sent, term_stepped}
 use Rattle.world3270.specs.refinement.Invariant.{ConnectionInvariant, IsPainted, local_state_of}
 use Rattle.world3270.specs.refinement.Phases.{IsAt, IsInFlight, LinkPhase, SessionPhase}
-use Rattle.world3270.specs.model.Terminal.{Display, TermEnd, TermStep, bound_to, is_bound, note_came, once_bound, paint_came, talked}
+use Rattle.world3270.specs.model.Terminal.{Display, TermEnd, TermStep, bound_to, is_bound, note_came, once_bound, paint_came}
 use Rattle.world3270.specs.refinement.View.{view_of}
 use Rattle.world3270.proofs.Cleared.{Cleared, HostsAlike, IsPlain, Stage, agrees_still, but_belief, may_change}
 use Rattle.world3270.proofs.ClearedQueue.{AddsKeys, SaysToo, any_later, both_say_too, erases, says_last}
 use Rattle.world3270.proofs.ClearsDue.{Fate, clears_due, clears_in, due_answered}
 use Rattle.world3270.proofs.ComesDown.{NoteComes, PaintComes, note_comes, paint_comes}
-use Rattle.world3270.proofs.Down.{bound, paints_on, shape_of_model, showing, term_view}
+use Rattle.world3270.proofs.Down.{paints_on, shape_of_model, showing, term_view}
 use Rattle.world3270.proofs.NotesHeld.{bare_held, no_attributes}
 use Rattle.world3270.proofs.Obeys.{obeys}
 use Rattle.world3270.proofs.OverNothing.{fits_nothing, same_paint, same_taken, wants_over_nothing}

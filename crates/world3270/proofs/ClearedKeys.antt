@@ -18,7 +18,7 @@ use Rattle.keyboard.specs.declared.key.Lock.TheVariants.{Free, Wait, Error}
 use Rattle.keyboard.specs.declared.key.Pressed.TheVariants.{Send}
 use Rattle.host_core.specs.Application.{Application}
 use Rattle.host_core.specs.Laws.{MarksInput}
-use Rattle.host_core.specs.Messages.{ToHost, ToTerminal, Verdict}
+use Rattle.host_core.specs.Messages.{ToHost, Verdict}
 use Rattle.host_core.specs.Session.{Pending, Session, agreed_lu}
 use Rattle.host_core.specs.Takes.{may_have_changed}
 use Rattle.world3270.specs.statement.EveryTerminal.{LinkWithReport, is_clear, is_pa, key_pressed, operated, sends_clear}

@@ -1,10 +1,9 @@
 -- The queue of a terminal at which Clear was pressed in the wait, beside what one says that waits: second keys are between its messages,
 -- Clear among them.
-use Rattle.std.proofs.Common.{◌≡◌, ◌⊎◌, inl, inr, ◌||◌, not, Bool, true, false, ℕ, List, [], ◌∷◌, ◌++◌, append-nil, append_assoc, refl, ap, sym, subst, ◌∙◌, if◌then◌else◌}
+use Rattle.std.proofs.Common.{◌≡◌, ◌⊎◌, inl, inr, ◌||◌, not, Bool, true, false, ℕ, List, [], ◌∷◌, ◌++◌, refl, ap, sym, subst, ◌∙◌, if◌then◌else◌}
 use Rattle.codes3270.specs.declared.attention.Aid.{Aid}
 use Rattle.codes3270.specs.declared.attention.Aid.TheVariants.{NoAid, Enter, Clear, Pf, Pa}
 use Rattle.datastream.specs.Grammar.{CommandParts}
-use Rattle.datastream.specs.InboundFields.{buffer_data}
 use Rattle.datastream.specs.InboundText.{InboundParts}
 use Rattle.datastream.specs.declared.inbound_part.Form.{Form}
 use Rattle.datastream.specs.declared.inbound_part.Form.TheVariants.{Modified}
@@ -12,14 +11,14 @@ use Rattle.shadow.specs.Exactness.{is_erase}
 use Rattle.shadow.specs.Settled.{is_settled}
 use Rattle.host_core.specs.Messages.{ToHost}
 use Rattle.host_core.specs.Session.{Session, Pending, is_agreed}
-use Rattle.host_core.specs.Takes.{Answers, closed_by, data_came, dropping, is_after_pa, is_read_believed, is_unread, key_came, may_have_changed, once_agreed, out_of_turn, second_key, second_key_data, took}
+use Rattle.host_core.specs.Takes.{Answers, closed_by, data_came, dropping, is_after_pa, is_unread, key_came, may_have_changed, once_agreed, second_key, second_key_data, took}
 use Rattle.host_core.specs.declared.turn.Turn.{Turn}
 use Rattle.host_core.specs.declared.turn.Turn.TheVariants as whose
 use Rattle.host_core.specs.declared.unheard.Unheard.TheVariants as unheards
 use Rattle.tn3270e_msg.specs.declared.cause.Cause.TheVariants.{BadInbound}
 use Rattle.world3270.specs.model.Link.{sent}
 use Rattle.world3270.specs.statement.Shown.{is_painting}
-use Rattle.world3270.proofs.SecondKeys.{AddsSecondKeys, IsSecondKey, SaysAlike, comes_out_of_turn, drops_behind, is_dropping, is_key, pending_after, turn_after, unless_read}
+use Rattle.world3270.proofs.SecondKeys.{AddsSecondKeys, IsSecondKey, SaysAlike, comes_out_of_turn, drops_behind, is_dropping, is_key, pending_after, turn_after}
 
 -- ---- keys
 
@@ -38,7 +37,7 @@ erases (Pending.Reading number) = false
 erases (Pending.Writing number command) = is_erase command.code
 erases (Pending.Noting number command) = false
 
--- Holds if Clear does unpainted harm here: unpainted paint waits for its answer, or that isn't said yet, or the paint erases.
+-- Holds if Clear does no harm here: no paint waits for its answer, or that isn't said yet, or the paint erases.
 abbrev pub DoesNoHarm : Pending → List ToHost → Type 0
 DoesNoHarm pending told = is_painting pending ≡ true → (told ≡ []) ⊎ (erases pending ≡ true)
 

@@ -1,10 +1,9 @@
 -- After Clear in the wait the host hears of it, unless the connection is lost: how many Clears are queued that the waiting terminal doesn't
 -- say, behind the answer to an erase.
-use Rattle.std.proofs.Common.{◌≡◌, ◌<◌, ◌≤◌, ◌⊎◌, inl, inr, suc, Bool, true, false, ℕ, List, [], ◌∷◌, ◌++◌, arith, refl, ap, sym, subst, ◌∙◌}
-use Rattle.codes3270.specs.declared.attention.Aid.{Aid}
+use Rattle.std.proofs.Common.{◌≡◌, ◌<◌, ◌≤◌, inl, inr, suc, Bool, true, false, ℕ, List, [], ◌∷◌, ◌++◌, arith, refl, ap, sym, subst, ◌∙◌}
 use Rattle.datastream.specs.InboundText.{InboundParts}
 use Rattle.host_core.specs.Messages.{ToHost, Verdict}
-use Rattle.host_core.specs.Session.{Session, Pending}
+use Rattle.host_core.specs.Session.{Pending}
 use Rattle.host_core.specs.Takes.{may_be_read}
 use Rattle.host_core.specs.declared.turn.Turn.{Turn}
 use Rattle.world3270.specs.model.Link.{Link}

@@ -13,20 +13,18 @@ use Rattle.panels.specs.declared.message.Message.{Message}
 use Rattle.shadow.specs.Belief.{Belief, Shadow, cells_of_fields}
 use Rattle.shadow.specs.Exactness.{is_erase}
 use Rattle.shadow.specs.Fits.{fields_fit, fits, is_keep, is_paintable}
-use Rattle.shadow.specs.Paint.{erase_code, known_nulls, paint, painting, to_store, writes_over}
+use Rattle.shadow.specs.Paint.{erase_code, known_nulls, paint, painting, to_store}
 use Rattle.shadow.specs.Taken.{laid_out, marks_off_if, taken, taken_code}
 use Rattle.tn3270e_msg.specs.Talk.{Talk}
 use Rattle.tn3270e_msg.specs.declared.host_talk.HostState.{HostState}
-use Rattle.host_core.specs.Acts.{Act, Decision, after_key, decision_on, is_in_doubt, is_to_be_read, learned, may_keep, on_key, wanted_by, when_shown}
+use Rattle.host_core.specs.Acts.{Act, Decision, decision_on, is_in_doubt, learned, may_keep, on_key, wanted_by, when_shown}
 use Rattle.host_core.specs.Application.{Application}
-use Rattle.host_core.specs.Questions.{act_by, is_ask, panel_for}
+use Rattle.host_core.specs.Questions.{is_ask}
 use Rattle.host_core.specs.Session.{Session}
-use Rattle.host_core.specs.Takes.{is_verified, may_be_read, may_have_changed, unheard_next}
+use Rattle.host_core.specs.Takes.{may_be_read, may_have_changed}
 use Rattle.host_core.specs.declared.turn_reason.TurnReason.{TurnReason}
 use Rattle.host_core.specs.declared.turn_reason.TurnReason.TheVariants as turn_reasons
-use Rattle.host_core.specs.declared.unheard.Unheard.{Unheard}
-use Rattle.host_core.specs.declared.unheard.Unheard.TheVariants as unheards
-use Rattle.world3270.specs.statement.Showing.{IsDecided, IsWantedFor, KnowsItsFields}
+use Rattle.world3270.specs.statement.Showing.{IsDecided, IsWantedFor}
 use Rattle.world3270.proofs.Cleared.{hearing_clear}
 
 -- ---- what is painted

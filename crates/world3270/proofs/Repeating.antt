@@ -3,8 +3,7 @@
 use Rattle.std.proofs.Common.{◌≡◌, ◌⊎◌, inl, inr, ◌<◌, ◌&&◌, ◌||◌, not, ℕ, Bool, true, false, Option, None, Some, List, [], ◌∷◌, ◌++◌, arith, refl, ap, sym, subst, ◌∙◌, if◌then◌else◌}
 use Rattle.std.specs.Prelude.{⊤, is_some}
 use Rattle.std.specs.Option.{option_and_then, option_map_or}
-use Rattle.std.specs.List.{list_any}
-use Rattle.codes3270.specs.Size.{ScreenSize, cells_in}
+use Rattle.codes3270.specs.Size.{cells_in}
 use Rattle.codes3270.specs.declared.attention.Aid.{Aid}
 use Rattle.codes3270.specs.declared.attention.Aid.TheVariants.{Clear, NoAid}
 use Rattle.codes3270.specs.declared.size.Model.{Model}
@@ -18,48 +17,45 @@ use Rattle.keyboard.specs.declared.key.Pressed.TheVariants.{Send}
 use Rattle.lu_pool.specs.Asking.{answer_to}
 use Rattle.lu_pool.specs.declared.entry.Entry.{Entry}
 use Rattle.panels.specs.Screen.{Values}
-use Rattle.panels.specs.declared.message.Message.{Message}
 use Rattle.shadow.specs.Belief.{Shadow}
 use Rattle.shadow.specs.Exactness.{is_erase}
-use Rattle.shadow.specs.Fits.{is_keep}
 use Rattle.shadow.specs.Paint.{paint}
-use Rattle.shadow.specs.Settled.{WantsInputReturned}
-use Rattle.host_core.specs.Acts.{Act, Decision, Sent, acted, decided, decision_on, done, may_act, repeated, values_shown, wanted_by, when_shown}
+use Rattle.host_core.specs.Acts.{Act, Sent, acted, decided, decision_on, done, repeated, values_shown, wanted_by, when_shown}
 use Rattle.host_core.specs.Application.{Application, IsApplication, IsSizeOf}
 use Rattle.host_core.specs.Laws.{IsPaintable, MarksInput}
 use Rattle.host_core.specs.Messages.{ToHost, ToTerminal, Verdict}
-use Rattle.host_core.specs.Notes.{may_note, noted, noted_as}
+use Rattle.host_core.specs.Notes.{noted}
 use Rattle.host_core.specs.Questions.{act_by, answered_on, has_its_panel, is_ask, is_asking, panel_for}
 use Rattle.host_core.specs.Session.{Session, Pending, agreed_lu, is_agreed, model_in}
-use Rattle.host_core.specs.Takes.{Answers, HostStep, answered, dropping, if_answers, is_unread, may_be_read, may_have_changed, once_agreed, paint_answered, quiet, refused, response_came, took as host_took}
+use Rattle.host_core.specs.Takes.{Answers, HostStep, answered, if_answers, is_unread, may_be_read, may_have_changed, once_agreed, paint_answered, quiet, refused, response_came, took as host_took}
 use Rattle.host_core.specs.declared.question.Answer.{Answer as ApplicationAnswer}
 use Rattle.host_core.specs.declared.turn.Turn.TheVariants as whose
 use Rattle.host_core.specs.declared.unheard.Unheard.{Unheard}
 use Rattle.host_core.specs.declared.unheard.Unheard.TheVariants as unheards
 use Rattle.tn3270e_msg.specs.TermTable.{Term}
 use Rattle.world3270.specs.model.Enabled.{is_queued}
-use Rattle.world3270.specs.model.Link.{Link, cut, host_left_if, host_sent, host_stepped, sent, term_stepped}
-use Rattle.world3270.specs.model.Terminal.{Display, TermEnd, TermStep, bound_to, data_of, is_bound, once_bound}
-use Rattle.world3270.specs.refinement.Invariant.{ConnectionInvariant, IsPainted, local_state_of}
+use Rattle.world3270.specs.model.Link.{Link, cut, host_sent, host_stepped, sent, term_stepped}
+use Rattle.world3270.specs.model.Terminal.{Display, TermStep, bound_to, data_of, is_bound, once_bound}
+use Rattle.world3270.specs.refinement.Invariant.{ConnectionInvariant}
 use Rattle.world3270.specs.refinement.LowerLaws.{LowerLaws}
 use Rattle.world3270.specs.refinement.Phases.{IsAt, IsInFlight, LinkPhase, SessionPhase}
 use Rattle.world3270.specs.refinement.View.{view_of}
-use Rattle.world3270.specs.statement.EveryTerminal.{LinkWithReport, is_clear, is_pa, once_shown, operated, paint_executed, sends_clear, told_after, told_if}
-use Rattle.world3270.specs.statement.Rules.{Operates, after_sending, data_by, edited, shows, with_aid}
+use Rattle.world3270.specs.statement.EveryTerminal.{LinkWithReport, is_clear, is_pa, operated, paint_executed, sends_clear, told_if}
+use Rattle.world3270.specs.statement.Rules.{Operates, after_sending, data_by, edited, with_aid}
 use Rattle.world3270.specs.statement.Showing.{IsDecided}
 use Rattle.world3270.specs.statement.Shown.{is_painting}
 use Rattle.world3270.proofs.Acting.{loses, model_here}
 use Rattle.world3270.proofs.Cleared.{Cleared, HostsAlike, IsPlain, Stage, agrees_still, hearing_clear, may_change}
 use Rattle.world3270.proofs.ClearedHost.{IsClearOr, clear_or, key_unclear, no_act, no_answer, no_note, nothing_erases}
-use Rattle.world3270.proofs.ClearedQueue.{AddsKeys, DoesNoHarm, IsAnyKey, SaysToo, clear_dropped, erases, is_any_key, other_key}
+use Rattle.world3270.proofs.ClearedQueue.{AddsKeys, clear_dropped, erases, is_any_key, other_key}
 use Rattle.world3270.proofs.ClearsDue.{Fate, clears_due, clears_in, is_clear_data, one_more}
 use Rattle.world3270.proofs.ClearedKeys.{any_key}
 use Rattle.world3270.proofs.ComesDown.{PaintComes, paint_comes}
 use Rattle.world3270.proofs.OneOfMany.{same_number}
 use Rattle.world3270.proofs.Queues.{empty_queue, more, nothing_sent, still}
-use Rattle.world3270.proofs.Returning.{HostReturns, wanted_whole}
+use Rattle.world3270.proofs.Returning.{HostReturns}
 use Rattle.world3270.proofs.RuleKeys.{with_aid-aid}
-use Rattle.world3270.proofs.SecondKeys.{IsSecondKey, SaysAlike, alike_silent, is_dropping, second_key_dropped}
+use Rattle.world3270.proofs.SecondKeys.{SaysAlike, alike_silent, is_dropping, second_key_dropped}
 use Rattle.world3270.proofs.Sent.{key_aid, key_form}
 use Rattle.world3270.proofs.Simulation.{has_agreed, is_waiting}
 

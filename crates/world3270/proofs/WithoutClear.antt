@@ -4,7 +4,6 @@ use Rattle.std.specs.Prelude.{◌≢◌, ⊤}
 use Rattle.codes3270.specs.declared.attention.Aid.{Aid}
 use Rattle.codes3270.specs.declared.attention.Aid.TheVariants.{NoAid, Enter, Clear, Pf, Pa}
 use Rattle.lu_pool.specs.HolderLaws.{IsSound}
-use Rattle.lu_pool.specs.declared.entry.Entry.{Entry}
 use Rattle.host_core.specs.Application.{Application}
 use Rattle.host_core.specs.Messages.{ToHost, ToTerminal}
 use Rattle.host_core.specs.Notes.{IsNoteText}

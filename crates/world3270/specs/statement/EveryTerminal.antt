@@ -1,6 +1,6 @@
 -- One connection between a host that serves any terminal and a terminal that keeps the rules, from the host's agreement
 -- on an LU on (our profile): what may happen on it, and what holds then. Other clients change only the pool of LUs.
-use Rattle.std.specs.Prelude.{◌≡◌, ◌≢◌, ⊤, ◌||◌, ◌&&◌, not, ℕ, Bool, true, false, List, [], ◌∷◌, None, Some, if◌then◌else◌, is_some}
+use Rattle.std.specs.Prelude.{◌≡◌, ⊤, ◌||◌, ◌&&◌, not, ℕ, Bool, true, false, List, [], ◌∷◌, None, Some, if◌then◌else◌, is_some}
 use Rattle.codes3270.specs.Size.{cells_in}
 use Rattle.codes3270.specs.declared.attention.Aid.{Aid}
 use Rattle.codes3270.specs.declared.attention.Aid.TheVariants.{NoAid, Clear, Pa}
