@@ -442,7 +442,7 @@ module _ (given : LowerLaws) (app : Application) (is : IsApplication app) (lu : 
   abbrev sends_so : Option Sent → LinkWithReport
   sends_so sending = record t { link = host_sent sending t.link }
 
-  -- where unpainted paint waits for its answer, the screen was cleared
+  -- where no paint waits for its answer, the screen was cleared
   gone_now : {later : LinkWithReport} {link : Link} {said : List ToHost} → is_painting end.host.pending ≡ false → Stage t end c.up.said → later.cleared ≡ t.cleared → later.told ≡ t.told → link.term ≡ end.term → (Fate end c.up.said t.link → Fate link said later.link)
       → Stage later link said
   gone_now unpainted (Stage.gone cleared locked no_pa was) same told term fate =

@@ -37,7 +37,7 @@ erases (Pending.Reading number) = false
 erases (Pending.Writing number command) = is_erase command.code
 erases (Pending.Noting number command) = false
 
--- Holds if Clear does unpainted harm here: unpainted paint waits for its answer, or that isn't said yet, or the paint erases.
+-- Holds if Clear does no harm here: no paint waits for its answer, or that isn't said yet, or the paint erases.
 abbrev pub DoesNoHarm : Pending → List ToHost → Type 0
 DoesNoHarm pending told = is_painting pending ≡ true → (told ≡ []) ⊎ (erases pending ≡ true)
 
