@@ -1,5 +1,5 @@
 //! How the host takes a terminal's records: data and responses.
-ghost use Rattle.std.specs.Prelude.{◌≡◌, ◌≢◌, ◌≤◌, ◌+◌, ◌++◌, length, true, drop, unwrap_or};
+ghost use Rattle.std.specs.Prelude.{◌≡◌, ◌≢◌, ◌≤◌, length, true, drop, unwrap_or};
 ghost use Rattle.codes3270.specs.Size.{cells_in};
 ghost use Rattle.codes3270.specs.declared.attention.Aid.TheVariants.{Clear};
 ghost use Rattle.datastream.specs.Escapes.{without_escapes};
