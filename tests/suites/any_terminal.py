@@ -148,9 +148,10 @@ class Waitless(hosts.Client):
 
 
 @contextlib.contextmanager
-def served(*words, text, device="IBM-3278-2", closed=(), dropped=()):
+def served(*words, text, device="IBM-3278-2", closed=(), dropped=(), restored=(), replaced=0):
     """A client that agreed with `serve` with these words, and was sent no panel yet. At the end the
-    log has its LU, this cause of a close, and these dropped keys."""
+    log has its LU, these dropped keys, how often characters were replaced, why screens were
+    restored, and this cause of a close."""
     with hosts.Server("serve", *words, text=text) as host:
         client = Waitless(host.port)
         client.is_asked()
@@ -163,6 +164,8 @@ def served(*words, text, device="IBM-3278-2", closed=(), dropped=()):
             "connected",
             "bound lu=PNL01",
             *(f"key-dropped key={it}" for it in dropped),
+            *replaced * ["character-replaced"],
+            *(f"screen-restored reason={it}" for it in restored),
             *(f"closed cause={it}" for it in closed),
         ]
         with contextlib.suppress(Difference):
@@ -372,17 +375,64 @@ def clear_in_the_hosts_turn_erases():
         )
 
 
+# SIGN ON, whole, with SCREEN RESTORED, after data that can't be believed.
+RESTORED = "F5 C2 " + SIGN_ON_CELLS.replace(
+    "1D F8", "1D F8 E2 C3 D9 C5 C5 D5 40 D9 C5 E2 E3 D6 D9 C5 C4"
+)
+
+
 @check
-def what_no_key_in_the_wait_sends_still_closes():
-    """AID 60 is no key's: with a write or a read pending the host closes, by cause 7."""
-    for first, command, response in (
-        (ENTER_A, HELLO_OVER_SIGN_ON + TO_ORIGIN, 2), (PA1, READ_BUFFER, 1)
+def what_no_key_in_the_wait_sends_is_painted_over():
+    """AID 60 is no key's. With a write pending that doesn't erase, the panel is shown again, whole;
+    with a read pending the one that is there, with SCREEN RESTORED."""
+    hello = "F5 C2 11 40 40 1D F0 C8 C5 D3 D3 D6 11 40 C7 1D F0 C1 11 5C F0 1D F8" + TO_ORIGIN
+    for first, command, response, shown in (
+        (ENTER_A, HELLO_OVER_SIGN_ON + TO_ORIGIN, 2, hello), (PA1, READ_BUFFER, 1, RESTORED)
     ):
-        with at_the_sign_on(closed=["BadInbound number=7"]) as client:
+        with at_the_sign_on(restored=["no-key"]) as client:
             client.sends(first)
             client.is_sent(command, response)
             client.sends("60 C2 E8 11 C2 E7 C1")
-            client.hears_the_end()
+            if response == 2:
+                client.takes()
+            client.is_shown(shown)
+
+
+@check
+def what_cannot_be_believed_is_painted_over():
+    """A text for a cell that begins no field, and data without a form: the session goes on."""
+    for why, data in (("contradicts", "7D C2 E8 11 40 C1 C1"), ("unreadable", "7D 5E 40")):
+        with at_the_sign_on(restored=[why]) as client:
+            client.sends(data)
+            client.is_shown(RESTORED)
+            client.sends(ENTER_A)
+            goes_on(client, HELLO_OVER_SIGN_ON + " 11 5C F1 00*15" + TO_ORIGIN)
+
+
+@check
+def a_key_without_a_meaning_is_not_active():
+    """CursorSelect (AID 7E), a card reader (E6) and others: the screen is read, whose answer has the
+    same AID, and the panel comes again with KEY NOT ACTIVE and what was typed. Out of turn such a
+    key is dropped."""
+    for aid in ("7E", "7F", "88", "E6", "E7", "F0"):
+        with at_the_sign_on(dropped=["other"]) as client:
+            client.sends(aid + " C2 E9 11 C2 E7 C1 C2" + NO_DEPT)
+            client.is_sent(READ_BUFFER, response=1)
+            client.sends(screen_read(aid, "C1 C2 00*6", message="00*14", cursor="C2 E9"))
+            client.is_shown(AGAIN.format(AB, KEY_NOT_ACTIVE))
+            client.sends(ENTER_A, aid)
+            goes_on(client, HELLO_OVER_SIGN_ON + NO_MESSAGE + TO_ORIGIN)
+
+
+@check
+def an_escaped_character_is_one_that_the_application_cannot_name():
+    """08 5A, as s3270 sends a euro sign by code page 037: U+FFFD."""
+    with asking(MODEL_2, dropped=(), replaced=1) as (application, client):
+        client.sends("7D C2 E9 11 C2 E7 C1 08 5A" + NO_DEPT)
+        fields = {"user": "A\ufffd", "dept": ""}
+        is_asked(application, "enter", fields).sends(MODEL_2.answer)
+        hello = MODEL_2.following.replace("1D F0 C1", "1D F0 C1 3F")
+        client.is_shown(hello)
 
 
 @check
@@ -480,11 +530,11 @@ MODEL_5 = Screens(
 
 
 @contextlib.contextmanager
-def asking(screens, *words, dropped=("clear",), keys='"enter", "pa1"'):
+def asking(screens, *words, dropped=("clear",), keys='"enter", "pa1"', **how):
     """An application, and a client that was shown the first panel, which asks about these keys."""
     application = an_application()
     text = screens.text.replace(b'"enter", "pa1"', keys.encode())
-    how = {"text": text, "device": screens.device, "dropped": dropped}
+    how |= {"text": text, "device": screens.device, "dropped": dropped}
     with served("--application", application.url, *words, **how) as client:
         client.is_shown(screens.first)
         yield application, client
