@@ -425,6 +425,16 @@ def a_key_without_a_meaning_is_not_active():
 
 
 @check
+def an_escaped_character_is_one_cell_of_a_screen_that_is_read():
+    """PA1 isn't active: the screen is read, and the panel comes again with what is there."""
+    with at_the_sign_on(replaced=1) as client:
+        client.sends(PA1)
+        client.is_sent(READ_BUFFER, response=1)
+        client.sends(screen_read("6C", "C1 08 5A 00*6"))
+        client.is_shown(AGAIN.format("C1 3F 00*6", KEY_NOT_ACTIVE))
+
+
+@check
 def an_escaped_character_is_one_that_the_application_cannot_name():
     """08 5A, as s3270 sends a euro sign by code page 037: U+FFFD."""
     with asking(MODEL_2, dropped=(), replaced=1) as (application, client):
