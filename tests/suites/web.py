@@ -325,9 +325,9 @@ def clients(
     return made
 
 
-def has_ended(client: socket.socket) -> bool:
+def has_ended(client: socket.socket, wait=0.3) -> bool:
     """Whether the server has closed the connection, also with bytes unread (RFC 9293, 3.10.4)."""
-    client.settimeout(0.3)
+    client.settimeout(wait)
     try:
         return client.recv(4096) == b""
     except ConnectionResetError:
@@ -442,15 +442,15 @@ def one_address_crowds_nobody_out() -> None:
     """Of 16 clients that have sent something, those of an address that has more than 8 of the places make
     room at once for one of another address, the oldest first; others make room only after a second."""
     with Web() as web, contextlib.ExitStack() as stack:
-        begun = {"said": b"GET / HTTP/1.1\r\n", "pause": 0.05}
+        begun = {"said": b"GET / HTTP/1.1\r\n", "pause": 0.15}
         crowd = clients(web, stack, 9, **begun)
         others = clients(web, stack, 7, source="127.0.0.2", **begun)
         [first] = clients(web, stack, 1, source="127.0.0.3", **begun)
         [second] = clients(web, stack, 1, source="127.0.0.3", **begun)
         expect("one that finds 8", has_ended(second), True)
         expect("one that finds 9", has_ended(first), False)
-        expect("the crowd", [has_ended(it) for it in crowd], [True] + [False] * 8)
-        expect("others", [has_ended(it) for it in others], [False] * 7)
+        expect("the crowd", [has_ended(it, 0.1) for it in crowd], [True] + [False] * 8)
+        expect("others", [has_ended(it, 0.1) for it in others], [False] * 7)
 
 
 @check
