@@ -15,11 +15,11 @@ with --characters some that the code page lacks; --all is all three.
 
 A line for each example and model has the keys pressed, the turns of the host, the bytes and the
 Read Buffers a turn, the Resets in the wait, the keys that the host dropped, the rules that were
-broken, the screens that were restored, and how the connections ended: `lost`, if s3270 ended them, `ended-by-application`, or the
-host's cause, and after it which key of the last records it was: a light pen's, a character that
-the code page lacks, Clear or another. A last line sums these up. Of each close by another key than
-the first two kinds it prints the rule or the cause, the last keys, and the last records up to what
-the host had received when it closed.
+broken, the screens that were restored, and how the connections ended: `lost`, if s3270 ended them,
+`ended-by-application`, or the host's cause, and after it which key of the last records it was: a
+light pen's, a character that the code page lacks, Clear or another. A last line sums these up. Of
+each close by another key than the first two kinds it prints the rule or the cause, the last keys,
+and the last records up to what the host had received when it closed.
 The seed makes the keys; what falls into a wait depends on the machine.
 """
 import argparse
