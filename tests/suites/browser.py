@@ -282,11 +282,11 @@ def each_character_has_one_cell() -> None:
 # ---- the keyboard's lock, and the network
 
 class Relay:
-    """A network between browsers and a port: it forwards, or loses what is sent (`is_dead`), or can't
-    be connected to (`is_cut`)."""
+    """A network between browsers and a port: it forwards, or can't be connected to (`is_cut`). Once a
+    connection loses something (`dead`), it loses all that follows: TCP has no gaps."""
 
     def __init__(self, port):
-        self.to, self.is_dead, self.is_cut, self.pairs = port, False, False, []
+        self.to, self.is_cut, self.pairs, self.used, self.dead = port, False, [], set(), set()
         self.listener = socket.create_server((LOCALHOST, free_port()))
         self.port = self.listener.getsockname()[1]
         threading.Thread(target=self.run, daemon=True).start()
@@ -310,17 +310,19 @@ class Relay:
         data = b""
         with contextlib.suppress(OSError):
             data = source.recv(65536)
-            if data and not self.is_dead:
+            self.used |= {source, target}
+            if data and source not in self.dead:
                 target.sendall(data)
         if not data:
             self.pairs = [it for it in self.pairs if source not in it]
             source.close()
-            if not self.is_dead:
+            if source not in self.dead:
                 target.close()
 
     def die(self):
-        """What is sent by the connections so far is lost, in both directions, and nobody notices."""
-        self.is_dead = True
+        """What is sent from now on by the connections that were used is lost, in both directions, and
+        nobody notices."""
+        self.dead |= self.used
 
     def cut(self):
         """Closes all connections, and takes no more."""
@@ -397,8 +399,6 @@ def a_dead_network_loses_no_key() -> None:
         page.announces("No answer")
         page.types("11")
         page.says("3 keys are kept")
-        page.relay.is_dead = False
-        page.relay.pairs.clear()
         page.until("it is resumed", lambda: "event=resumed" in page.web.logged())
         page.shows("4711")
         page.until("nothing is said", lambda: page.state() == "")
@@ -420,6 +420,22 @@ def keys_without_a_network_are_kept() -> None:
 
 
 @check
+def keys_of_a_quick_typist_are_kept() -> None:
+    """1,205 keys that `web` doesn't read for a while are all kept, and sent once."""
+    with terminal() as page:
+        page.web.process.send_signal(signal.SIGSTOP)
+        for _ in range(1200):
+            page.key("ArrowRight")
+        page.key("Home")
+        page.types("4711")
+        expect("what is said", "No more keys" in page.state(), False)
+        page.web.process.send_signal(signal.SIGCONT)
+        page.shows("4711")
+        page.types("2")
+        page.shows("47112")
+
+
+@check
 def a_reload_loses_no_key() -> None:
     """Keys that `web` hasn't got when the page is loaded again are sent then, and no key twice."""
     with relayed() as page:
@@ -427,8 +443,6 @@ def a_reload_loses_no_key() -> None:
         page.shows("4")
         page.relay.die()
         page.types("711")
-        page.relay.is_dead = False
-        page.relay.pairs.clear()
         page.call("Page.reload")
         page.until("it is resumed", lambda: "event=resumed" in page.web.logged())
         page.shows("4711")

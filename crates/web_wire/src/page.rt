@@ -3,7 +3,7 @@
 //! literal is the page.
 
 /// The SHA-256 of what is in the page's element `script`, in base64.
-pub const SCRIPT_HASH: &str = "4RMf/3Ois0dZRQ3rgL1HsDxH+vuwiksA+ss+rJgL/fA=";
+pub const SCRIPT_HASH: &str = "th1k1sUJOsE05LwhWv0gULaGTL/KDGXbSoaWZDi8pTM=";
 
 /// The SHA-256 of what is in the page's element `style`, in base64.
 pub const STYLE_HASH: &str = "UfnloE6u4KpOzA9eXp9MTtZ6Xa5GeuX3RtcEUmzyfQI=";
@@ -337,7 +337,7 @@ function showKeys() {
 help.addEventListener('close', () => typed.focus());
 // ---- The session: `open MODEL [LU]` begins one, `resume TOKEN` resumes the one of this tab. With `heard COUNT` the
 // server says, each 5 seconds, how many bytes of keys it has; those that it hasn't got are kept, and sent again.
-const mostKept = 1000, silence = 6000, patience = 15000;
+const mostKept = 100000, silence = 6000, patience = 15000;
 let socket, timer, wait = 500, isOver = false, isResuming = false, isLive = false, size = null;
 let heardAt = 0, lockedAt = 0, problem = '', remark = '';
 // They are stored only while the page is loaded again, since a password may be among them.
@@ -351,7 +351,7 @@ function opening() {
 const encoded = text => new TextEncoder().encode(text), pieces = text => text.match(/[^]{1,1000}/gu) ?? [];
 function send(...texts) {
   if (isOver) return void (texts[0] === enter && begin());
-  if (unheard.length >= mostKept) return refuse('No more keys are kept until the server answers.');
+  if (unheard.join('').length >= mostKept) return refuse('No more keys are kept until the server answers.');
   if (isLocked() || !isLive) isAhead = true;
   note('');
   for (const piece of texts.flatMap(pieces)) {
