@@ -6,11 +6,13 @@ import json
 import os
 import pathlib
 import re
+import shutil
 import signal
 import subprocess
 import sys
 import tempfile
 import threading
+import time
 import tomllib
 
 from harness import hosts, programs
@@ -43,12 +45,13 @@ def panels_with(*lus, word="WORD"):
 class Service:
     """bin/serve with the panels, at a port, in a folder of its own, until the check is over."""
 
-    def __init__(self, folder, *words, panels=PANELS):
+    def __init__(self, folder, *words, panels=PANELS, program=None):
         self.folder, self.port = pathlib.Path(folder), hosts.free_port()
         (self.folder / "panels.toml").write_text(panels)
         words = ["--port", str(self.port), "--folder", folder, "--panels", f"{folder}/panels.toml", *words]
         words = [sys.executable, TOP / "bin/serve", *words]
-        how = {"env": {**os.environ, "PANEL3270": str(programs.panel3270())}, "start_new_session": True}
+        self.environment = {**os.environ, "PANEL3270": str(program or programs.panel3270())}
+        how = {"env": self.environment, "start_new_session": True}
         with open(self.folder / "said", "wb") as said, open(self.folder / "out", "wb") as out:
             self.process = subprocess.Popen(words, stderr=said, stdout=out, **how)
 
@@ -77,6 +80,16 @@ class Service:
             f"it says {says!r}",
             lambda: (self.folder / "said").read_text()[len(said) :].count(says) == times,
         )
+
+    def says(self, text, times=1):
+        """It has said this so many times."""
+        hosts.until(f"it says {text!r}", lambda: (self.folder / "said").read_text().count(text) >= times)
+
+    def tells(self, *words):
+        """What `bin/serve tell` prints, and its status."""
+        words = [sys.executable, TOP / "bin/serve", "tell", self.folder, *words]
+        run = subprocess.run(words, env=self.environment, check=False, stdout=subprocess.PIPE, text=True)
+        return run.stdout.splitlines(), run.returncode
 
     def lus_of(self, number):
         """The LUs of the process with this number."""
@@ -197,6 +210,130 @@ def a_text_that_cannot_be_dealt_out_is_refused():
         expect("its status", service.process.wait(hosts.PATIENCE), 1)
         said = (service.folder / "said").read_text()
         expect("what it says", bool(re.search(r"1 to 64 LUs for each of 3 processes", said)), True)
+
+
+@contextlib.contextmanager
+def two_processes(**given):
+    """Two processes, each with one LU, once they listen."""
+    with tempfile.TemporaryDirectory() as folder, Service(
+        folder, "--processes", "2", panels=panels_with("LUA", "LUB"), **given
+    ) as service:
+        service.says("listening", 2)
+        yield service
+
+
+@check
+def a_stopped_process_holds_up_no_other():
+    """While one process is stopped, and doesn't answer HUP, another that is killed is started again."""
+    with two_processes() as service, S3270(2) as terminal:
+        stopped, killed = service.process_of(1), service.process_of(2)
+        os.kill(stopped, signal.SIGSTOP)
+        service.process.send_signal(signal.SIGHUP)
+        os.kill(killed, signal.SIGKILL)
+        begin = time.monotonic()
+        expect("the LU granted", service.connects(terminal, port=service.port + 2), "LUB")
+        expect("in time", time.monotonic() - begin < 8, True)
+        os.kill(stopped, signal.SIGCONT)
+        service.says("ok reloaded", 1)
+
+
+@check
+def many_signals_are_one():
+    """300 HUPs at once are a few reloads, and the service goes on."""
+    with two_processes() as service:
+        for _ in range(300):
+            service.process.send_signal(signal.SIGHUP)
+        service.says("ok reloaded", 2)
+        service.process.send_signal(signal.SIGTERM)
+        expect("its status", service.process.wait(hosts.PATIENCE), 0)
+
+
+@check
+def panels_that_cannot_be_written_change_nothing():
+    """If the new panels can't be written to its folder, the service says so, and goes on as it is."""
+    with two_processes() as service, S3270(2) as terminal:
+        (service.folder / "2.toml.new").mkdir()
+        service.reloads(panels_with("LUA", "LUB", "LUC"), "2.toml.new")
+        expect("the LUs of process 1", service.lus_of(1), ["LUA"])
+        expect("the LU granted", service.connects(terminal, port=service.port + 1), "LUA")
+        (service.folder / "2.toml.new").rmdir()
+        service.reloads(panels_with("LUA", "LUB", "LUC"), "ok reloaded", 2)
+        expect("the LUs of process 1", service.lus_of(1), ["LUA", "LUC"])
+
+
+@check
+def an_upgrade_loses_no_session():
+    """USR1: process 1 drains, while process 2 serves; once its session has ended it is started from the
+    new program, and then process 2 in the same way. A program that doesn't start ends the upgrade."""
+    with tempfile.TemporaryDirectory() as place, contextlib.ExitStack() as stack:
+        program, log = pathlib.Path(place) / "program", pathlib.Path(place) / "log"
+
+        def installs(name, line):
+            new = program.with_suffix(".new")
+            new.write_text(f"#!/bin/sh\n[ $1 = serve ] && echo {name} >> {log}\n{line}\n")
+            new.chmod(0o755)
+            new.replace(program)
+
+        installs("old", f'exec {programs.panel3270()} "$@"')
+        service = stack.enter_context(two_processes(program=program))
+        first, second, other = (stack.enter_context(S3270(2)) for _ in range(3))
+        for terminal, port, lu in ((first, 1, "LUA"), (second, 2, "LUB")):
+            expect("the LU granted", service.connects(terminal, port=service.port + port), lu)
+        installs("broken", f'[ $1 = serve ] && exit 2\nexec {programs.panel3270()} "$@"')
+        service.process.send_signal(signal.SIGUSR1)
+        service.says("ok draining")
+        works_on(first, "ONE")
+        works_on(second, "TWO")
+        first.does("Disconnect")
+        service.says("process 1 ended with status 2: the upgrade ends")
+        works_on(second, "GOES ON")
+        installs("new", f'exec {programs.panel3270()} "$@"')
+        service.process.send_signal(signal.SIGUSR1)
+        service.says("process 1 is upgraded")
+        works_on(second, "STILL")
+        expect("the LU granted", service.connects(other, port=service.port), "LUA")
+        second.does("Disconnect")
+        service.says("process 2 is upgraded")
+        works_on(other, "THREE")
+        expect("what was started", log.read_text().split(), ["old", "old", "broken", "new", "new"])
+
+
+@check
+def each_process_is_told():
+    """`tell FOLDER` gives each process a command, and prints what each answers."""
+    with two_processes() as service, S3270(2) as terminal:
+        service.connects(terminal, "LUB@", service.port + 2)
+        said, status = service.tells("sessions")
+        expect("its status", status, 0)
+        expect("lines", [it.split(" 127.")[0] for it in said], [
+            "process 1: ok sessions=0", "process 2: ok sessions=1: LUB"])
+        expect("a note", service.tells("note", "LUB", "HELLO"), (
+            ["process 1: error no session has this LU", "process 2: ok shown, or as soon as the operator may type"], 1))
+
+
+@check
+def a_fault_of_its_own_has_a_status():
+    """A folder that can't be made is told in one line, with the status that says whose fault it is."""
+    with tempfile.NamedTemporaryFile() as file, tempfile.TemporaryDirectory() as folder:
+        with Service(folder, "--processes", "2", "--folder", f"{file.name}/no") as service:
+            expect("its status", service.process.wait(hosts.PATIENCE), 70)
+            said = (service.folder / "said").read_text()
+            expect("what it says", (said.count("\n"), f"{file.name}/no" in said), (1, True))
+
+
+@check
+def an_installed_script_finds_the_program():
+    """Outside of the repository the program on the path is run."""
+    with tempfile.TemporaryDirectory() as folder:
+        place = pathlib.Path(folder) / "bin"
+        place.mkdir()
+        shutil.copy(TOP / "bin/serve", place / "panel3270-serve")
+        (place / "panel3270").symlink_to(programs.panel3270())
+        environment = {**os.environ, "PATH": f"{place}:{os.environ['PATH']}"}
+        environment.pop("PANEL3270", None)
+        words = [place / "panel3270-serve", "--port", "1", "--panels", f"{folder}/none"]
+        run = subprocess.run(words, env=environment, check=False, stderr=subprocess.PIPE, text=True)
+        expect("its status and what it says", (run.returncode, f"{folder}/none" in run.stderr), (1, True))
 
 
 def cases():
