@@ -87,6 +87,10 @@ METRICS = {
         "histogram",
         "Time from a question to the application's answer.",
     ),
+    "panel3270_log_lines_dropped_total": (
+        "counter",
+        "Lines of the log dropped because nobody read those before.",
+    ),
     "panel3270_build_info": ("gauge", "The program's version."),
     "process_start_time_seconds": (
         "gauge",
@@ -142,6 +146,7 @@ def metrics_page(
         "questions_total": [("", asked)],
         "question_failures_total": [(f'{{reason="{it}"}}', failed.count(it)) for it in FAILURES],
         "answer_seconds": answers,
+        "log_lines_dropped_total": [("", 0)],
         "build_info": [(f'{{version="{version}"}}', 1)],
         "process_start_time_seconds": [("", started)],
     }

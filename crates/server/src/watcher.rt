@@ -57,6 +57,9 @@ pub trait Watcher {
     /// sockets. Answers whether it did something.
     fn after_turn(&mut self, server: &Server<TcpStream>, port: &ServerPort, now: u64) -> bool
         ensures { ended_turn self.old server.entry.now now result self.new };
+
+    /// How many lines of a log it has dropped.
+    fn lines_dropped(&self) -> u64;
 }
 
 /// Ignores all notices.
@@ -92,5 +95,9 @@ impl Watcher for Unwatched {
 
     fn after_turn(&mut self, _server: &Server<TcpStream>, _port: &ServerPort, _now: u64) -> bool {
         false
+    }
+
+    fn lines_dropped(&self) -> u64 {
+        0
     }
 }

@@ -30,6 +30,7 @@ impl<'a, W: Watcher> MetricsObserver<'a, W> {
             metrics: Metrics::new(),
             version,
             started: Timestamp::now(rt).ok().map(|now| now.as_second()),
+            lines_dropped: 0,
         };
         let mut port = listen(rt, port)?;
         port.register(polled);
@@ -42,7 +43,7 @@ impl<'a, W: Watcher> MetricsObserver<'a, W> {
 }
 
 impl<W: Watcher> Watcher for MetricsObserver<'_, W> {
-    ghost use Rattle.std.specs.Prelude.{◌≡◌};
+    ghost use Rattle.std.specs.Prelude.{◌≡◌, Bool};
     ghost use Rattle.service_events.specs.Metrics.{counted, with_failure, with_paint};
 
     ghost noticed = { λ old notice answer new. W.noticed old.watcher.now notice answer new.watcher.now
@@ -57,7 +58,9 @@ impl<W: Watcher> Watcher for MetricsObserver<'_, W> {
     ghost noted = { λ old client replaced answer new. W.noted old.watcher.now client replaced answer new.watcher.now
         × (new.page.metrics ≡ old.page.metrics) };
 
-    ghost ended_turn = { λ old _ _ _ new. (new.watcher ≡ old.watcher) × (new.page ≡ old.page) };
+    ghost ended_turn = { λ old server now _ new. (moved : Bool)
+        × W.ended_turn old.watcher.now server now moved new.watcher.now
+        × (new.page.metrics ≡ old.page.metrics) };
 
     fn notice(&mut self, notice: &Notice) -> Result<(), Fault> {
         self.page.metrics.count(notice);
@@ -79,12 +82,18 @@ impl<W: Watcher> Watcher for MetricsObserver<'_, W> {
     }
 
     fn after_turn(&mut self, server: &Server<TcpStream>, port: &ServerPort, now: u64) -> bool {
+        let moved = self.watcher.after_turn(server, port, now);
+        self.page.lines_dropped = self.watcher.lines_dropped();
         self.port.accept_all(port, now);
         let served = Served {
             alloc: self.port.alloc,
             page: &self.page,
             server,
         };
-        self.port.serve_all(now, served).unwrap_or(false)
+        moved | self.port.serve_all(now, served).unwrap_or(false)
+    }
+
+    fn lines_dropped(&self) -> u64 {
+        self.watcher.lines_dropped()
     }
 }

@@ -254,12 +254,12 @@ impl Serving {
         rt: &HostRuntime,
         options: ServeOptions<'_>,
         version: &'static str,
-        mut log: Log<'_, E>,
+        log: &mut Log<'_, E>,
     ) -> Result<(), Fault> {
         let Some(port) = options.service.metrics else {
-            return self.serve_watched(rt, options, &mut log);
+            return self.serve_watched(rt, options, log);
         };
-        match MetricsObserver::new(rt, &self.port, port, version, &mut log) {
+        match MetricsObserver::new(rt, &self.port, port, version, log) {
             Ok(mut metered) => self.serve_watched(rt, options, &mut metered),
             Err(fault) => Err(fault),
         }
@@ -495,12 +495,10 @@ fn serve<E: Sink>(
 ) -> Result<(), Fault> {
     warn_if_open(options.address(), faults);
     let mut serving = serving_of(rt, options, application, control, host)?;
-    let log = Log {
-        rt,
-        lines: faults,
-        quiet: options.service.quiet,
-    };
-    serving.serve_logged(rt, options, version, log)
+    let mut log = Log::new(rt, options.service.quiet, faults)?;
+    let ended = serving.serve_logged(rt, options, version, &mut log);
+    log.finish();
+    ended
 }
 
 /// Serves a host, and makes the control socket for that time, if one is chosen. Returns the exit status.

@@ -127,6 +127,7 @@ counted (notice.Ended client how usage) counts = with_usage usage.turns usage.re
 counted notice.Asked counts = record counts { asked = raised counts.asked 1 }
 counted (notice.Commanded commanded) counts = counts
 counted (notice.Reloaded sizes) counts = counts
+counted (notice.LogLinesDropped lines) counts = counts
 counted (notice.Answered millis) counts = record counts {
   answered = raised_at (bucket_of millis) counts.answered;
   answer_millis = raised counts.answer_millis millis;

@@ -191,7 +191,8 @@ impl Metrics {
             | Notice::Bound(_, _)
             | Notice::CharacterReplaced(_)
             | Notice::Commanded(_)
-            | Notice::Reloaded(_) => {}
+            | Notice::Reloaded(_)
+            | Notice::LogLinesDropped(_) => {}
         }
     }
 

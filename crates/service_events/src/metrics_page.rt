@@ -49,6 +49,8 @@ pub struct MetricsPage {
     pub version: &'static str,
     /// When the process started, in seconds since 1970 in UTC; None if the clock failed.
     pub started: Option<i64>,
+    /// How many lines of the log were dropped.
+    pub lines_dropped: u64,
 }
 
 impl Metrics {
@@ -176,10 +178,13 @@ impl fmt::Display for MetricsPage {
         self.metrics.put_sessions(f)?;
         self.metrics.put_traffic(f)?;
         self.metrics.put_questions(f)?;
-        let version = self.version;
+        let (version, lines_dropped) = (self.version, self.lines_dropped);
         write!(
             f,
-            "# HELP panel3270_build_info The program's version.
+            "# HELP panel3270_log_lines_dropped_total Lines of the log dropped because nobody read those before.
+# TYPE panel3270_log_lines_dropped_total counter
+panel3270_log_lines_dropped_total {lines_dropped}
+# HELP panel3270_build_info The program's version.
 # TYPE panel3270_build_info gauge
 panel3270_build_info{{version=\"{version}\"}} 1
 "

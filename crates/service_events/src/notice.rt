@@ -146,6 +146,8 @@ pub enum Notice {
     Commanded(Commanded),
     /// New sessions are shown new panels, and granted LUs of these panels.
     Reloaded(PanelCounts),
+    /// This many lines of the log had no room, and were dropped.
+    LogLinesDropped(u64),
 }
 
 /// Prints as the keys that begin a connection's log line.
@@ -236,6 +238,7 @@ impl fmt::Display for Notice {
             Notice::Answered(millis) => write!(f, "event=answered millis={millis}"),
             Notice::Commanded(commanded) => write!(f, "event=command {commanded}"),
             Notice::Reloaded(counts) => write!(f, "event=reloaded {counts}"),
+            Notice::LogLinesDropped(count) => write!(f, "event=log-lines-dropped lines={count}"),
         }
     }
 }
