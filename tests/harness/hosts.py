@@ -248,6 +248,17 @@ def plain(line):
     )
 
 
+def listens(port):
+    """Whether the system has a listener at this port: in proc(5), its addresses in hexadecimal, and the
+    state 0A."""
+    lines = [
+        line
+        for table in ("tcp", "tcp6")
+        for line in pathlib.Path(f"/proc/net/{table}").read_text().splitlines()[1:]
+    ]
+    return any(it.split()[1].endswith(f":{port:04X}") and it.split()[3] == "0A" for it in lines)
+
+
 class Server:
     """A host at a port that is free, until the check is over."""
 
@@ -257,19 +268,7 @@ class Server:
         self.process = subprocess.Popen(words, stdin=subprocess.PIPE, stderr=self.log, **how)
         self.process.stdin.write(text or panels(*lus))
         self.process.stdin.close()
-        until("a host listens", lambda: self.listens() or self.process.poll() is not None)
-
-    def listens(self):
-        """Whether the system has a listener at its port: in proc(5), its addresses in hexadecimal,
-        and the state 0A."""
-        lines = [
-            line
-            for table in ("tcp", "tcp6")
-            for line in pathlib.Path(f"/proc/net/{table}").read_text().splitlines()[1:]
-        ]
-        return any(
-            it.split()[1].endswith(f":{self.port:04X}") and it.split()[3] == "0A" for it in lines
-        )
+        until("a host listens", lambda: listens(self.port) or self.process.poll() is not None)
 
     def __enter__(self):
         return self

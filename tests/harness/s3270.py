@@ -15,11 +15,12 @@ def is_wanted(*programs):
 
 
 class S3270:
-    """An s3270 of a model, which doesn't wait for the host by itself, until the check is over."""
+    """An s3270 of a model, which doesn't wait for the host by itself, until the check is over; `more`
+    are further options."""
 
-    def __init__(self, model):
+    def __init__(self, model, *more):
         words = ["s3270", "-utf8", "-codepage", "cp037", "-model", f"3278-{model}"]
-        words += ["-clear", "aidWait", "-clear", "unlockDelay"]
+        words += ["-clear", "aidWait", "-clear", "unlockDelay", *more]
         pipe = subprocess.PIPE
         self.process = subprocess.Popen(
             words,
@@ -38,17 +39,28 @@ class S3270:
         self.process.kill()
         self.process.communicate()
 
+    def answers(self, action):
+        """The lines of its answer to an action; the last is `ok` or `error`."""
+        self.process.stdin.write(action + "\n")
+        self.process.stdin.flush()
+        lines = [self.process.stdout.readline().rstrip("\n")]
+        while lines[-1] not in ("ok", "error", ""):
+            lines.append(self.process.stdout.readline().rstrip("\n"))
+        return lines
+
     def does(self, *actions):
         """The lines of data that the last one of these actions prints."""
         for action in actions:
-            self.process.stdin.write(action + "\n")
-            self.process.stdin.flush()
-            lines = [self.process.stdout.readline().rstrip("\n")]
-            while lines[-1] not in ("ok", "error", ""):
-                lines.append(self.process.stdout.readline().rstrip("\n"))
+            lines = self.answers(action)
             if lines[-1] != "ok":
                 raise Difference(f"s3270 answers ok to {action}", str(lines))
         return [it.removeprefix("data: ").rstrip() for it in lines[:-2]]
+
+    def fails(self, action):
+        """It refuses the action."""
+        lines = self.answers(action)
+        if lines[-1] != "error":
+            raise Difference(f"s3270 answers error to {action}", str(lines))
 
     def is_connected(self):
         """Whether it is connected, and TN3270E agreed."""

@@ -19,7 +19,7 @@ import time
 from harness import programs
 from harness.case import Checks, Difference, expect
 from harness.chromium import ALT, CTRL, SHIFT, Chromium, installed
-from harness.hosts import LOCALHOST, free_port
+from harness.hosts import LOCALHOST, free_port, run
 from suites.web import Web
 
 PARTS = 1
@@ -804,6 +804,17 @@ def the_page_is_announced() -> None:
         page.announces("TRANSFER OF FUNDS")
         spoken = page.value("document.activeElement.getAttribute('aria-label')")
         expect("what is typed into", spoken in [name for role, name, _ in page.nodes() if role == "textbox"], True)
+
+
+@check
+def a_note_is_announced() -> None:
+    """A note of who operates the host comes without a key, and is announced."""
+    with tempfile.TemporaryDirectory() as folder:
+        control = f"{folder}/control"
+        with Web(host=("--control", control)) as web, Chromium(f"http://{LOCALHOST}:{web.port}/") as page:
+            page.shows("TELLER")
+            run(["tell", control, "note", "*", "SYSTEM DOWN AT 18:00"], b"")
+            page.announces("SYSTEM DOWN AT 18:00")
 
 
 # ---- random keys

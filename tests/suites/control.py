@@ -3,6 +3,7 @@ import contextlib
 import os
 import pathlib
 import re
+import resource
 import signal
 import socket
 import stat
@@ -27,6 +28,7 @@ from harness.hosts import (
     event,
     free_port,
     in_seconds,
+    listens,
     panels,
     plain,
     run,
@@ -578,21 +580,28 @@ def standard_input_is_read_once():
 
 
 @contextlib.contextmanager
-def script(*words):
-    """bin/serve on its own port."""
+def script(*words, before=lambda: None):
+    """bin/serve on its own port; `before` is done in its process before it begins."""
     port = free_port()
+
+    def begins():
+        # A shell can't trap a signal that it was started to ignore, as in the background.
+        signal.signal(signal.SIGINT, signal.SIG_DFL)
+        before()
+
     with tempfile.TemporaryFile() as log:
         process = subprocess.Popen(
             [TOP / "bin/serve", "--port", str(port), *words],
             stdin=subprocess.PIPE,
             stderr=log,
             env={**os.environ, "PANEL3270": str(programs.panel3270())},
-            # A shell can't trap a signal that it was started to ignore, as in the background.
-            preexec_fn=lambda: signal.signal(signal.SIGINT, signal.SIG_DFL),
+            preexec_fn=begins,
         )
         try:
-            process.stdin.write(panels("PNL01"))
-            process.stdin.close()
+            # Unless its standard input is closed.
+            with contextlib.suppress(BrokenPipeError):
+                process.stdin.write(panels("PNL01"))
+                process.stdin.close()
             process.port = port
             process.logged = lambda: os.pread(log.fileno(), 1 << 16, 0).decode()
             until("it listens", lambda: "listening" in process.logged())
@@ -649,3 +658,39 @@ def hup_reloads():
             until("it answers", lambda: "ok reloaded: panels=1 lus=2" in it.logged())
             NewClient(it.port).signs_on("PNL02").enters()
             client.enters()
+
+
+@check
+def a_log_at_its_limit_ends_nothing():
+    """A log that mayn't grow takes no more lines. The signal of that limit (SIGXFSZ) doesn't end the
+    service: sessions go on, and TERM drains."""
+    limit = 200
+    limited = lambda: resource.setrlimit(resource.RLIMIT_FSIZE, (limit, limit))
+    with script(before=limited) as it:
+        for _ in range(4):
+            Client(it.port).signs_on("PNL01").ends()
+        client = Client(it.port).signs_on("PNL01")
+        client.enters()
+        expect("bytes of the log", len(it.logged()), limit)
+        it.send_signal(signal.SIGTERM)
+        until("it drains", lambda: not listens(it.port))
+        client.enters()
+        client.ends()
+        expect("its status", it.wait(PATIENCE), 0)
+
+
+@check
+def closed_streams_are_no_files_of_the_service():
+    """bin/serve without standard input and output: it and its process have /dev/null there, and no
+    socket and no file."""
+    with tempfile.NamedTemporaryFile() as file:
+        file.write(panels("PNL01"))
+        file.flush()
+        with script("--panels", file.name, before=lambda: os.closerange(0, 2)) as it:
+            children = pathlib.Path(f"/proc/{it.pid}/task/{it.pid}/children").read_text().split()
+            expect("processes", len(children), 1)
+            for pid in (it.pid, *children):
+                for stream in (0, 1):
+                    where = os.readlink(f"/proc/{pid}/fd/{stream}")
+                    expect(f"stream {stream} of {pid}", where, "/dev/null")
+            Client(it.port).signs_on("PNL01").enters()

@@ -1,12 +1,15 @@
 """What becomes of a run when memory, a socket or an output fails."""
 import contextlib
 import os
+import pathlib
 import resource
 import socket
+import subprocess
+import tempfile
 
-from harness import growths
+from harness import growths, programs
 from harness.case import Checks, Difference, expect, needs_proved
-from harness.hosts import LOCALHOST, Server, event, free_port, panels, run
+from harness.hosts import LOCALHOST, Client, Server, event, free_port, listens, panels, run, until
 
 check = Checks()
 cases = check.cases
@@ -184,3 +187,30 @@ def a_reader_may_close_the_pipe():
     os.close(ours)
     expect("show", run(["show"], b"", stdout=theirs), (6, "", "output failed\n"))
     os.close(theirs)
+
+
+@check
+def closed_streams_are_no_sockets():
+    """A standard stream that is closed at the start is /dev/null: no socket and no file has its number,
+    and so nothing that is printed gets into one. Those that aren't closed stay as they are."""
+    for closed in ((0,), (2,), (0, 2), (0, 1, 2)):
+        port = free_port()
+        with tempfile.TemporaryDirectory() as folder, open(f"{folder}/out", "wb") as out:
+            file = pathlib.Path(folder) / "panels.toml"
+            file.write_bytes(panels("PNL01"))
+            with subprocess.Popen(
+                [programs.panel3270(), "serve", "--port", str(port), "--panels", file],
+                stdin=out,
+                stdout=out,
+                stderr=out,
+                preexec_fn=lambda closed=closed: [os.close(it) for it in closed],
+            ) as host:
+                try:
+                    until("a host listens", lambda port=port: listens(port))
+                    client = Client(port).signs_on("PNL01")
+                    streams = [os.readlink(f"/proc/{host.pid}/fd/{it}") for it in range(3)]
+                    wanted = ["/dev/null" if it in closed else out.name for it in range(3)]
+                    expect(f"the streams without {closed}", streams, wanted)
+                    client.enters()
+                finally:
+                    host.kill()

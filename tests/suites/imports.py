@@ -20,8 +20,10 @@ from harness.case import TOP, Case, Difference, Place, of_function, same
 
 # Traits that are imported for their methods.
 METHODS = {
+    "AsRawFd": ("as_raw_fd",),
     "BufRead": ("fill_buf", "lines"),
     "FileTypeExt": ("is_socket",),
+    "IntoRawFd": ("into_raw_fd",),
     "IsTerminal": ("is_terminal",),
     "PermissionsExt": ("from_mode",),
     "Read": ("read",),

@@ -19,6 +19,7 @@ from harness.hosts import (
     NEXT_WRITE,
     NOP,
     PATIENCE,
+    Server,
     event,
     free_port,
     metered,
@@ -158,9 +159,17 @@ def metrics_page(
     return page
 
 
+# What each response says to a browser: that it is of the type that it says, loads nothing, and is shown
+# in no frame of another page.
+GUARDS = (
+    "X-Content-Type-Options: nosniff\r\n"
+    "Content-Security-Policy: default-src 'none'; frame-ancestors 'none'\r\n"
+)
+
+
 def response(status, body="", allow=""):
     fields = (
-        f"{allow}Content-Type: text/plain; version=0.0.4; charset=utf-8\r\n"
+        f"{allow}Content-Type: text/plain; version=0.0.4; charset=utf-8\r\n{GUARDS}"
         f"Content-Length: {len(body)}\r\nConnection: close\r\n\r\n"
     )
     return f"HTTP/1.1 {status}\r\n{fields}{body}"
@@ -305,26 +314,20 @@ def each_request_has_its_answer():
         )
 
 
-# What a response with sessions says: it isn't kept, and loads nothing.
-GUARDED = "Cache-Control: no-store\r\nContent-Security-Policy: default-src 'none'\r\n"
-
-
 def sessions(host, path, kind, name="localhost"):
-    """The body of the answer to a request for sessions, whose head is as it has to be."""
+    """The body of the answer to a request for sessions, whose head is as it has to be: it isn't kept."""
     asked = f"GET {path} HTTP/1.1\r\nHost: {name}:{host.metrics}\r\n\r\n"
     head, _, body = scraped(host.metrics, asked.encode()).decode().partition("\r\n\r\n")
-    fields = f"Content-Type: {kind}\r\nContent-Length: {len(body)}\r\nConnection: close"
-    expect(f"the head of {path}", head, f"HTTP/1.1 200 OK\r\n{GUARDED}{fields}")
+    fields = f"Content-Type: {kind}\r\n{GUARDS}Content-Length: {len(body)}\r\nConnection: close"
+    expect(f"the head of {path}", head, f"HTTP/1.1 200 OK\r\nCache-Control: no-store\r\n{fields}")
     return body
 
 
 def boot_of_a_start() -> int:
     """The first part of the names of sessions, of a host that has just begun."""
-    with metered() as host:
-        client = host.client().signs_on("PNL01")
-        rows = json.loads(sessions(host, "/sessions.json", "application/json"))["sessions"]
-        client.ends()
-    return int(rows[0]["session"].partition("-")[0], 16)
+    with Server("serve") as host:
+        host.client().signs_on("PNL01").ends()
+        return int(re.search(r" session=([0-9a-f]{16})-0 ", host.logged())[1], 16)
 
 
 @check
@@ -341,8 +344,9 @@ def starts_draw_other_names():
 
 @check
 def sessions_are_listed():
-    """Each open connection is listed with its session, LU, client, start, turns and phase, as data
-    and as a page; none that has ended; nothing that was typed."""
+    """Each open connection is listed with its session's number, LU, client, start, turns and phase, as
+    data and as a page; none that has ended; nothing that was typed. Nor is what the names of sessions
+    begin with, since applications know by a name who is signed on."""
     with metered() as host:
         expect("no sessions", sessions(host, "/sessions.json", "application/json"), '{"sessions":[]}\n')
         began = int(time.time())
@@ -352,15 +356,15 @@ def sessions_are_listed():
         second.is_asked()
         second.ends()
         until("an end", lambda: "event=lost" in host.logged())
-        rows = json.loads(sessions(host, "/sessions.json", "application/json"))["sessions"]
-        boot = rows[0]["session"].partition("-")[0]
+        data = sessions(host, "/sessions.json", "application/json")
+        rows = json.loads(data)["sessions"]
         for row in rows:
             since = time.strptime(row.pop("since"), "%Y-%m-%dT%H:%M:%SZ")
             expect("a start", abs(calendar.timegm(since) - began) <= 5, True)
         peers = [f"{LOCALHOST}:{it.socket.getsockname()[1]}" for it in (first, third)]
         wanted = [
-            {"session": f"{boot}-0", "lu": "PNL01", "client": peers[0], "turns": 1, "phase": "operator"},
-            {"session": f"{boot}-2", "lu": None, "client": peers[1], "turns": 0, "phase": "negotiating"},
+            {"session": 0, "lu": "PNL01", "client": peers[0], "turns": 1, "phase": "operator"},
+            {"session": 2, "lu": None, "client": peers[1], "turns": 0, "phase": "negotiating"},
         ]
         expect("the sessions", rows, wanted)
         page = sessions(host, "/sessions", "text/html; charset=utf-8", "127.0.0.1")
@@ -369,23 +373,48 @@ def sessions_are_listed():
             "the page",
             [[*it[:3], *it[4:]] for it in found],
             [
-                [f"{boot}-0", "PNL01", peers[0], "1", "operator"],
-                [f"{boot}-2", "-", peers[1], "0", "negotiating"],
+                ["0", "PNL01", peers[0], "1", "operator"],
+                ["2", "-", peers[1], "0", "negotiating"],
             ],
         )
+        boot = re.search(r" session=([0-9a-f]{16})-0 ", host.logged())[1]
+        expect("the name's first part is told", boot in data + page, False)
+
+
+def asked_at(path, *fields, version="1.1"):
+    """A request with these fields."""
+    return "\r\n".join((f"GET {path} HTTP/{version}", *fields, "", "")).encode()
 
 
 @check
-def sessions_are_told_at_this_machine_alone():
-    """A Host of another name, none, or two are refused, as a page of another site would send them
-    after DNS rebinding."""
+def it_answers_at_this_machine_alone():
+    """A Host of another name is refused, as a page of another site would send it after DNS rebinding; so
+    are two, and none but in HTTP/1.0 (RFC 9112, section 3.2). A Host of this machine has any port."""
+    forbidden, bad = response("403 Forbidden"), response("400 Bad Request")
     with metered() as host:
-        refused = response("403 Forbidden")
-        for fields in ("Host: evil.example", "", "Host: localhost\r\nHost: localhost", "Host: localhost.evil"):
-            for path in ("/sessions", "/sessions.json?x"):
-                asked = f"GET {path} HTTP/1.1\r\n{fields}\r\n\r\n".replace("\r\n\r\n\r\n", "\r\n\r\n")
-                came = scraped(host.metrics, asked.encode()).decode()
-                expect(f"the answer to {asked!r}", came, refused)
+        for path in ("/metrics", "/sessions", "/sessions.json?x", "/other"):
+            for wanted, *fields in (
+                (forbidden, "Host: evil.example"),
+                (forbidden, "Host: localhost.evil"),
+                (forbidden, "Host: evil.localhost"),
+                (forbidden, "Host: localhost:evil"),
+                (forbidden, "Host: 127.0.0.10"),
+                (forbidden, "Host: [::1"),
+                (forbidden, "Host: ::1"),
+                (forbidden, "Host:"),
+                (bad,),
+                (bad, "Host: localhost", "Host: localhost"),
+                (bad, "Host: localhost", "HOST: evil.example"),
+            ):
+                sent = asked_at(path, *fields)
+                expect(f"the answer to {sent!r}", scraped(host.metrics, sent).decode(), wanted)
+        two = asked_at("/metrics", "Host: localhost", "Host: localhost", version="1.0")
+        expect("two of HTTP/1.0", scraped(host.metrics, two).decode(), bad)
+        for name in ("127.0.0.1", "localhost", "[::1]"):
+            for port in ("", ":", ":9100"):
+                for path in ("/metrics", "/sessions", "/sessions.json"):
+                    came = scraped(host.metrics, asked_at(path, f"Host: {name}{port}"))
+                    expect(f"{path} at {name}{port}", came[:15], b"HTTP/1.1 200 OK")
 
 
 def answers_of(page):
@@ -393,21 +422,22 @@ def answers_of(page):
     long = b"GET /metrics HTTP/1.1\r\nX: " + b"x" * 4096
     head = page.partition("\r\n\r\n")[0] + "\r\n\r\n"
     not_allowed = response("405 Method Not Allowed", allow="Allow: GET, HEAD\r\n")
+    local = b" HTTP/1.1\r\nHost: localhost\r\n"
     return [
         (page, GET),
-        (page, b"GET /metrics?name[]=x HTTP/1.1\r\n\r\n"),
+        (page, b"GET /metrics?name[]=x" + local + b"\r\n"),
         (page, b"GET /metrics HTTP/1.0\r\n\r\n"),
-        (page, b"\r\nGET /metrics HTTP/1.1\nHost: x\n\n"),
-        (head, b"HEAD /metrics HTTP/1.1\r\nHost: localhost\r\n\r\n"),
+        (page, b"\r\nGET /metrics HTTP/1.1\nHost: 127.0.0.1\n\n"),
+        (head, b"HEAD /metrics" + local + b"\r\n"),
         (head, b"HEAD /metrics?name[]=x HTTP/1.0\r\n\r\n"),
-        (response("404 Not Found"), b"HEAD / HTTP/1.1\r\n\r\n"),
-        (response("404 Not Found"), b"HEAD /metrics/ HTTP/1.1\r\n\r\n"),
-        (response("404 Not Found"), b"GET / HTTP/1.1\r\n\r\n"),
-        (response("404 Not Found"), b"GET /metricsx HTTP/1.1\r\n\r\n"),
-        (response("404 Not Found"), b"GET /metrics/ HTTP/1.1\r\n\r\n"),
-        (not_allowed, b"POST /metrics HTTP/1.1\r\nContent-Length: 3\r\n\r\nabc"),
-        (not_allowed, b"head /metrics HTTP/1.1\r\n\r\n"),
-        (not_allowed, b"OPTIONS / HTTP/1.1\r\n\r\n"),
+        (response("404 Not Found"), b"HEAD /" + local + b"\r\n"),
+        (response("404 Not Found"), b"HEAD /metrics/" + local + b"\r\n"),
+        (response("404 Not Found"), b"GET /" + local + b"\r\n"),
+        (response("404 Not Found"), b"GET /metricsx" + local + b"\r\n"),
+        (response("404 Not Found"), b"GET /metrics/" + local + b"\r\n"),
+        (not_allowed, b"POST /metrics" + local + b"Content-Length: 3\r\n\r\nabc"),
+        (not_allowed, b"head /metrics" + local + b"\r\n"),
+        (not_allowed, b"OPTIONS /" + local + b"\r\n"),
         (response("400 Bad Request"), b"\xff\xfb\x28"),
         (response("400 Bad Request"), b"GET /metrics\r\n\r\n"),
         (response("400 Bad Request"), b"GET /metrics HTTP/2.0\r\n\r\n"),

@@ -55,6 +55,11 @@ from suites import s3270_sessions
 
 check = Checks()
 OPERATING = "docs/OPERATING.md"
+# What bin/operate says of its words.
+USAGE = [
+    "usage: bin/operate [OPTION ..] [HOST:]PORT|HOST [LU]",
+    "       bin/operate --hosts FILE [OPTION ..] [NAME [LU]]",
+]
 
 
 def run_alone(*words):
@@ -490,11 +495,93 @@ def options_are_passed_on():
             "For more information, try 'panel3270 help operate'.",
         )
     status, out, said = run_alone(SCRIPT, "--help")
-    expect(
-        "bin/operate --help",
-        (status, out.splitlines()[0], said),
-        (0, "usage: panel3270 operate --port P [OPTION ..]", ""),
-    )
+    lines = out.splitlines()
+    expect("bin/operate --help", (status, lines[:2], said), (0, USAGE, ""))
+    expect("its own option", any(it.startswith("  --hosts FILE") for it in lines), True)
+    expect("the program's", "usage: panel3270 operate --port P [OPTION ..]" in lines, True)
+
+
+# ---- the list of hosts
+
+
+@contextlib.contextmanager
+def hosts(text: str):
+    """The name of a file with this list of hosts."""
+    with tempfile.TemporaryDirectory() as name:
+        path = pathlib.Path(name) / "hosts"
+        path.write_text(text)
+        yield path
+
+
+def asks_host_for(operator, host, lu, model=2):
+    """The terminal is of this model, and asks for this LU; then the operator ends it."""
+    host.accepts()
+    host.says(DO, SEND_TYPE)
+    host.hears(WILL, device_type(7, lu, f"IBM-3278-{model}"))
+    operator.types(QUIT)
+    operator.ends(0)
+
+
+@check
+def a_name_of_the_list_is_a_host():
+    """A name stands for the words of its line: options, a host and an LU. An LU behind the name takes
+    the place of the line's, and further options go before or behind it."""
+    with Host() as host, hosts(
+        f"# Ours.\n\n  bank  {host.port}\nair\t--model 3 {LOCALHOST}:{host.port}  PNL01\n"
+    ) as path:
+        for words, lu, model in (
+            (("--hosts", path, "bank"), None, 2),
+            (("--hosts", path, "bank", "PNL02"), "PNL02", 2),
+            ((f"--hosts={path}", "air"), "PNL01", 3),
+            (("air", "PNL02", "--hosts", path), "PNL02", 3),
+            (("--hosts", path, "--model=4", "bank"), None, 4),
+            (("--quiet-keys", "--hosts", path, "bank", "--lu", "PNL01"), "PNL01", 2),
+        ):
+            with Operator(*words, rows=44) as operator:
+                asks_host_for(operator, host, lu, model)
+
+
+@check
+def the_list_of_hosts_is_asked_from():
+    """Without a name the list is shown, and a name is asked for until the list has it; the end of
+    input ends it."""
+    with Host() as host, hosts(f"# Ours.\nbank {host.port}\nair {host.port} PNL01\n") as path:
+        with Operator("--hosts", path, columns=160) as operator:
+            operator.until("a question", lambda screen: screen.line(2) == "host:")
+            listed = [f"{'bank':16} {host.port}", f"{'air':16} {host.port} PNL01"]
+            expect("the list", [operator.screen.line(row) for row in (0, 1)], listed)
+            operator.types("desk\n")
+            operator.until("a question", lambda screen: screen.line(4) == "host:")
+            unknown = f"{path} has no host 'desk'; it has bank air"
+            expect("what is said", operator.screen.line(3), unknown)
+            operator.types("air\n")
+            asks_host_for(operator, host, "PNL01")
+        with Operator("--hosts", path) as operator:
+            operator.until("a question", lambda screen: screen.line(2) == "host:")
+            operator.types(b"\x04")
+            operator.ends(0, *listed, "host:")
+
+
+@check
+def a_wrong_list_of_hosts_is_told():
+    """An unknown name has status 2. A file that can't be read, a line without a host and a name of two
+    lines have status 1, and the fault has the line's number."""
+    with hosts("# Ours.\nbank 3270\nair 3271\n") as path:
+        with Operator("--hosts", path, "desk", columns=160) as operator:
+            operator.ends(2, f"{path} has no host 'desk'; it has bank air")
+        with Operator("--hosts", path, "bank", "A", "B", columns=160) as operator:
+            operator.ends(2, *USAGE)
+    for text, fault in (
+        ("bank\n", ":1: a line NAME HOST is needed"),
+        ("bank 1\n\nair 2\nbank 3\n", ":4: the host 'bank' has a line already"),
+        ("# none\n", ": no line has a host"),
+        ("bank --model 3\n", ": 'bank' has no HOST"),
+    ):
+        with hosts(text) as path, Operator("--hosts", path, "bank", columns=160) as operator:
+            operator.ends(1, f"{path}{fault}")
+    for path in ("/no/hosts", "/"):
+        with Operator("--hosts", path) as operator:
+            operator.ends(1, f"{path}: can't be read")
 
 
 @check
@@ -778,6 +865,21 @@ def a_screen_that_is_not_saved_is_told():
         operator.types(SAVE)
         operator.until("the bell rings", lambda screen: screen.bells == 1)
         operator.has_status("connected", "PNL01", "001/005")
+
+
+@check
+def a_limit_of_a_file_is_told():
+    """A file that mayn't grow is one that can't be written: the signal of that limit ends nothing."""
+    limited = ["sh", "-c", 'ulimit -f 0; exec "$0" "$@"', SCRIPT]
+    with tempfile.TemporaryDirectory() as name, Host() as host:
+        path = pathlib.Path(name) / "screens"
+        with Operator("--save", path, host.port, command=limited) as operator:
+            host.binds()
+            operator.until("the form is shown", lambda screen: screen.line(0) == " HI")
+            operator.types(SAVE)
+            operator.has_status("connected", "X", "NOT", "SAVED", "PNL01", "001/005")
+            operator.types("A", QUIT)
+            operator.ends(0)
 
 
 @check
@@ -1100,10 +1202,12 @@ def it_says_how_it_is_started():
         said,
         (2, "", "operate needs a tty in raw mode: start it by bin/operate PORT [LU]\n"),
     )
+    usage = "\n".join(USAGE)
     for words, line in (
         (["3270"], "standard input and output must be a tty"),
-        ([], "usage: bin/operate [OPTION ..] [HOST:]PORT|HOST [LU]"),
-        (["1", "A", "B"], "usage: bin/operate [OPTION ..] [HOST:]PORT|HOST [LU]"),
+        ([], usage),
+        (["1", "A", "B"], usage),
+        (["--hosts"], usage),
     ):
         expect("bin/operate", run_alone(SCRIPT, *words), (2, "", line + "\n"))
 

@@ -2,7 +2,9 @@
 
 The heads are spelt by "The PROXY protocol, Versions 1 & 2", sections 2.1 and 2.2. HAProxy and stunnel
 send theirs, if they are installed."""
+import base64
 import contextlib
+import http.server
 import pathlib
 import shutil
 import socket
@@ -10,21 +12,24 @@ import ssl
 import struct
 import subprocess
 import tempfile
+import threading
 import time
 from collections.abc import Iterator
 
-from harness.case import Case, Checks, expect, of_function
+from harness.case import TOP, Case, Checks, expect, of_function
 from harness.hosts import (
     Client,
     DO,
     LOCALHOST,
     MOST_CONNECTIONS,
+    PATIENCE,
     SEND_TYPE,
     Server,
     WILL,
     event,
     free_port,
     in_seconds,
+    listens,
     until,
 )
 
@@ -199,7 +204,7 @@ def proxy(program, text, port):
         command = [program, "-f", str(config)] if program == "haproxy" else [program, str(config)]
         with subprocess.Popen(command, stderr=subprocess.DEVNULL, stdout=subprocess.DEVNULL) as it:
             try:
-                until(f"{program} listens", lambda: Server.listens(type("It", (), {"port": port})))
+                until(f"{program} listens", lambda: listens(port))
                 yield
             finally:
                 it.terminate()
@@ -230,18 +235,105 @@ listen tn3270
             is_known_through(host, Client(port))
 
 
+# ---- HAProxy before `web`
+
+WEB = TOP / "examples/web-haproxy.cfg"
+# In the example Ada's password is `lovelace`.
+RIGHT, WRONG_PASSWORD = (
+    f"Authorization: Basic {base64.b64encode(it).decode()}" for it in (b"ada:lovelace", b"ada:byron")
+)
+
+
+def certificate(folder):
+    """The files of a certificate for localhost, and of that and its private key."""
+    pem, cert = pathlib.Path(folder) / "host.pem", pathlib.Path(folder) / "cert.pem"
+    subprocess.run(
+        ["openssl", "req", "-x509", "-newkey", "rsa:2048", "-nodes", "-subj", "/CN=localhost"]
+        + ["-days", "2", "-keyout", pem, "-out", cert],
+        check=True,
+        capture_output=True,
+    )
+    pem.write_text(pem.read_text() + cert.read_text())
+    return cert, pem
+
+
+def haproxy_takes_the_example():
+    """`haproxy -c` has no fault and no warning of the example for `web`."""
+    with tempfile.TemporaryDirectory() as folder:
+        config = pathlib.Path(folder) / "web.cfg"
+        _, pem = certificate(folder)
+        config.write_text(WEB.read_text().replace("/etc/haproxy/host.pem", str(pem)))
+        words = ["haproxy", "-c", "-f", config]
+        said = subprocess.run(words, capture_output=True, text=True, check=False)
+        text = said.stdout + said.stderr
+        expect("haproxy -c", (said.returncode, "WARNING" in text, "ALERT" in text), (0, False, False))
+
+
+@contextlib.contextmanager
+def example():
+    """The port of the example without TLS, before a server that answers each request."""
+
+    class Answer(http.server.BaseHTTPRequestHandler):
+        def do_GET(self):
+            self.send_response(200)
+            self.send_header("Content-Length", "0")
+            self.end_headers()
+
+        def log_message(self, *_):
+            pass
+
+    port, text = free_port(), WEB.read_text()
+    with http.server.ThreadingHTTPServer((LOCALHOST, 0), Answer) as server:
+        threading.Thread(target=server.serve_forever, daemon=True).start()
+        for old, new in (
+            ("bind :443 ssl crt /etc/haproxy/host.pem", f"bind {LOCALHOST}:{port}"),
+            ("127.0.0.1:8080", f"{LOCALHOST}:{server.server_address[1]}"),
+        ):
+            expect(f"{old} is in the example", text.count(old), 1)
+            text = text.replace(old, new)
+        with proxy("haproxy", text, port):
+            yield port
+        server.shutdown()
+
+
+def status_with(port, *fields):
+    """The status of an answer to a request with these fields."""
+    request = "\r\n".join(("GET / HTTP/1.1", "Host: terminals.example", *fields, "", "")).encode()
+    with socket.create_connection((LOCALHOST, port), PATIENCE) as it:
+        it.sendall(request)
+        return int(it.recv(1 << 12).split()[1])
+
+
+def the_example_limits_passwords():
+    """Nobody is served without a password; and from an address that sent ten wrong ones, nobody is by
+    the right one, either. Requests without a password, which browsers send first, aren't counted."""
+    with example() as port:
+        expect("without a password", [status_with(port) for _ in range(20)], [401] * 20)
+        expect("with the right one", status_with(port, RIGHT), 200)
+        wrong = [status_with(port, WRONG_PASSWORD) for _ in range(12)]
+        expect("with wrong ones", wrong, [401] * 10 + [429] * 2)
+        expect("with the right one", status_with(port, RIGHT), 429)
+
+
+def the_example_limits_heads():
+    """A request whose head isn't complete after ten seconds ends, however slowly it goes on."""
+    with example() as port, socket.create_connection((LOCALHOST, port), PATIENCE) as it:
+        it.sendall(b"GET / HTTP/1.1\r\n")
+
+        def ends():
+            it.settimeout(1)
+            while True:
+                with contextlib.suppress(TimeoutError):
+                    return expect("the status", it.recv(1 << 12).split()[1:2], [b"408"])
+                it.sendall(b"X: y\r\n")
+
+        in_seconds(9, 14, "a slow head", ends)
+
+
 def stunnel_names_its_client():
     """stunnel with `protocol = proxy`."""
     with Server("serve", "--proxy-protocol") as host, tempfile.TemporaryDirectory() as folder:
-        port, pem = free_port(), f"{folder}/host.pem"
-        subprocess.run(
-            ["openssl", "req", "-x509", "-newkey", "rsa:2048", "-nodes", "-subj", "/CN=localhost"]
-            + ["-days", "2", "-keyout", pem, "-out", f"{folder}/cert.pem"],
-            check=True,
-            capture_output=True,
-        )
-        with open(pem, "a") as it:
-            it.write(pathlib.Path(f"{folder}/cert.pem").read_text())
+        port, (_, pem) = free_port(), certificate(folder)
         text = f"""
 foreground = yes
 pid =
@@ -267,6 +359,10 @@ def cases() -> Iterator[Case]:
             yield of_function(
                 lambda option=option: haproxy_names_its_client(option), f"haproxy with {option}"
             )
+        yield of_function(the_example_limits_passwords)
+        yield of_function(the_example_limits_heads)
+        if shutil.which("openssl"):
+            yield of_function(haproxy_takes_the_example)
     else:
         print("proxy: haproxy isn't installed (apt-get install haproxy)")
     if shutil.which("stunnel") and shutil.which("openssl"):

@@ -109,3 +109,35 @@ def clear_in_the_wait_of_a_panel_ends_nothing():
         it.does("Enter()", "Reset()", "Clear()", "SysReq()", "Attn()")
         hosts.until("a panel", lambda: it.rows() in (["NEXT  ANN"], ["NAME", "?PRINT"]))
         expect("whether it is connected", it.terminal.is_connected(), True)
+
+
+NUMBER = b"""start = "DESK"
+lus = ["DESK01"]
+[[panel]]
+name = "DESK"
+field = [{name = "number", row = 1, col = 2, length = 4, numeric = true}]
+"""
+
+
+@check
+def numeric_fields_are_as_the_page_for_users_says():
+    """In a numeric field s3270 takes any character, with numericLock only digits, `.` and `,`, and so
+    no `-`; this project's terminal takes only digits, `.` and `-`."""
+    is_wanted("s3270")
+    lock = ("-xrm", "s3270.numericLock: true")
+    with hosts.Server("serve", text=NUMBER) as host:
+        for more, taken in (((), "07.,-A+"), (lock, "07.,")):
+            with S3270(2, *more) as other:
+                other.does(f"Connect({hosts.LOCALHOST}:{host.port})", f"Wait({SOON},InputField)")
+                for letter in "07.,-A+":
+                    other.does("Reset()", "EraseInput()", "Home()")
+                    if letter in taken:
+                        other.does(f'String("{letter}")')
+                    else:
+                        other.fails(f'String("{letter}")')
+                    shown = [letter] if letter in taken else []
+                    expect(f"{more} {letter}", [it.strip() for it in other.shows() if it.strip()], shown)
+        for letter in "07.,-A+":
+            words = ["term", "--port", host.port]
+            said = hosts.run(words, f"wait\ntype {letter}\n".encode())[1]
+            expect(f"term: {letter}", said, "" if letter in "07.-" else "refused 3\n")

@@ -440,6 +440,7 @@ STEPS = {
     "echo 'Connect(NOSUCH": S3270,
     "bin/operate ": operates,
     "# A line that begins with # is a comment.": "is a keymap: the suite operate",
+    "# The hosts of this office.": "is a list of hosts: the suite operate",
     "panel3270 web --port 8080": serves_pages,
     "listening on 127.0.0.1:3270\ntime=": "is the log of s3270: the suite s3270_sessions",
     "warning: other machines": PRINTED,

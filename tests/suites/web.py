@@ -29,10 +29,10 @@ REDRAW, QUIT = b"\x0c", b"\x1d"
 
 
 class Web:
-    """A `web` beside a host."""
+    """A `web` beside a host, which has these options."""
 
-    def __init__(self, *words, text=None):
-        self.host = Server("serve", text=text or BANK.read_bytes())
+    def __init__(self, *words, text=None, host=()):
+        self.host = Server("serve", *host, text=text or BANK.read_bytes())
         self.port, self.log = free_port(), tempfile.TemporaryFile()
         words = ["web", "--port", str(self.port), "--connect", str(self.host.port), *words]
         self.process = subprocess.Popen(

@@ -8,6 +8,8 @@
 
 mod live;
 mod live_session;
+mod meaning;
+mod settings;
 mod typed;
 
 pub use live::{LiveTerminal, OperatorRequest, Overlay};

@@ -1,29 +1,32 @@
 //! A live terminal: the bytes of an operator's tty and of a host come in, and what the tty is to be written goes out.
-ghost use Rattle.std.specs.Prelude.{◌≡◌, ◌<◌, ◌≤◌, [], None, false, IfOk, OnErr, OnOk, drop, length, map, string_bytes};
+ghost use Rattle.std.specs.Prelude.{◌≡◌, ◌<◌, ◌≤◌, [], None, false, IfOk, OnErr, OnOk, drop, length};
 ghost use Rattle.term_core.specs.Presses.{after_key, answer_to_key};
 ghost use Rattle.term_core.specs.Room.{out_room};
 ghost use Rattle.term_core.specs.State.{phase_of, connected, lost, model_of};
 ghost use Rattle.tty.specs.KeyReading.{read_byte};
 ghost use Rattle.tty.specs.Painting.{notice_of, page_of};
 ghost use Rattle.tty.specs.TtyRoom.{too_small_text};
-ghost use Rattle.operate.specs.Live.{Draws, DrawsIf, Hears, IsOutOfMemory, PausesIf, ReadsTyped, Resumes, Sounds, TakesTurn, Types, after_action, after_help, after_key_at, after_keystroke, after_keystrokes, after_maybe, after_meaning, after_other, after_pasted, after_press, after_save, after_stroke, after_time, after_typed, after_typing, all_typed, asks_after, connects, cursor_of, cut_off, cut_trouble, can_edit, erased, first_seat, follows_attribute, has_bytes, held, is_connected, is_enter, is_idle, is_keys, is_pause, is_quit, is_refused, is_reset, is_reset_action, is_status, is_unlocked, is_wait, lack_at, lu_place, page_at, pasted_control, pasted_key, pasting, picture_at, resized, rung, screen_at, seconds_of, status_place, told, trouble_after, waits};
+ghost use Rattle.operate.specs.Live.{Draws, DrawsIf, Hears, IsOutOfMemory, PausesIf, ReadsTyped, Resumes, Sounds, TakesTurn, Types, after_action, after_key_at, after_keystroke, after_keystrokes, after_maybe, after_meaning, after_other, after_pasted, after_press, after_save, after_stroke, after_time, after_typed, after_typing, all_typed, cursor_of, cut_off, can_edit, erased, first_seat, follows_attribute, has_bytes, held, is_pause, is_refused, lack_at, page_at, pasted_key, pasting, picture_at, resized, rung, screen_at, seconds_of, told, trouble_after};
 ghost use Rattle.std.specs.Option.{option_to_list};
 ghost use Rattle.std.specs.Prelude.{Option};
-ghost use Rattle.keyboard.specs.Places.{is_free_at};
-ghost use Rattle.codes3270.specs.Size.{cells_in};
 
+use crate::meaning::{
+    after_help, asks_after, can_edit, connects, cut_trouble, follows_attribute, is_connected,
+    is_keys, is_quit, is_refused, is_reset, is_reset_action, is_unlocked, lu_place, pasted_key,
+    seconds_of, status_place, trouble_after, waits,
+};
+use crate::settings::Settings;
 use crate::typed::{MOST_AHEAD, Paste, Typeahead, Typed};
-use codes3270::{Addr, Model};
+use codes3270::Model;
 use jobs::TtySize;
-use keyboard::{Key, Lock, Pressed, Refusal};
-use presentation::Screen;
+use keyboard::Key;
 use std::alloc::{AllocError, Global};
 use std::marker;
 use term_core::{TermPhase, Terminal, screen_lines};
 use tn3270e_msg::{Lu, Stop};
 use tty::{
-    Action, Colors, Drawing, KeyReader, Keymap, Keystroke, Picture, Status, StatusPlace, TooSmall,
-    Trouble, check_room, put_bell,
+    Action, Colors, Drawing, KeyReader, Keymap, Keystroke, Picture, Status, TooSmall, Trouble,
+    check_room, put_bell,
 };
 
 /// What an operator asks of the program.
@@ -46,45 +49,6 @@ pub enum Overlay {
     Status,
     /// The table of keys in place of the screen.
     Keys,
-}
-
-/// How an operator has the terminal.
-#[derive(Drop)]
-struct Settings {
-    /// What the keys do.
-    keymap: Keymap,
-    /// The lines of the table of keys.
-    page: Vec<String>,
-    /// For how many milliseconds without a byte an incomplete keystroke is waited for.
-    escape: u32,
-    /// Whether the bell doesn't ring for keys.
-    quiet: bool,
-    /// Whether there is a file in which screens are saved.
-    saves: bool,
-}
-
-impl marker::Model for Settings {
-    ghost use Rattle.std.specs.Prelude.{map, string_bytes};
-    ghost use Rattle.operate.specs.Live.{Settings as SettingsValue};
-
-    ghost Value = { SettingsValue };
-
-    ghost view = { λ settings. record {
-      keymap = settings.keymap;
-      page = map (λ line. string_bytes line) settings.page.items;
-      escape = settings.escape;
-      quiet = settings.quiet;
-      saves = settings.saves;
-    } };
-}
-
-impl Settings {
-    /// The lines of the table of keys.
-    fn lines(&self) -> &[String]
-        ensures { map (λ line. string_bytes line) result.now ≡ self.now.page }
-    {
-        self.page.as_slice()
-    }
 }
 
 /// A terminal that an operator uses at a tty. It owns neither the tty nor the connection: its caller hands it the bytes
@@ -145,113 +109,6 @@ impl marker::Model for LiveTerminal {
     } };
 }
 
-// ---- the meaning of a keystroke
-
-/// Whether the operator asked to end the program.
-fn is_quit(asked: OperatorRequest) -> bool
-    ensures { result ≡ is_quit asked }
-{
-    matches!(asked, OperatorRequest::Quit)
-}
-
-/// Whether there is no connection.
-fn is_idle(phase: &TermPhase) -> bool
-    ensures { result ≡ is_idle phase.now }
-{
-    matches!(phase, TermPhase::Idle)
-}
-
-/// Whether a key is Enter.
-fn is_enter(key: &Key) -> bool
-    ensures { result ≡ is_enter key.now }
-{
-    matches!(key, Key::Enter)
-}
-
-/// Whether a key is Reset.
-fn is_reset(typed: &Typed) -> bool
-    ensures { result ≡ is_reset typed.now }
-{
-    matches!(typed, Typed::Key(Key::Reset))
-}
-
-/// Whether a keyboard with this lock is free.
-fn is_unlocked(lock: Lock) -> bool
-    ensures { result ≡ is_unlocked lock }
-{
-    matches!(lock, Lock::Free)
-}
-
-/// Whether a keyboard with this lock waits for the host.
-fn is_wait(lock: Lock) -> bool
-    ensures { result ≡ is_wait lock }
-{
-    matches!(lock, Lock::Wait)
-}
-
-/// Whether the keyboard of a connected terminal waits for the host.
-fn waits(terminal: &Terminal) -> bool
-    ensures { result ≡ waits terminal.now.terminal }
-{
-    !is_idle(&terminal.phase()) && is_wait(terminal.lock())
-}
-
-/// Whether the table of keys is shown.
-fn is_keys(overlay: Overlay) -> bool
-    ensures { result ≡ is_keys overlay }
-{
-    matches!(overlay, Overlay::Keys)
-}
-
-/// Whether the status row is asked for.
-fn is_status(overlay: Overlay) -> bool
-    ensures { result ≡ is_status overlay }
-{
-    matches!(overlay, Overlay::Status)
-}
-
-/// What is shown after the key that shows the table of keys: if that is shown, the screen.
-fn after_help(overlay: Overlay) -> Overlay
-    ensures { result ≡ after_help overlay }
-{
-    if is_keys(overlay) {
-        Overlay::Nothing
-    } else {
-        Overlay::Keys
-    }
-}
-
-/// Where the status row is, if this screen is shown on a tty with this many rows.
-fn status_place(overlay: Overlay, tty_rows: u16, screen: &Screen) -> StatusPlace
-    ensures { result ≡ status_place overlay tty_rows screen.now.size.rows }
-{
-    if screen.size().rows() < tty_rows {
-        StatusPlace::Below
-    } else if is_status(overlay) {
-        StatusPlace::Over
-    } else {
-        StatusPlace::Nowhere
-    }
-}
-
-/// What the status row says after a key; None if nothing.
-fn trouble_after(pressed: &Pressed, shown: Option<Trouble>) -> Option<Trouble>
-    ensures { result ≡ trouble_after pressed.now shown }
-{
-    match pressed {
-        Pressed::Refused(Refusal::Locked) => shown,
-        Pressed::Refused(why) => Some(Trouble::Refused(*why)),
-        Pressed::Done | Pressed::Send(_) => None,
-    }
-}
-
-/// Whether a key was refused.
-fn is_refused(pressed: &Pressed) -> bool
-    ensures { result ≡ is_refused pressed.now }
-{
-    matches!(pressed, Pressed::Refused(_))
-}
-
 /// Presses a key. Answers whether it was refused.
 fn press(
     terminal: &mut Terminal,
@@ -268,116 +125,6 @@ fn press(
             Ok(is_refused(&pressed))
         }
         Err(error) => Err(error),
-    }
-}
-
-/// Whether a key asks for a connection: Enter without one.
-fn connects(key: &Key, terminal: &Terminal) -> bool
-    ensures { result ≡ connects key.now terminal.now.terminal }
-{
-    is_idle(&terminal.phase()) && is_enter(key)
-}
-
-/// Whether a cell can be typed into.
-fn is_free_at(screen: &Screen, at: Addr) -> bool
-    requires { at < cells_in screen.now.size }
-    ensures { result ≡ is_free_at screen.now.screen.cells at }
-{
-    let is_protected = screen.attribute_over(at).is_some_and(|attr| attr.protected);
-    screen.cell(at).is_character() && !is_protected
-}
-
-/// Whether the cursor is at a character that the keyboard lets an operator change.
-fn can_edit(terminal: &Terminal) -> bool
-    ensures { result ≡ can_edit terminal.now.terminal }
-{
-    let screen = terminal.screen();
-    is_unlocked(terminal.lock()) && is_free_at(screen, screen.cursor())
-}
-
-/// Whether the cell before the cursor has an attribute.
-fn follows_attribute(terminal: &Terminal) -> bool
-    ensures { result ≡ follows_attribute terminal.now.terminal }
-{
-    let screen = terminal.screen();
-    let before = screen.cursor().backward(1, screen.size());
-    !screen.cell(before).is_character()
-}
-
-/// What the status row says of a text that was cut, given the keyboard's lock and what it said before.
-fn cut_trouble(lock: Lock, shown: Option<Trouble>) -> Option<Trouble>
-    ensures { result ≡ cut_trouble lock shown }
-{
-    match lock {
-        Lock::Free => Some(Trouble::PasteCut),
-        Lock::Wait | Lock::Error => shown,
-    }
-}
-
-/// The key that a control character is in a pasted text.
-fn pasted_control(byte: u8) -> Option<Key>
-    ensures { result ≡ pasted_control byte }
-{
-    match byte {
-        0x09 => Some(Key::Tab),
-        0x0A | 0x0D => Some(Key::NewLine),
-        _ => None,
-    }
-}
-
-/// The key that a keystroke is in a pasted text.
-fn pasted_key(keystroke: Keystroke) -> Option<Key>
-    ensures { result ≡ pasted_key keystroke }
-{
-    match keystroke {
-        Keystroke::Char(letter) => Some(Key::Char(letter)),
-        Keystroke::Control(byte) => pasted_control(byte),
-        _ => None,
-    }
-}
-
-/// Whether an action is the key Reset.
-fn is_reset_action(action: Action) -> bool
-    ensures { result ≡ is_reset_action action }
-{
-    matches!(action, Action::Key(Key::Reset))
-}
-
-/// The whole seconds in a number of milliseconds, below 60,000.
-fn seconds_of(millis: u32) -> u16
-    ensures { result ≡ seconds_of millis }
-{
-    (millis / 1000 % 60_000) as u16
-}
-
-/// What the operator asks for after a key, given the terminal's phase before it.
-fn asks_after(key: &Key, phase: &TermPhase, asked: OperatorRequest) -> OperatorRequest
-    ensures { result ≡ asks_after key.now phase.now asked }
-{
-    if is_idle(phase) && is_enter(key) {
-        OperatorRequest::Connect
-    } else {
-        asked
-    }
-}
-
-// ---- the contents of the status row
-
-/// Whether there is a connection.
-fn is_connected(phase: &TermPhase) -> bool
-    ensures { result ≡ is_connected phase.now }
-{
-    !matches!(phase, TermPhase::Idle | TermPhase::Closed(_))
-}
-
-/// The text in the status row's place for the LU: the LU's name, or what Enter does if there is no connection.
-fn lu_place(phase: &TermPhase) -> &[u8]
-    ensures { result.now ≡ lu_place phase.now }
-{
-    match phase {
-        TermPhase::Bound(lu) => lu.as_bytes(),
-        TermPhase::Idle => b"Enter connects",
-        TermPhase::Talking | TermPhase::Refused(_) | TermPhase::Closed(_) => b"",
     }
 }
 

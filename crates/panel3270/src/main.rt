@@ -18,6 +18,7 @@ use service::{ServeOptions, open_panels, run_host, run_serve, run_tell};
 use std::env;
 use std::fs::{File, OpenOptions};
 use std::io::{self, ErrorKind, IsTerminal, Stdout};
+use std::os::fd::{AsRawFd, IntoRawFd, RawFd};
 use std::process::ExitCode;
 use tty::{Keymap, KeymapFault};
 use web::run_web;
@@ -28,6 +29,27 @@ const STANDARD_INPUT: &str = "standard input";
 /// The message of `serve` if the panels are read from a tty, so that an operator has to type them.
 const WAITS_FOR_PANELS: &str =
     "reading panels from standard input; end with Ctrl-D, or give --panels FILE";
+
+/// The number of the last standard stream, that of errors.
+const LAST_STREAM: RawFd = 2;
+
+/// Opens `/dev/null` for each standard stream that is closed. Otherwise the next socket or file would take its number,
+/// and be read or written in its place.
+fn open_closed_streams(rt: &HostRuntime) {
+    for _ in 0..=LAST_STREAM {
+        let opened = OpenOptions::new()
+            .read(true)
+            .write(true)
+            .open(rt, "/dev/null");
+        match opened {
+            // The system gives the lowest number that is free. It stays open.
+            Ok(file) if file.as_raw_fd() <= LAST_STREAM => {
+                let _ = file.into_raw_fd();
+            }
+            _ => return,
+        }
+    }
+}
 
 /// The arguments after the program's name.
 fn given_words(rt: &HostRuntime) -> io::Result<Vec<String>> {
@@ -222,6 +244,7 @@ fn run(rt: &HostRuntime, given: &[String]) -> u8 {
 }
 
 fn main(rt: HostRuntime) -> ExitCode {
+    open_closed_streams(&rt);
     let status = match given_words(&rt) {
         Ok(given) => run(&rt, given.as_slice()),
         Err(error) => refuse_words(unread(error.kind()), &mut CountedWriter::new(rt.stderr())),

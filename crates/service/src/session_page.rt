@@ -20,10 +20,11 @@ fn since(row: &SessionRow, started: Option<i64>) -> Option<Timestamp> {
     Timestamp::from_second(started?.checked_add(seconds)?).ok()
 }
 
-/// Adds a session as an object. No value has a quote or a backslash.
+/// Adds a session as an object, with the number in its name alone: by the whole name applications know who is signed on.
+/// No value has a quote or a backslash.
 fn put_object(text: &mut String, row: &SessionRow, started: Option<i64>) -> Result<(), AllocError> {
-    let (name, peer, turns, phase) = (row.name, row.peer, row.turns, phase_of(row));
-    write!(text, "{{\"session\":\"{name}\",\"lu\":")?;
+    let (number, peer, turns, phase) = (row.name.number, row.peer, row.turns, phase_of(row));
+    write!(text, "{{\"session\":{number},\"lu\":")?;
     match row.lu {
         Some(lu) => write!(text, "\"{lu}\"")?,
         None => text.push_str("null")?,
@@ -38,8 +39,8 @@ fn put_object(text: &mut String, row: &SessionRow, started: Option<i64>) -> Resu
 
 /// Adds a session as a row of a table. No value has a character that HTML takes for markup.
 fn put_row(text: &mut String, row: &SessionRow, started: Option<i64>) -> Result<(), AllocError> {
-    let (name, peer, turns, phase) = (row.name, row.peer, row.turns, phase_of(row));
-    write!(text, "<tr><td>{name}<td>")?;
+    let (number, peer, turns, phase) = (row.name.number, row.peer, row.turns, phase_of(row));
+    write!(text, "<tr><td>{number}<td>")?;
     match row.lu {
         Some(lu) => write!(text, "{lu}")?,
         None => text.push_str("-")?,
