@@ -32,7 +32,7 @@ use Rattle.world3270.specs.statement.Rules.{Operates, after_sending, data_by, ed
 use Rattle.world3270.specs.model.Terminal.{Display, TermEnd, TermStep, bound_to, data_of, is_bound}
 use Rattle.world3270.proofs.Cleared.{Cleared, DisplaysAlike, Follows, HostsAlike, IsPlain, PaintAnswered, Stage, hearing_clear, paint_answers}
 use Rattle.world3270.proofs.ClearedHost.{IsClearOr, clear_or, paints_so}
-use Rattle.world3270.proofs.ClearedQueue.{AddsKeys, SaysToo, any_keys, any_last, both_say_too, erases, is_any_key, with_clears}
+use Rattle.world3270.proofs.ClearedQueue.{AddsKeys, AnswersAlike, SaysToo, answers_more, answers_unread, any_keys, any_last, both_say_too, erases, is_any_key, with_clears}
 use Rattle.world3270.proofs.ClearsDue.{Fate, clears_after, clears_due, due_after, due_in, due_still, is_clear_data}
 use Rattle.world3270.proofs.Queues.{nothing_sent}
 use Rattle.world3270.proofs.ReadsInput.{still_unformatted}
@@ -93,15 +93,19 @@ pub record IsLocked (app : Application) (lu : List ℕ) (t : LinkWithReport) : T
   pub down : t.link.down ≡ told.down
   pub talk : t.link.term.talk ≡ told.term.talk
   pub said : List ToHost
-  pub alike : SaysAlike told.host told.up said
+  pub alike : AnswersAlike told.host told.up said t.link.up
   pub keys : AddsKeys true true told.host.turn told.host.pending said t.link.up
   pub model : t.link.term.display.model ≡ told.term.display.model
   pub rest : DisplaysAlike told t.link
 
 -- what both say ends where keys are dropped
-drops_said : (conn : Session) (told said : List ToHost) → SaysAlike conn told said → drops_behind told conn.turn conn.pending ≡ true → drops_behind said conn.turn conn.pending ≡ true
-drops_said conn told said (SaysAlike.same is_same) drops = ap (λ (l : List ToHost). drops_behind l conn.turn conn.pending) is_same ∙ drops
-drops_said conn told said (SaysAlike.checked number one other rest pends skips one_kept other_kept is_told is_said) drops =
+drops_said : (conn : Session) (told said real : List ToHost) → AnswersAlike conn told said real → drops_behind told conn.turn conn.pending ≡ true → drops_behind said conn.turn conn.pending ≡ true
+drops_said conn told said real (AnswersAlike.by_saying (SaysAlike.same is_same)) drops = ap (λ (l : List ToHost). drops_behind l conn.turn conn.pending) is_same ∙ drops
+drops_said conn told said real (AnswersAlike.behind_clear number one other rest pends skips one_kept is_told is_said heard) drops =
+    ap (λ (l : List ToHost). drops_behind l conn.turn conn.pending) is_said
+    ∙ sym (ap (λ (l : List ToHost). drops_behind l conn.turn conn.pending) is_told)
+    ∙ drops
+drops_said conn told said real (AnswersAlike.by_saying (SaysAlike.checked number one other rest pends skips one_kept other_kept is_told is_said)) drops =
     ap (λ (l : List ToHost). drops_behind l conn.turn conn.pending) is_said
     ∙ sym (ap (λ (l : List ToHost). drops_behind l conn.turn conn.pending) is_told)
     ∙ drops
@@ -113,14 +117,14 @@ key_is : (aid : Aid) (end : TermEnd) → (key_data aid end).aid ≡ aid
 key_is aid end = key_aid end.display.size (with_aid aid end.display.screen) ∙ with_aid-aid aid end.display.screen
 
 -- what a key sends comes last
-key_queued : (app : Application) (told now : Link) (clears later : Bool) (said : List ToHost) → ConnectionInvariant app (view_of told) → SaysAlike told.host told.up said → told.term.display.keyboard.lock ≡ Wait → now.lost ≡ told.lost → (bound lost : Bool) (aid : Aid) → (aid ≡ NoAid → ⊥)
+key_queued : (app : Application) (told now : Link) (clears later : Bool) (said : List ToHost) → ConnectionInvariant app (view_of told) → AnswersAlike told.host told.up said now.up → told.term.display.keyboard.lock ≡ Wait → now.lost ≡ told.lost → (bound lost : Bool) (aid : Aid) → (aid ≡ NoAid → ⊥)
     → (aid ≡ Clear → (clears ≡ true) × (later ≡ true)) → now.lost ≡ lost → AddsKeys clears later told.host.turn told.host.pending said now.up
     → AddsKeys clears later told.host.turn told.host.pending said (sent lost now.up (data_of bound (Send aid) now.term.display.size (with_aid aid now.term.display.screen)))
 key_queued app told now clears later said kept alike locked same false lost aid some may is keys = subst (λ (up : List ToHost). AddsKeys clears later told.host.turn told.host.pending said up) (sym (nothing_sent lost now.up)) keys
 key_queued app told now clears later said kept alike locked same true true aid some may is keys = keys
 key_queued app told now clears later said kept alike locked same true false aid some may is keys =
     any_last clears later told.host.turn told.host.pending said now.up (ToHost.Data (key_data aid now.term)) (key_data aid now.term) refl (key_form now.term.display.size (with_aid aid now.term.display.screen))
-    (ap is_any_key (key_is aid now.term) ∙ any_key aid some) (λ clear. may (sym (key_is aid now.term) ∙ clear)) (drops_said told.host told.up said alike (waits_drop app told kept (sym same ∙ is) locked)) keys
+    (ap is_any_key (key_is aid now.term) ∙ any_key aid some) (λ clear. may (sym (key_is aid now.term) ∙ clear)) (drops_said told.host told.up said now.up alike (waits_drop app told kept (sym same ∙ is) locked)) keys
 
 module _ (app : Application) (lu : List ℕ) (t : LinkWithReport) (l : IsLocked app lu t) where
   abbrev told : Link
@@ -137,9 +141,9 @@ module _ (app : Application) (lu : List ℕ) (t : LinkWithReport) (l : IsLocked 
   FateBehind sends = Fate told l.said (record now { up = sent now.lost now.up sends })
 
   -- whatever the operator changes
-  changes : (screen : Screen) (keyboard : Keyboard) (erased : Bool) (up : List ToHost) → AddsKeys true true told.host.turn told.host.pending l.said up → Fate told l.said (record now { up = up }) → IsPlain told screen
+  changes : (screen : Screen) (keyboard : Keyboard) (erased : Bool) (up : List ToHost) → AnswersAlike told.host told.up l.said up → AddsKeys true true told.host.turn told.host.pending l.said up → Fate told l.said (record now { up = up }) → IsPlain told screen
       → Cleared app lu (record { link = record now { term = record now.term { display = record now.term.display { screen = screen; keyboard = keyboard; erased = erased } }; up = up }; told = t.told; waits = true; cleared = true })
-  changes screen keyboard erased up keys fate plain = record {
+  changes screen keyboard erased up alike keys fate plain = record {
     told = told;
     kept = l.kept;
     agreed = l.agreed;
@@ -157,7 +161,7 @@ module _ (app : Application) (lu : List ℕ) (t : LinkWithReport) (l : IsLocked 
     down = l.down;
     talk = l.talk;
     clears = true;
-    up = record { said = l.said; alike = l.alike; up = keys };
+    up = record { said = l.said; alike = alike; up = keys };
     stage = Stage.gone refl l.locked l.no_pa (by_fate fate);
     model = l.model;
     rest = λ shown. ap (λ (d : Display). record d { screen = screen; keyboard = keyboard; erased = erased }) (l.rest shown);
@@ -173,15 +177,19 @@ module _ (app : Application) (lu : List ℕ) (t : LinkWithReport) (l : IsLocked 
       by_fate (Fate.was_heard none unheard) = Fate.was_heard none unheard
       by_fate (Fate.erases_next erasing silent) = Fate.erases_next erasing silent
 
+  alike_queued : (lost : Bool) (more : List ToHost) → AnswersAlike told.host told.up l.said (sent lost now.up more)
+  alike_queued true more = l.alike
+  alike_queued false more = answers_more told.host told.up l.said now.up more l.alike
+
   does_so : (step : TermStep) → Operates now.term step → FateBehind step.sends → IsPlain told step.end.display.screen → Cleared app lu (untold step)
   does_so step (Operates.edits keyboard cells cursor nulls held on is) fate plain =
       subst (λ (s : TermStep). Cleared app lu (untold s)) (sym is)
-      (changes (record now.term.display.screen { cells = cells; cursor = cursor }) keyboard (now.term.display.erased || nulls) (sent now.lost now.up [])
+      (changes (record now.term.display.screen { cells = cells; cursor = cursor }) keyboard (now.term.display.erased || nulls) (sent now.lost now.up []) (alike_queued now.lost [])
       (subst (λ (up : List ToHost). AddsKeys true true told.host.turn told.host.pending l.said up) (sym (nothing_sent now.lost now.up)) l.keys)
       (subst (λ (s : TermStep). FateBehind s.sends) is fate) (subst (λ (s : TermStep). IsPlain told s.end.display.screen) is plain))
   does_so step (Operates.sends keyboard aid some is) fate plain =
       subst (λ (s : TermStep). Cleared app lu (untold s)) (sym is)
-      (changes (with_aid aid now.term.display.screen) keyboard now.term.display.erased (sent now.lost now.up (data_by aid now.term))
+      (changes (with_aid aid now.term.display.screen) keyboard now.term.display.erased (sent now.lost now.up (data_by aid now.term)) (alike_queued now.lost (data_by aid now.term))
       (key_queued app told now true true l.said l.kept l.alike l.locked l.lost (is_bound now.term) now.lost aid some (λ clear. (refl, refl)) refl l.keys)
       (subst (λ (s : TermStep). FateBehind s.sends) is fate) (subst (λ (s : TermStep). IsPlain told s.end.display.screen) is plain))
 
@@ -217,13 +225,10 @@ module _ (app : Application) (lu : List ℕ) (t : LinkWithReport) (l : IsLocked 
           (due_after true true told.host.turn told.host.pending it.number Verdict.Positive others now.up key is_clear_key
           (subst (λ (said : List ToHost). AddsKeys true true told.host.turn told.host.pending said now.up) (said_is it) l.keys))))
         where
-          by_alike : (it : PaintAnswered told first) → SaysAlike told.host told.up l.said → l.said ≡ told.up
-          by_alike it (SaysAlike.same same) = same
-          by_alike it (SaysAlike.checked number one other more pends skips one_kept other_kept is_told is_said) =
-              absurd (let wrong : Pending.Reading number ≡ Pending.Writing it.number it.command = sym pends ∙ it.pending in cc)
-
           said_is : (it : PaintAnswered told first) → l.said ≡ ToHost.Response it.number Verdict.Positive ∷ others
-          said_is it = by_alike it l.alike ∙ some ∙ ap (λ (m : ToHost). m ∷ others) it.first_is
+          said_is it =
+              answers_unread told.host told.up l.said now.up (λ number reads. absurd (let wrong : Pending.Reading number ≡ Pending.Writing it.number it.command = sym reads ∙ it.pending in cc)) l.alike
+              ∙ some ∙ ap (λ (m : ToHost). m ∷ others) it.first_is
 
       by_erasing : now.lost ≡ false → (erasing : Bool) → erases told.host.pending ≡ erasing → Fate told l.said (record now { up = now.up ++ key ∷ [] })
       by_erasing live true erasing = by_up now.lost refl live erasing told.up refl
@@ -271,7 +276,7 @@ module _ (app : Application) (lu : List ℕ) (t : LinkWithReport) where
     down = s.simulates.down;
     talk = s.simulates.talk;
     said = s.simulates.up.said;
-    alike = s.simulates.up.alike;
+    alike = AnswersAlike.by_saying s.simulates.up.alike;
     keys = any_keys true true s.told.host.turn s.told.host.pending s.simulates.up.said t.link.up s.simulates.up.up;
     model = ap (λ (d : Display). d.model) s.simulates.since.rest;
     rest = λ shown. s.simulates.since.rest;
@@ -391,6 +396,10 @@ module _ (given : LowerLaws) (app : Application) (lu : List ℕ) (t : LinkWithRe
         subst (λ (up : List ToHost). SaysToo c.clears false waiting.host up (sent here.lost here.up [])) (sym (nothing_sent waiting.lost waiting.up))
         (subst (λ (up : List ToHost). SaysToo c.clears false waiting.host waiting.up up) (sym (nothing_sent here.lost here.up)) up_now)
 
+    alike_still : (lost : Bool) (more : List ToHost) → AnswersAlike waiting.host waiting.up c.up.said (sent lost here.up more)
+    alike_still true more = c.up.alike
+    alike_still false more = answers_more waiting.host waiting.up c.up.said here.up more c.up.alike
+
     edits_typing : (waiting.term.display.keyboard.lock ≡ Wait → ⊥) → (keyboard : Keyboard) (cells : List Cell) (cursor : ℕ) (nulls : Bool) → KeptByKeys nulls here.term.display.screen.cells cells → cursor < length cells
         → Cleared app lu (typed (shows keyboard (edited cells cursor nulls here.term.display) [] here.term))
     edits_typing free keyboard cells cursor nulls held on =
@@ -445,7 +454,7 @@ module _ (given : LowerLaws) (app : Application) (lu : List ℕ) (t : LinkWithRe
     sends_waiting : waiting.term.display.keyboard.lock ≡ Wait → (keyboard : Keyboard) (aid : Aid) → (aid ≡ NoAid → ⊥) → (aid ≡ Clear → ⊥) → Cleared app lu (untold_so (shows keyboard (after_sending aid here.term.display) (data_by aid here.term) here.term))
     sends_waiting waits keyboard aid some unclear =
         typed_on waiting (untold_so (shows keyboard (after_sending aid here.term.display) (data_by aid here.term) here.term)).link t.told true refl refl c.kept c.display (sym (ap is_waiting waits))
-        (record { said = c.up.said; alike = c.up.alike; up = key_queued app waiting here c.clears false c.up.said c.kept c.up.alike waits c.lost (is_bound here.term) here.lost aid some (λ clear. absurd (unclear clear)) refl keys_now })
+        (record { said = c.up.said; alike = alike_still here.lost (data_by aid here.term); up = key_queued app waiting here c.clears false c.up.said c.kept c.up.alike waits c.lost (is_bound here.term) here.lost aid some (λ clear. absurd (unclear clear)) refl keys_now })
         (record {
           erased = since.erased;
           held = subst (λ (cells : List Cell). KeptByKeys since.erased waiting.term.display.screen.cells cells) (sym (same_cells aid here.term.display.screen (keys_but_clear aid some unclear))) since.held;

@@ -37,7 +37,7 @@ use Rattle.shadow.specs.Exactness.{is_erase}
 use Rattle.shadow.specs.Paint.{paint}
 use Rattle.world3270.specs.statement.TurnReasons.{IsOccasion}
 use Rattle.world3270.specs.statement.Asked.{AreFieldsAsked, IsKeyAsked, IsSeen, panel_with_keys}
-use Rattle.world3270.specs.statement.EveryTerminal.{AreByTheRules, CrossesNoClear, FirstPaint, EveryTerminal, IsByTheRules, IsRepeating, Move, RightOf, LinkWithReport, after_moves, came_down, came_up, moved, told_link}
+use Rattle.world3270.specs.statement.EveryTerminal.{AreByTheRules, FirstPaint, EveryTerminal, IsByTheRules, IsRepeating, Move, RightOf, LinkWithReport, after_moves, came_down, came_up, moved, told_link}
 use Rattle.world3270.specs.statement.Leading.{IsLedTo}
 use Rattle.world3270.specs.refinement.LowerLaws.{LowerLaws}
 use Rattle.world3270.specs.statement.Headline.{Agrees, IsHostsTurn, SeesTheScreen}
@@ -69,7 +69,7 @@ use Rattle.world3270.proofs.Simulation.{Simulated, since_same}
 use Rattle.world3270.proofs.Unreturned.{all_as_left, all_kept}
 use Rattle.world3270.proofs.Worlds.{some_cells}
 use Rattle.world3270.proofs.Cleared.{Cleared, Follows, HostsAlike, Stage, but_belief, hearing_clear}
-use Rattle.world3270.proofs.ClearedDown.{Gone, gone_now, noted_cleared, painted_erasing, talked_cleared}
+use Rattle.world3270.proofs.ClearedDown.{Gone, gone_now, noted_cleared, painted_erasing, read_cleared, talked_cleared}
 use Rattle.world3270.proofs.ClearedHost.{acts_cleared, answers_cleared, hears_cleared, loses_cleared, notes_cleared, painting_waits, paints_so}
 use Rattle.world3270.proofs.ClearedKeys.{operates_cleared, operates_first}
 use Rattle.world3270.proofs.Repeating.{AfterPaint, Repeating, acts_repeating, agrees_there, answers_repeating, hears_repeating, loses_repeating, notes_repeating, operates_repeating, paint_ruined}
@@ -198,12 +198,12 @@ module _ (given : LowerLaws) (app : Application) (is : IsApplication app) (lu : 
   up_cleared t c pool sound [] is_up = Follows.cleared c
   up_cleared t c pool sound (message ∷ rest) is_up = hears_cleared given app is lu t c pool sound message rest is_up
 
-  down_cleared : (t : LinkWithReport) → Cleared app lu t → (down : List ToTerminal) → t.link.down ≡ down → (t.cleared ≡ true → CrossesNoClear down) → IsBeside app lu (came_down down t)
-  down_cleared t c [] is_down crosses = IsBeside.follows (Follows.cleared c)
-  down_cleared t c (ToTerminal.TalksDown saying ∷ rest) is_down crosses = talked_cleared given app is lu t c saying rest is_down
-  down_cleared t c (ToTerminal.ReadBuffer number ∷ rest) is_down crosses = absurd (crosses (gone_now given app is lu t c (ToTerminal.ReadBuffer number) rest is_down).0)
-  down_cleared t c (ToTerminal.Note number command ∷ rest) is_down crosses = IsBeside.follows (Follows.cleared (noted_cleared given app is lu t c number command rest is_down))
-  down_cleared t c (ToTerminal.Paint number wanted over ∷ rest) is_down crosses = by_erase (is_erase (paint (cells_in wanted.size) over wanted).code) refl
+  down_cleared : (t : LinkWithReport) → Cleared app lu t → (down : List ToTerminal) → t.link.down ≡ down → IsBeside app lu (came_down down t)
+  down_cleared t c [] is_down = IsBeside.follows (Follows.cleared c)
+  down_cleared t c (ToTerminal.TalksDown saying ∷ rest) is_down = talked_cleared given app is lu t c saying rest is_down
+  down_cleared t c (ToTerminal.ReadBuffer number ∷ rest) is_down = IsBeside.follows (Follows.cleared (read_cleared given app is lu t c number rest is_down))
+  down_cleared t c (ToTerminal.Note number command ∷ rest) is_down = IsBeside.follows (Follows.cleared (noted_cleared given app is lu t c number command rest is_down))
+  down_cleared t c (ToTerminal.Paint number wanted over ∷ rest) is_down = by_erase (is_erase (paint (cells_in wanted.size) over wanted).code) refl
     where
       gone : Gone given app is lu t c
       gone = gone_now given app is lu t c (ToTerminal.Paint number wanted over) rest is_down
@@ -214,7 +214,7 @@ module _ (given : LowerLaws) (app : Application) (is : IsApplication app) (lu : 
 
   move_cleared : (move : Move) (t : LinkWithReport) → IsByTheRules move t → Cleared app lu t → IsBeside app lu (moved app move t)
   move_cleared (Move.Up pool) t sound c = IsBeside.follows (up_cleared t c pool sound t.link.up refl)
-  move_cleared Move.Down t rules c = down_cleared t c t.link.down refl rules
+  move_cleared Move.Down t rules c = down_cleared t c t.link.down refl
   move_cleared Move.Act t rules c = IsBeside.follows (Follows.cleared (acts_cleared given app is lu t c))
   move_cleared (Move.Answer said) t rules c = IsBeside.follows (Follows.cleared (answers_cleared given app is lu t c said))
   move_cleared (Move.Note text) t rules c = IsBeside.follows (Follows.cleared (notes_cleared given app is lu t c text rules))

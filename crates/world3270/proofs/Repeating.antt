@@ -47,7 +47,7 @@ use Rattle.world3270.specs.statement.Shown.{is_painting}
 use Rattle.world3270.proofs.Acting.{loses, model_here}
 use Rattle.world3270.proofs.Cleared.{Cleared, HostsAlike, IsPlain, Stage, agrees_still, hearing_clear, may_change}
 use Rattle.world3270.proofs.ClearedHost.{IsClearOr, clear_or, key_unclear, no_act, no_answer, no_note, nothing_erases}
-use Rattle.world3270.proofs.ClearedQueue.{AddsKeys, clear_dropped, erases, is_any_key, other_key}
+use Rattle.world3270.proofs.ClearedQueue.{AddsKeys, AnswersAlike, answers_silent, clear_dropped, erases, is_any_key, other_key}
 use Rattle.world3270.proofs.ClearsDue.{Fate, clears_due, clears_in, is_clear_data, one_more}
 use Rattle.world3270.proofs.ClearedKeys.{any_key}
 use Rattle.world3270.proofs.ComesDown.{PaintComes, paint_comes}
@@ -55,7 +55,7 @@ use Rattle.world3270.proofs.OneOfMany.{same_number}
 use Rattle.world3270.proofs.Queues.{empty_queue, more, nothing_sent, still}
 use Rattle.world3270.proofs.Returning.{HostReturns}
 use Rattle.world3270.proofs.RuleKeys.{with_aid-aid}
-use Rattle.world3270.proofs.SecondKeys.{SaysAlike, alike_silent, is_dropping, second_key_dropped}
+use Rattle.world3270.proofs.SecondKeys.{SaysAlike, is_dropping, second_key_dropped}
 use Rattle.world3270.proofs.Sent.{key_aid, key_form}
 use Rattle.world3270.proofs.Simulation.{has_agreed, is_waiting}
 
@@ -227,7 +227,7 @@ module _ (app : Application) (is : IsApplication app) (lu : List ℕ) (t : LinkW
       exact_host none (HostsAlike.erasing is_erasing is_now any) = absurd (let wrong : false ≡ true = sym none ∙ is_erasing in cc)
 
       said_none : c.up.said ≡ []
-      said_none = alike_silent end.host end.up c.up.said silent c.up.alike
+      said_none = answers_silent end.host end.up c.up.said now.up silent c.up.alike
 
       keys : AreKeys now.up
       keys = all_keys c.clears t.cleared end now.up (subst (λ (said : List ToHost). AddsKeys c.clears t.cleared end.host.turn end.host.pending said now.up) said_none c.up.up)
@@ -629,7 +629,7 @@ module _ (given : LowerLaws) (app : Application) (is : IsApplication app) (lu : 
     down = ap (λ (lost : Bool). sent lost t.link.down (sending.message ∷ [])) r.lost ∙ ap (λ (down : List ToTerminal). sent old.lost down (sending.message ∷ [])) r.down;
     talk = r.talk;
     clears = true;
-    up = record { said = []; alike = SaysAlike.same (sym silent_up); up = keys_added t.cleared sending.conn.pending refl t.link.up keys };
+    up = record { said = []; alike = AnswersAlike.by_saying (SaysAlike.same (sym silent_up)); up = keys_added t.cleared sending.conn.pending refl t.link.up keys };
     stage = Stage.gone r.cleared r.locked r.no_pa (Fate.erases_next (nothing_erases Shadow.NothingKnown wants refl) silent_up);
     model = r.model;
     rest = λ shown. absurd (shown refl silent_up);

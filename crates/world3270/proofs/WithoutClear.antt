@@ -52,7 +52,7 @@ pub keeps_rules : (move : Move) (t : LinkWithReport) → t.cleared ≡ false →
 keeps_rules (Move.Up pool) t never rules = rules
 keeps_rules (Move.Operate step) t never rules = (rules.0, λ waits clear. absurd (rules.1 waits clear))
 keeps_rules (Move.Note text) t never rules = rules
-keeps_rules Move.Down t never rules = λ cleared. absurd (let wrong : false ≡ true = sym never ∙ cleared in cc)
+keeps_rules Move.Down t never rules = tt
 keeps_rules Move.Act t never rules = tt
 keeps_rules (Move.Answer said) t never rules = tt
 keeps_rules Move.Lose t never rules = tt

@@ -188,24 +188,14 @@ abbrev pub key_pressed : {end : TermEnd} {step : TermStep} → Operates end step
 key_pressed (Operates.edits keyboard cells cursor erases held on is) = NoAid
 key_pressed (Operates.sends keyboard aid some is) = aid
 
--- Holds if no Read Buffer is next for the terminal: after Clear in the wait it would have crossed it. Paints and notes
--- may.
-abbrev pub CrossesNoClear : List ToTerminal → Type 0
-CrossesNoClear [] = ⊤
-CrossesNoClear (ToTerminal.Paint number wanted over ∷ rest) = ⊤
-CrossesNoClear (ToTerminal.ReadBuffer number ∷ rest) = ⊥
-CrossesNoClear (ToTerminal.Note number command ∷ rest) = ⊤
-CrossesNoClear (ToTerminal.TalksDown saying ∷ rest) = ⊤
-
 -- Holds if a move keeps the rules: the pool is sound, the operator does what `Operates` allows, and a note has a note's
--- text. Clear may be pressed in the wait, but not after PA, whose screen the host reads; what it may cross,
--- `CrossesNoClear` says.
+-- text. Clear may be pressed in the wait, but not after PA, whose screen the host reads.
 abbrev pub IsByTheRules : Move → LinkWithReport → Type 0
 IsByTheRules (Move.Up pool) t = IsSound pool
 IsByTheRules (Move.Operate step) t = (does : Operates t.link.term step)
     × (t.waits ≡ true → key_pressed does ≡ Clear → is_pa t.told.screen.aid ≡ false)
 IsByTheRules (Move.Note text) t = IsNoteText text
-IsByTheRules Move.Down t = t.cleared ≡ true → CrossesNoClear t.link.down
+IsByTheRules Move.Down t = ⊤
 IsByTheRules Move.Act t = ⊤
 IsByTheRules (Move.Answer said) t = ⊤
 IsByTheRules Move.Lose t = ⊤
