@@ -60,7 +60,7 @@ unpainted_erases (Pending.Writing number command) unpainted = absurd (cc)
 -- ---- what is under way
 
 -- while a note is under way, no paint waits for its answer
-note_unpainted : (app : Application) (link : Link) (number : ℕ) (command : CommandParts) (rest : List ToTerminal) → link.down ≡ ToTerminal.Note number command ∷ rest → ConnectionInvariant app (view_of link) → is_bound link.term ≡ true
+pub note_unpainted : (app : Application) (link : Link) (number : ℕ) (command : CommandParts) (rest : List ToTerminal) → link.down ≡ ToTerminal.Note number command ∷ rest → ConnectionInvariant app (view_of link) → is_bound link.term ≡ true
     → is_painting link.host.pending ≡ false
 note_unpainted app link number command rest e k bound_here = by_moment k.moment k.at
   where

@@ -189,7 +189,7 @@ module _ (given : LowerLaws) (app : Application) (is : IsApplication app) (lu : 
   move_still Move.Lose t rules s = loses_still given app is lu t s
 
 -- A terminal that waits is beside it, wherever that is: Clear wasn't pressed in the wait, or was, or crossed a paint that is repeated.
-data IsBeside (app : Application) (lu : List ℕ) (t : LinkWithReport) : Type 0 where
+pub data IsBeside (app : Application) (lu : List ℕ) (t : LinkWithReport) : Type 0 where
   follows : Follows app lu t → IsBeside app lu t
   repeats : Repeating app lu t → IsBeside app lu t
 
@@ -238,7 +238,7 @@ module _ (given : LowerLaws) (app : Application) (is : IsApplication app) (lu : 
   move_repeating (Move.Operate step) t rules r = IsBeside.repeats (operates_repeating app lu t r step rules.0)
   move_repeating Move.Lose t rules r = IsBeside.repeats (loses_repeating app lu t r)
 
-  move_follows : (move : Move) (t : LinkWithReport) → IsByTheRules move t → IsBeside app lu t → IsBeside app lu (moved app move t)
+  pub move_follows : (move : Move) (t : LinkWithReport) → IsByTheRules move t → IsBeside app lu t → IsBeside app lu (moved app move t)
   move_follows move t rules (IsBeside.repeats r) = move_repeating move t rules r
   move_follows move t rules (IsBeside.follows (Follows.cleared c)) = move_cleared move t rules c
   move_follows (Move.Operate step) t rules (IsBeside.follows (Follows.simulated s)) = IsBeside.follows (operates_first given app lu t step rules s)
@@ -592,11 +592,13 @@ right_repeating app lu t r = by_after r.after
 
 -- ---- the theorem
 
+-- wherever the terminal that waits is
+pub right_of_beside : LowerLaws → WrittenIsThere → KeptStaysThere → (app : Application) → IsApplication app → (lu : List ℕ) (t : LinkWithReport) → IsBeside app lu t → RightOf app lu t
+right_of_beside given written kept app is lu t (IsBeside.follows (Follows.simulated s)) = right_of given written kept app is lu t s
+right_of_beside given written kept app is lu t (IsBeside.follows (Follows.cleared c)) = right_cleared given written kept app is lu t c
+right_of_beside given written kept app is lu t (IsBeside.repeats r) = right_repeating app lu t r
+
 pub every_terminal : LowerLaws → WrittenIsThere → KeptStaysThere → EveryTerminal
 every_terminal given written kept app lu begin moves is begins rules =
-    by_case (moves_follow given app is lu moves begin rules (IsBeside.follows (Follows.simulated (begins_simulated given app is lu begin begins))))
-  where
-    by_case : IsBeside app lu (after_moves app moves begin) → RightOf app lu (after_moves app moves begin)
-    by_case (IsBeside.follows (Follows.simulated s)) = right_of given written kept app is lu (after_moves app moves begin) s
-    by_case (IsBeside.follows (Follows.cleared c)) = right_cleared given written kept app is lu (after_moves app moves begin) c
-    by_case (IsBeside.repeats r) = right_repeating app lu (after_moves app moves begin) r
+    right_of_beside given written kept app is lu (after_moves app moves begin)
+    (moves_follow given app is lu moves begin rules (IsBeside.follows (Follows.simulated (begins_simulated given app is lu begin begins))))

@@ -189,7 +189,7 @@ pastes_by_the_rules =
 
 keeps_the_rules : AreByTheRules (example_for Any) kept_moves (agreed_with Any l1)
 unfolding onward backward pastes_by_the_rules
-keeps_the_rules = (tt, (λ cleared. absurd (unlike (sym cleared)), (sound, ((enters_by_the_rules, λ waits. absurd (unlike (sym waits))), ((pastes_by_the_rules, λ waits clear. absurd (no_clear clear)), tt)))))
+keeps_the_rules = (tt, (tt, (sound, ((enters_by_the_rules, λ waits. absurd (unlike (sym waits))), ((pastes_by_the_rules, λ waits clear. absurd (no_clear clear)), tt)))))
 
 changes_in_the_wait : shown_by (after_moves (example_for Any) kept_moves (agreed_with Any l1)) ≡ (after_moves (example_for Any) kept_moves (agreed_with Any l1)).told.screen → ⊥
 unfolding onward backward
