@@ -31,7 +31,7 @@ use Rattle.host_core.specs.Acts.{learned}
 use Rattle.host_core.specs.Application.{Application, AreTexts, IsApplication, IsSizeOf}
 use Rattle.host_core.specs.Messages.{ToHost, ToTerminal}
 use Rattle.host_core.specs.Session.{Pending, Session, agreed_lu, is_agreed}
-use Rattle.host_core.specs.Takes.{form_awaited, may_have_changed, took as host_took}
+use Rattle.host_core.specs.Takes.{form_awaited, is_after_pa, is_unread, may_have_changed, took as host_took}
 use Rattle.host_core.specs.declared.turn.Turn.{Turn}
 use Rattle.host_core.specs.declared.turn.Turn.TheVariants as whose
 use Rattle.host_core.specs.declared.turn_reason.TurnReason.TheVariants.{Agreement}
@@ -47,11 +47,11 @@ use Rattle.world3270.specs.statement.EveryTerminal.{LinkWithReport, Move, came_u
 use Rattle.world3270.specs.statement.Forms.{IsAwaitedBy}
 use Rattle.world3270.specs.statement.Shown.{is_painting}
 use Rattle.world3270.proofs.AnyIgnored.{IsNoRefusal, IsNoTalk, all_front, no_refusal_under_way, no_talk_under_way}
-use Rattle.world3270.proofs.Cleared.{Cleared, Follows, HostsAlike, IsPlain, Stage, agrees_still, but_belief, may_change}
+use Rattle.world3270.proofs.Cleared.{Cleared, Follows, HasRead, HostsAlike, IsPlain, Stage, agrees_still, but_belief, may_change}
 use Rattle.world3270.proofs.ClearedQueue.{AddsKeys, AnswersAlike, any_keys, clears_behind}
 use Rattle.world3270.proofs.ClearedDown.{gone_now, note_unpainted}
 use Rattle.world3270.proofs.ClearedHost.{nothing_erases, paints_so}
-use Rattle.world3270.proofs.ComesDown.{note_comes, paint_comes}
+use Rattle.world3270.proofs.ComesDown.{ReadComes, note_comes, paint_comes, read_comes}
 use Rattle.world3270.proofs.EveryTerminal.{IsBeside, move_follows}
 use Rattle.world3270.proofs.Executing.{MayTake}
 use Rattle.world3270.proofs.Forms.{awaited}
@@ -60,6 +60,7 @@ use Rattle.world3270.proofs.Obeys.{obeys}
 use Rattle.world3270.proofs.Queues.{empty_queue}
 use Rattle.world3270.proofs.ReadsInput.{still_unformatted}
 use Rattle.world3270.proofs.Repeating.{AfterPaint, AnswersBehind, AreKeys, IsKeyData, Repeating, agrees_there}
+use Rattle.world3270.proofs.Returning.{pa_counts}
 use Rattle.world3270.proofs.RepresentsComing.{has_size, is_open, may_come}
 use Rattle.world3270.proofs.RepresentsLinks.{MayTakeNext}
 use Rattle.world3270.proofs.RepresentsSizes.{executes}
@@ -391,7 +392,7 @@ module _ (given : LowerLaws) (app : Application) (is : IsApplication app) (lu : 
     comes = both_come given app is lu t c.told c.kept c.agreed pending turn reason size c.display c.down c.up.said alike c.clears t.cleared c.up.up;
     reading = both_read given app is lu t c.told c.kept c.agreed pending turn reason size c.display c.down c.up.said alike c.clears t.cleared c.up.up;
     now_bare = λ free. now_bare free c.stage;
-    read_bare = λ number rest e pa. absurd (let wrong : true ≡ false = sym pa ∙ (gone_now given app is lu t c (ToTerminal.ReadBuffer number) rest e).2 in cc);
+    read_bare = λ number rest e pa. absurd (let wrong : true ≡ false = sym pa ∙ read_no_pa number rest e in cc);
     told_bare = λ uncleared. told_bare uncleared c.stage;
   }
     where
@@ -430,6 +431,26 @@ module _ (given : LowerLaws) (app : Application) (is : IsApplication app) (lu : 
           by_plain (IsPlain.over_nothing none paints silent) =
               let comes = paint_comes app c.told number wanted over rest (sym c.down ∙ e) c.kept (agrees_still c) in
               absurd (writes_not (paint_code (cells_in wanted.size) over wanted) writes (nothing_erases over wanted (comes.fact.over_is ∙ none)))
+
+      -- after PA the screen is read once, before Clear
+      read_no_pa : (number : ℕ) (rest : List ToTerminal) → t.link.down ≡ ToTerminal.ReadBuffer number ∷ rest → is_pa t.told.screen.aid ≡ false
+      read_no_pa number rest e = by_read (gone_now given app is lu t c (ToTerminal.ReadBuffer number) rest e).2
+        where
+          comes : ReadComes app c.told c.kept.wanted rest
+          comes = read_comes app c.told number rest (sym c.down ∙ e) c.kept (agrees_still c)
+
+          counts : is_after_pa c.told.host.turn_reason ≡ is_pa t.told.screen.aid
+          counts = pa_counts c.told.host.turn_reason c.told.term.display.screen.aid comes.fact.decides.turn_reason ∙ ap (λ (d : Display). is_pa d.screen.aid) c.display
+
+          once : (b : Bool) → is_after_pa c.told.host.turn_reason ≡ b → is_unread c.told.host.turn_reason ≡ false → b ≡ false
+          once false after was = refl
+          once true after was = absurd (let wrong : false ≡ true = sym was ∙ comes.fact.unread after in cc)
+
+          by_read : HasRead t c.told → is_pa t.told.screen.aid ≡ false
+          by_read (HasRead.no_pa none) = none
+          by_read (HasRead.was_read turns was) = sym counts ∙ once (is_after_pa c.told.host.turn_reason) refl was
+          by_read (HasRead.is_read turns reads none first) = absurd (let wrong = sym none ∙ sym c.down ∙ e in cc)
+          by_read (HasRead.was_shown paints none) = absurd (let wrong : false ≡ true = sym (ap is_painting comes.at.pending) ∙ paints in cc)
 
       now_bare : t.waits ≡ false → Stage t c.told c.up.said → fields t.told.screen.cells ≡ [] → fields t.link.term.display.screen.cells ≡ []
       now_bare free (Stage.gone cleared locked no_pa fate) none = absurd (waits_not t.waits (c.waits ∙ ap is_waiting locked) free)

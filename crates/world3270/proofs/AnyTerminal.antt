@@ -33,7 +33,7 @@ use Rattle.host_core.specs.State.{connection_at}
 use Rattle.host_core.specs.Takes.{took as host_took}
 use Rattle.host_core.specs.declared.question.Answer.{Answer as ApplicationAnswer}
 use Rattle.keyboard.specs.State.{Keyboard}
-use Rattle.world3270.specs.statement.EveryTerminal.{AreByTheRules, IsByTheRules, Move, LinkWithReport, after_moves, came_down, executed, is_pa, is_shown, key_pressed, moved, operated, paint_executed, sends_clear, told_if}
+use Rattle.world3270.specs.statement.EveryTerminal.{AreByTheRules, HasAnswered, IsByTheRules, Move, LinkWithReport, after_moves, came_down, executed, is_pa, is_shown, key_pressed, moved, operated, paint_executed, sends_clear, told_if}
 use Rattle.world3270.specs.statement.EveryTerminalBytes.{IsDown, IsOperated, OverBytes, Pressed, Represents, Takes, WasPressed, display_of, displaying, end_of, ended_if, ends_wait, has_code, item_completed, link_over, pressed_by, sends_full}
 use Rattle.world3270.specs.model.Link.{Link, sent, term_left_if, term_stepped}
 use Rattle.world3270.specs.model.Enabled.{is_queued}
@@ -420,9 +420,11 @@ module _ (laws : TakesLaws) (app : Application) (Good : LinkWithReport → Type 
       let term = is.stands.term 0 here in
       let end = end_is does.rest does.talk old.tracked link.term term.rest term.holds is.unnamed does.attached in
       let rules : IsByTheRules (Move.Operate step) t =
-      subst (λ (e : TermEnd). (d : Operates e step) × (t.waits ≡ true → key_pressed d ≡ Clear → is_pa t.told.screen.aid ≡ false)) end (
+      subst (λ (e : TermEnd). (d : Operates e step) × (t.waits ≡ true → t.cleared ≡ false → key_pressed d ≡ Clear → HasAnswered t)) end (
         does.does,
-        λ waits clear. ap is_pa (sym (is.pressed.first_is waits)) ∙ does.not_after_pa (is.pressed.waits_is ∙ waits) clear,
+        λ waits uncleared clear pa.
+            let other : is_pa t.told.screen.aid ≡ false = ap is_pa (sym (is.pressed.first_is waits)) ∙ does.not_after_pa (is.pressed.waits_is ∙ waits) clear in
+            absurd (let wrong : true ≡ false = sym pa ∙ other in cc),
       ) in
       let left = leaves link.term step rules.0 in
       let now : Link = record link { term = step.end; up = sent link.lost link.up step.sends } in

@@ -24,7 +24,7 @@ use Rattle.tn3270e_msg.specs.TermTable.{Term}
 use Rattle.host_core.specs.Application.{Application, IsApplication}
 use Rattle.host_core.specs.Messages.{ToHost, ToTerminal, Verdict}
 use Rattle.host_core.specs.Session.{Pending, Session}
-use Rattle.host_core.specs.Takes.{is_after_pa, is_read_believed, may_be_read, may_have_changed}
+use Rattle.host_core.specs.Takes.{is_after_pa, is_read_believed, is_unread, may_be_read, may_have_changed}
 use Rattle.host_core.specs.declared.turn.Turn.{Turn}
 use Rattle.datastream.specs.InboundFields.{buffer_data}
 use Rattle.datastream.specs.declared.inbound_part.Form.{Form}
@@ -37,7 +37,7 @@ use Rattle.world3270.specs.refinement.Invariant.{ConnectionInvariant, IsPainted,
 use Rattle.world3270.specs.refinement.Phases.{IsAt, IsInFlight, LinkPhase, SessionPhase}
 use Rattle.world3270.specs.model.Terminal.{Display, TermEnd, TermStep, bound_to, is_bound, note_came, once_bound, paint_came, read_came}
 use Rattle.world3270.specs.refinement.View.{view_of}
-use Rattle.world3270.proofs.Cleared.{Cleared, HostsAlike, IsPlain, Stage, agrees_still, but_belief, may_change}
+use Rattle.world3270.proofs.Cleared.{Cleared, HasRead, HostsAlike, IsPlain, Stage, agrees_still, but_belief, may_change}
 use Rattle.world3270.proofs.ClearedQueue.{AddsKeys, AnswersAlike, SaysToo, answers_silent, any_later, both_say_too, clears_first, erases, is_clear_before, same_last_too, says_last}
 use Rattle.world3270.proofs.ClearsDue.{Fate, clears_due, clears_in, due_answered, due_read, is_clear_data, one_more}
 use Rattle.world3270.proofs.ComesDown.{NoteComes, PaintComes, ReadComes, note_comes, paint_comes, read_comes}
@@ -150,13 +150,13 @@ module _ (given : LowerLaws) (app : Application) (is : IsApplication app) (lu : 
 
   -- the waiting terminal was gone
   abbrev pub Gone : Type 0
-  Gone = (t.cleared ≡ true) × (end.term.display.keyboard.lock ≡ Wait) × (is_pa t.told.screen.aid ≡ false) × Fate end c.up.said now
+  Gone = (t.cleared ≡ true) × (end.term.display.keyboard.lock ≡ Wait) × HasRead t end × Fate end c.up.said now
 
   pub gone_now : (message : ToTerminal) (rest : List ToTerminal) → now.down ≡ message ∷ rest → Gone
   gone_now message rest e = by_stage c.stage
     where
       by_stage : Stage t end c.up.said → Gone
-      by_stage (Stage.gone cleared locked no_pa fate) = (cleared, locked, no_pa, fate)
+      by_stage (Stage.gone cleared locked read fate) = (cleared, locked, read, fate)
       by_stage (Stage.erased uncleared erasing silent since) = absurd (let wrong = sym silent ∙ (sym c.down ∙ e) in cc)
 
   -- An erase over nothing, or over a screen without fields; what comes up before its answer does no harm.
@@ -463,6 +463,13 @@ module _ (given : LowerLaws) (app : Application) (is : IsApplication app) (lu : 
   hosts_noted up down term unpainted (HostsAlike.erasing is_erasing is_now any) = absurd (let wrong : false ≡ true = sym (unpainted_erases end.host.pending unpainted) ∙ is_erasing in cc)
   hosts_noted up down term unpainted (HostsAlike.crossed paints harmless crossed) = absurd (let wrong : false ≡ true = sym unpainted ∙ paints in cc)
 
+  read_noted : (number : ℕ) (command : CommandParts) (rest : List ToTerminal) → now.down ≡ ToTerminal.Note number command ∷ rest → is_painting end.host.pending ≡ false → (after_command command t.told.screen).aid ≡ t.told.screen.aid → HasRead t end
+      → HasRead (taken_so true (ToTerminal.Note number command) (note_came number command now.term) rest) (term_view (note_came number command end.term) rest end)
+  read_noted number command rest e unpainted same (HasRead.no_pa none) = HasRead.no_pa (ap is_pa same ∙ none)
+  read_noted number command rest e unpainted same (HasRead.was_read turns was) = HasRead.was_read turns was
+  read_noted number command rest e unpainted same (HasRead.is_read turns reads silent first) = absurd (let wrong = sym silent ∙ sym c.down ∙ e in cc)
+  read_noted number command rest e unpainted same (HasRead.was_shown paints silent) = absurd (let wrong : false ≡ true = sym unpainted ∙ paints in cc)
+
   pub noted_cleared : (number : ℕ) (command : CommandParts) (rest : List ToTerminal) → now.down ≡ ToTerminal.Note number command ∷ rest
       → Cleared app lu (taken_so (is_bound now.term) (ToTerminal.Note number command) (note_came number command now.term) rest)
   noted_cleared number command rest e =
@@ -493,7 +500,7 @@ module _ (given : LowerLaws) (app : Application) (is : IsApplication app) (lu : 
         talk = c.talk;
         clears = c.clears;
         up = both.says;
-        stage = Stage.gone gone.0 gone.1 (ap is_pa (given.notes.bounds command t.told.screen note).aid ∙ gone.2) both.fate;
+        stage = Stage.gone gone.0 gone.1 (read_noted number command rest e unpainted (given.notes.bounds command t.told.screen note).aid gone.2) both.fate;
         model = c.model;
         rest = λ shown. ap (λ (d : Display). record d { screen = after_command command now.term.display.screen }) (c.rest (λ paints. absurd (let wrong : false ≡ true = sym unpainted ∙ paints in cc)));
         plain = λ cleared. still_plain number command rest comes unpainted (c.plain cleared);
@@ -519,7 +526,7 @@ module _ (given : LowerLaws) (app : Application) (is : IsApplication app) (lu : 
   pub read_cleared : (number : ℕ) (rest : List ToTerminal) → now.down ≡ ToTerminal.ReadBuffer number ∷ rest → Cleared app lu (taken_so (is_bound now.term) (ToTerminal.ReadBuffer number) (read_came now.term) rest)
   read_cleared number rest e =
       subst (λ (b : Bool). Cleared app lu (taken_so b (ToTerminal.ReadBuffer number) (read_came now.term) rest)) (sym bound_now)
-      (subst (λ (pa : Bool). Cleared app lu (read_so pa)) (sym gone.2) goes)
+      (subst (λ (pa : Bool). Cleared app lu (read_so pa)) (sym told_no_pa) goes)
     where
       gone : Gone
       gone = gone_now (ToTerminal.ReadBuffer number) rest e
@@ -556,8 +563,25 @@ module _ (given : LowerLaws) (app : Application) (is : IsApplication app) (lu : 
       unpainted : is_painting end.host.pending ≡ false
       unpainted = ap is_painting comes.at.pending
 
+      counts : is_after_pa end.host.turn_reason ≡ is_pa t.told.screen.aid
+      counts = pa_counts end.host.turn_reason old.aid comes.fact.decides.turn_reason ∙ ap (λ (d : Display). is_pa d.screen.aid) c.display
+
+      -- after PA it is read once
+      told_no_pa : is_pa t.told.screen.aid ≡ false
+      told_no_pa = by_read gone.2
+        where
+          once : (b : Bool) → is_after_pa end.host.turn_reason ≡ b → is_unread end.host.turn_reason ≡ false → b ≡ false
+          once false after was = refl
+          once true after was = absurd (let wrong : false ≡ true = sym was ∙ comes.fact.unread after in cc)
+
+          by_read : HasRead t end → is_pa t.told.screen.aid ≡ false
+          by_read (HasRead.no_pa none) = none
+          by_read (HasRead.was_read turns was) = sym counts ∙ once (is_after_pa end.host.turn_reason) refl was
+          by_read (HasRead.is_read turns reads none first) = absurd (let wrong = sym none ∙ down in cc)
+          by_read (HasRead.was_shown paints none) = absurd (let wrong : false ≡ true = sym (ap is_painting comes.at.pending) ∙ paints in cc)
+
       no_pa : is_after_pa end.host.turn_reason ≡ false
-      no_pa = pa_counts end.host.turn_reason old.aid comes.fact.decides.turn_reason ∙ ap (λ (d : Display). is_pa d.screen.aid) c.display ∙ gone.2
+      no_pa = counts ∙ told_no_pa
 
       skips : is_read_believed end.host ≡ false
       skips = read_skipped given end.host comes.number comes.at.turn comes.at.pending c.any no_pa c.returning
@@ -658,7 +682,7 @@ module _ (given : LowerLaws) (app : Application) (is : IsApplication app) (lu : 
         talk = c.talk;
         clears = c.clears;
         up = both.says;
-        stage = Stage.gone gone.0 gone.1 gone.2 both.fate;
+        stage = Stage.gone gone.0 gone.1 (HasRead.no_pa told_no_pa) both.fate;
         model = c.model;
         rest = λ shown. c.rest (λ paints. absurd (let wrong : false ≡ true = sym unpainted ∙ paints in cc));
         plain = λ cleared. by_plain (c.plain cleared);

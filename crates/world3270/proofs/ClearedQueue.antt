@@ -80,6 +80,85 @@ clears_first (ToHost.Data parts ∷ real) = is_clear_before parts.form (is_clear
 clears_first (ToHost.Response number verdict ∷ real) = false
 clears_first (ToHost.TalksUp saying ∷ real) = false
 
+-- whether the answer to a Read Buffer comes up before any Clear; on a lost connection it may have vanished
+abbrev pub is_answer_before : Form → (clear later : Bool) → Bool
+is_answer_before Modified clear later = not clear && later
+is_answer_before AllModified clear later = false
+is_answer_before Buffer clear later = true
+
+abbrev pub answer_first : (lost : Bool) → List ToHost → Bool
+answer_first lost [] = lost
+answer_first lost (ToHost.Data parts ∷ real) = is_answer_before parts.form (is_clear parts.aid) (answer_first lost real)
+answer_first lost (ToHost.Response number verdict ∷ real) = false
+answer_first lost (ToHost.TalksUp saying ∷ real) = false
+
+answer_more : (form : Form) (clear later more : Bool) → (later ≡ true → more ≡ true) → is_answer_before form clear later ≡ true → is_answer_before form clear more ≡ true
+answer_more Modified true later more goes is = absurd (cc)
+answer_more Modified false later more goes is = goes is
+answer_more AllModified clear later more goes is = absurd (cc)
+answer_more Buffer clear later more goes is = refl
+
+pub answer_still : (real more : List ToHost) → answer_first false real ≡ true → answer_first false (real ++ more) ≡ true
+answer_still [] more is = absurd (cc)
+answer_still (ToHost.Data parts ∷ real) more is = answer_more parts.form (is_clear parts.aid) (answer_first false real) (answer_first false (real ++ more)) (answer_still real more) is
+answer_still (ToHost.Response number verdict ∷ real) more is = absurd (cc)
+answer_still (ToHost.TalksUp saying ∷ real) more is = absurd (cc)
+
+pub answer_queued : (lost : Bool) (real more : List ToHost) → answer_first lost real ≡ true → answer_first lost (sent lost real more) ≡ true
+answer_queued true real more is = is
+answer_queued false real more is = answer_still real more is
+
+pub answer_lost : (lost : Bool) (real : List ToHost) → answer_first lost real ≡ true → answer_first true real ≡ true
+answer_lost lost [] is = refl
+answer_lost lost (ToHost.Data parts ∷ real) is = answer_more parts.form (is_clear parts.aid) (answer_first lost real) (answer_first true real) (answer_lost lost real) is
+answer_lost lost (ToHost.Response number verdict ∷ real) is = absurd (cc)
+answer_lost lost (ToHost.TalksUp saying ∷ real) is = absurd (cc)
+
+answer_first_is : (lost : Bool) (message : ToHost) (parts : InboundParts) (real : List ToHost) → message ≡ ToHost.Data parts → parts.form ≡ Modified → answer_first lost (message ∷ real) ≡ (not (is_clear parts.aid) && answer_first lost real)
+answer_first_is lost message parts real is form =
+    ap (λ (m : ToHost). answer_first lost (m ∷ real)) is ∙ ap (λ (f : Form). is_answer_before f (is_clear parts.aid) (answer_first lost real)) form
+
+-- before it there may be other keys,
+pub answer_next : (lost : Bool) (message : ToHost) (parts : InboundParts) (real : List ToHost) → message ≡ ToHost.Data parts → parts.form ≡ Modified → is_clear parts.aid ≡ false → answer_first lost (message ∷ real) ≡ true → answer_first lost real ≡ true
+answer_next lost message parts real is form other first =
+    sym (ap (λ (b : Bool). not b && answer_first lost real) other) ∙ sym (answer_first_is lost message parts real is form) ∙ first
+
+-- but no Clear
+pub no_clear_first : {Then : Type 0} (lost : Bool) (message : ToHost) (parts : InboundParts) (real : List ToHost) → message ≡ ToHost.Data parts → parts.form ≡ Modified → parts.aid ≡ Clear → answer_first lost (message ∷ real) ≡ true → Then
+no_clear_first lost message parts real is form clear first =
+    absurd (let wrong : false ≡ true = sym (ap (λ (a : Aid). not (is_clear a) && answer_first lost real) clear) ∙ sym (answer_first_is lost message parts real is form) ∙ first in cc)
+
+unclear_key : (aid : Aid) → is_key aid ≡ true → is_clear aid ≡ false
+unclear_key Enter key = refl
+unclear_key (Pf number) key = refl
+unclear_key (Pa number) key = refl
+unclear_key NoAid key = refl
+unclear_key Clear key = absurd (cc)
+
+-- where it vanished
+pub answer_vanished : (turn : Turn) (pending : Pending) (real : List ToHost) → AddsSecondKeys turn pending [] real → answer_first true real ≡ true
+answer_vanished turn pending [] x = refl
+answer_vanished turn pending (message ∷ real) (inr x) = absurd (let some = x.1 in cc)
+answer_vanished turn pending (message ∷ real) (inl x) =
+    let key = x.1 in
+    answer_first_is true message key.parts real key.is key.form
+    ∙ ap (λ (b : Bool). not b && answer_first true real) (unclear_key key.parts.aid key.key)
+    ∙ answer_vanished turn pending real x.2
+
+-- where keys but Clear alone precede it
+pub answer_behind : (turn : Turn) (pending : Pending) (parts : InboundParts) (rest real : List ToHost) → parts.form ≡ Buffer → AddsSecondKeys turn pending (ToHost.Data parts ∷ rest) real → answer_first false real ≡ true
+answer_behind turn pending parts rest [] form x = absurd (cc)
+answer_behind turn pending parts rest (message ∷ real) form (inl x) =
+    let key = x.1 in
+    answer_first_is false message key.parts real key.is key.form
+    ∙ ap (λ (b : Bool). not b && answer_first false real) (unclear_key key.parts.aid key.key)
+    ∙ answer_behind turn pending parts rest real form x.2
+answer_behind turn pending parts rest (message ∷ real) form (inr x) =
+    ap (λ (m : ToHost). answer_first false (m ∷ real)) (sym (first_of x.1)) ∙ ap (λ (f : Form). is_answer_before f (is_clear parts.aid) (answer_first false real)) form
+  where
+    first_of : {more : List ToHost} → ToHost.Data parts ∷ rest ≡ message ∷ more → ToHost.Data parts ≡ message
+    first_of e = cc
+
 -- What the waiting terminal says, and what this one says but for second keys: a host that has heard of Clear makes the same of both answers
 -- to a Read Buffer, whatever this one displays.
 pub data AnswersAlike (conn : Session) (told said real : List ToHost) : Type 0 where

@@ -210,7 +210,7 @@ module _ (given : LowerLaws) (app : Application) (is : IsApplication app) (lu : 
 
       by_erase : (erases : Bool) → is_erase (paint (cells_in wanted.size) over wanted).code ≡ erases → IsBeside app lu (came_down (ToTerminal.Paint number wanted over ∷ rest) t)
       by_erase true erases = IsBeside.follows (Follows.cleared (painted_erasing given app is lu t c number wanted over rest is_down erases))
-      by_erase false keeps = IsBeside.repeats (paint_ruined app is lu t c gone.0 gone.1 gone.2 gone.3 number wanted over rest is_down keeps)
+      by_erase false keeps = IsBeside.repeats (paint_ruined app is lu t c gone.0 gone.1 gone.3 number wanted over rest is_down keeps)
 
   move_cleared : (move : Move) (t : LinkWithReport) → IsByTheRules move t → Cleared app lu t → IsBeside app lu (moved app move t)
   move_cleared (Move.Up pool) t sound c = IsBeside.follows (up_cleared t c pool sound t.link.up refl)
@@ -529,7 +529,7 @@ right_cleared given written kept app is lu t c = by_painting (is_painting c.told
     same_host unpainted (HostsAlike.erasing is_erasing is_now any) = absurd (let wrong : false ≡ true = sym unpainted ∙ paints_so c.told.host.pending is_erasing in cc)
 
     held : Stage t c.told c.up.said → t.cleared ≡ false → (erased : Bool) × KeptByKeys erased c.told.term.display.screen.cells t.link.term.display.screen.cells
-    held (Stage.gone cleared locked no_pa fate) uncleared = absurd (let wrong : true ≡ false = sym cleared ∙ uncleared in cc)
+    held (Stage.gone cleared locked read fate) uncleared = absurd (let wrong : true ≡ false = sym cleared ∙ uncleared in cc)
     held (Stage.erased never erasing silent since) uncleared = (since.erased, since.held)
 
     by_painting : (paints : Bool) → is_painting c.told.host.pending ≡ paints → RightOf app lu t

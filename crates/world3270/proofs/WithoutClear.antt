@@ -54,7 +54,7 @@ sends_no_clear end step (Operates.sends keyboard aid some is) unclear =
 
 pub keeps_rules : (move : Move) (t : LinkWithReport) → t.cleared ≡ false → IsWithoutClear move t → IsByTheRules move t
 keeps_rules (Move.Up pool) t never rules = rules
-keeps_rules (Move.Operate step) t never rules = (rules.0, λ waits clear. absurd (rules.1 waits clear))
+keeps_rules (Move.Operate step) t never rules = (rules.0, λ waits uncleared clear. absurd (rules.1 waits clear))
 keeps_rules (Move.Note text) t never rules = rules
 keeps_rules Move.Down t never rules = tt
 keeps_rules Move.Act t never rules = tt
