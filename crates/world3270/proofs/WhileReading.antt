@@ -160,4 +160,3 @@ none_responds app link k reads = prefix_none link.up k.at.goes_up.vanished (ap h
     by_moment (LinkPhase.Negotiating talking) reads = absurd (modified_only reads)
     by_moment (LinkPhase.FirstPaint lu number command wanted over) reads = refl
     by_moment (LinkPhase.InSession lu serving) reads = by_serving lu serving reads
-
