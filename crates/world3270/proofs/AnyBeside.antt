@@ -453,11 +453,11 @@ module _ (given : LowerLaws) (app : Application) (is : IsApplication app) (lu : 
           by_read (HasRead.was_shown paints none) = absurd (let wrong : false ≡ true = sym (ap is_painting comes.at.pending) ∙ paints in cc)
 
       now_bare : t.waits ≡ false → Stage t c.told c.up.said → fields t.told.screen.cells ≡ [] → fields t.link.term.display.screen.cells ≡ []
-      now_bare free (Stage.gone cleared locked no_pa fate) none = absurd (waits_not t.waits (c.waits ∙ ap is_waiting locked) free)
+      now_bare free (Stage.gone cleared locked read fate) none = absurd (waits_not t.waits (c.waits ∙ ap is_waiting locked) free)
       now_bare free (Stage.erased never erasing silent since) none = bare_now given.keys.round t c.told c.display since.erased since.held none
 
       told_bare : t.cleared ≡ false → Stage t c.told c.up.said → fields t.link.term.display.screen.cells ≡ [] → fields t.told.screen.cells ≡ []
-      told_bare uncleared (Stage.gone cleared locked no_pa fate) none = absurd (waits_not t.cleared cleared uncleared)
+      told_bare uncleared (Stage.gone cleared locked read fate) none = absurd (waits_not t.cleared cleared uncleared)
       told_bare uncleared (Stage.erased never erasing silent since) none = bare_told given.keys.round t c.told c.display since.erased since.held none
 
   known_repeating : Repeating app lu t → Known app lu t
