@@ -20,10 +20,10 @@ use Rattle.tn3270e_msg.specs.Talk.{Talk}
 use Rattle.tn3270e_msg.specs.declared.host_talk.HostState.{HostState}
 use Rattle.panels.specs.declared.next.Next.{Next}
 use Rattle.panels.specs.declared.next.Next.TheVariants.{Go, Ask, Again}
-use Rattle.host_core.specs.Acts.{Act, Decision, Sent as SentValue, after_key, decided, decision_on, first_panel, on_empty, wanted_by, done, may_act, may_keep, acted, painted, known_despite, unheard_next, values_shown, when_shown}
+use Rattle.host_core.specs.Acts.{Act, Decision, Sent as SentValue, after_key, decided, decision_on, first_panel, learned, on_empty, on_key, wanted_by, done, may_act, may_keep, acted, painted, known_despite, unheard_next, values_shown, when_shown}
 use Rattle.host_core.specs.Application.{Application, IsApplication, IsSizeOf}
 use Rattle.host_core.specs.Laws.{IsPaintable}
-use Rattle.host_core.specs.Takes.{may_be_read, may_have_changed}
+use Rattle.host_core.specs.Takes.{is_after_pa, is_unread, may_be_read, may_have_changed}
 use Rattle.host_core.specs.declared.turn.Turn.{Turn}
 use Rattle.host_core.specs.declared.turn.Turn.TheVariants as whose
 use Rattle.host_core.specs.declared.turn_reason.TurnReason.{TurnReason}
@@ -209,6 +209,24 @@ pub reads_later : (app : Application) (conn : Session) → decision_on app conn 
 reads_later app conn e agreement =
     empty_unread app.start conn.values (app.next (first_panel app conn) NoAid) (sym (ap (λ (r : TurnReason). decision_on app conn r) agreement) ∙ e)
 
+-- and nothing twice after PA, or a key without a meaning
+never_reads : (app : Application) (conn : Session) (values : Values) (key : ℕ) (next : Next) → on_key app conn values (PaAid key) next ≡ Decision.Do Act.Read → ⊥
+never_reads app conn values key Again e = absurd (cc)
+never_reads app conn values key (Go target) e = absurd (cc)
+never_reads app conn values key Ask e = absurd (cc)
+
+reads_unread : (app : Application) (conn : Session) (turn_reason : TurnReason) → decision_on app conn turn_reason ≡ Decision.Do Act.Read → is_after_pa turn_reason ≡ true → is_unread turn_reason ≡ true
+reads_unread app conn turn_reasons.Agreement e pa = absurd (cc)
+reads_unread app conn turn_reasons.Refusal e pa = absurd (cc)
+reads_unread app conn turn_reasons.Restoration e pa = absurd (cc)
+reads_unread app conn (turn_reasons.Key ClearAid buffered) e pa = absurd (cc)
+reads_unread app conn (turn_reasons.Key EnterAid buffered) e pa = absurd (cc)
+reads_unread app conn (turn_reasons.Key (PfAid key) buffered) e pa = absurd (cc)
+reads_unread app conn (turn_reasons.Key NoAid false) e pa = refl
+reads_unread app conn (turn_reasons.Key NoAid true) e pa = absurd (cc)
+reads_unread app conn (turn_reasons.Key (PaAid key) false) e pa = refl
+reads_unread app conn (turn_reasons.Key (PaAid key) true) e pa = absurd (never_reads app conn (learned conn.shadow (app.fields conn.panel) conn.values) key (app.next conn.panel (PaAid key)) e)
+
 -- it isn't to be read
 NotRead : Decision → Type 0
 NotRead decision = decision ≡ Decision.Do Act.Read → ⊥
@@ -351,21 +369,21 @@ module _ (given : LowerLaws) (app : Application) (is : IsApplication app) (link 
       })
       (wants_its app link.term.waits link.host link.term.display.screen panel message keep values choice knows f.sees.meets)
 
-  asks : (lu : List ℕ) → link.term.display.size ≡ link.host.size → (link.term.display.screen.aid ≡ ClearAid → ⊥) → (link.host.turn_reason ≡ turn_reasons.Agreement → ⊥) → IsAt (view_of link) k.wanted (LinkPhase.InSession lu SessionPhase.Deciding) → Decides (local_state_of (view_of link)) link.host.shadow
+  asks : (lu : List ℕ) → link.term.display.size ≡ link.host.size → (link.term.display.screen.aid ≡ ClearAid → ⊥) → (link.host.turn_reason ≡ turn_reasons.Agreement → ⊥) → (is_after_pa link.host.turn_reason ≡ true → is_unread link.host.turn_reason ≡ true) → IsAt (view_of link) k.wanted (LinkPhase.InSession lu SessionPhase.Deciding) → Decides (local_state_of (view_of link)) link.host.shadow
       → ShownIn app link.term.waits link.host link.term.display.before_restored link.term.display.last_restored link.term.display.screen SessionPhase.Deciding → ConnectionInvariant app (view_of (sent_view (done app link.host Act.Read) link))
-  asks lu steady not_cleared not_first at f showing =
+  asks lu steady not_cleared not_first unread at f showing =
       let sending : SentValue = done app link.host Act.Read in
       let same : Sends link sending = record { talk = refl; exact = k.exact; restored = refl } in
       let to : LinkPhase = LinkPhase.InSession lu (SessionPhase.Reading link.host.next_seq) in
       kept_sent app link sending k to same k.sizes.host (λ s. steady)
       (sent_at link sending k.wanted (LinkPhase.InSession lu SessionPhase.Deciding) to same at (λ talk is. is) (λ is. is) at.turn refl refl refl)
-      (record { decides = f; not_cleared = not_cleared; not_first = not_first })
+      (record { decides = f; not_cleared = not_cleared; not_first = not_first; unread = unread })
       showing.0
 
   acts_at : (lu : List ℕ) (decision : Decision) → link.term.display.size ≡ link.host.size → decision_on app link.host link.host.turn_reason ≡ decision → IsAt (view_of link) k.wanted (LinkPhase.InSession lu SessionPhase.Deciding)
       → Decides (local_state_of (view_of link)) link.host.shadow → ShownIn app link.term.waits link.host link.term.display.before_restored link.term.display.last_restored link.term.display.screen SessionPhase.Deciding → ConnectionInvariant app (view_of (host_sent (decided app link.host decision) link))
   acts_at lu (Decision.Do Act.Read) steady e at f showing =
-      asks lu steady (reads_uncleared app link.host link.host.turn_reason link.term.display.screen.aid f.turn_reason e) (reads_later app link.host e) at f showing
+      asks lu steady (reads_uncleared app link.host link.host.turn_reason link.term.display.screen.aid f.turn_reason e) (reads_later app link.host e) (reads_unread app link.host link.host.turn_reason e) at f showing
   acts_at lu (Decision.Do (Act.Show panel message keep values)) steady e at f showing =
       paints lu panel message keep values
       (λ relies. decided_closed app link.host link.host.turn_reason link.host.shadow (shows_unread (decision_on app link.host link.host.turn_reason) panel message keep values e) (f.closed relies)) at f (IsDecided.by_host e) (λ keeps. knows_its showing (kept_later panel message keep values e keeps))

@@ -1,5 +1,5 @@
 -- A turn of serving by which the host agrees: from the byte by which it does so on, the turn is moves.
-use Rattle.std.proofs.Common.{◌≡◌, ◌<◌, ◌≤◌, inl, inr, ℕ, Bool, false, Option, None, Some, List, ◌++◌, drop, take, length, length-append, length-drop, append_assoc, arith, refl, ap, sym, subst, ◌∙◌}
+use Rattle.std.proofs.Common.{◌≡◌, ◌<◌, ◌≤◌, inl, inr, ℕ, false, Option, None, Some, List, ◌++◌, drop, take, length, length-append, length-drop, append_assoc, arith, refl, ap, sym, subst, ◌∙◌}
 use Rattle.std.proofs.lemmas.List.{set-set, take-append-drop}
 use Rattle.std.proofs.Math.Seq.{take-append_seam}
 use Rattle.telnet_wire.specs.Reading.{Rest}
@@ -22,6 +22,7 @@ use Rattle.host_core.specs.declared.serving.Served.{Served}
 use Rattle.host_core.specs.declared.terminals.Terminals.{Terminals}
 use Rattle.world3270.specs.model.TrackedTerminals.{TrackedTerminal}
 use Rattle.world3270.specs.statement.Agreeing.{Agrees, IsFresh, Negotiates, TurnNegotiates, TurnsNegotiate}
+use Rattle.world3270.specs.statement.EveryTerminalBytes.{Pressed}
 use Rattle.world3270.specs.statement.Serving.{AreQueues, IsTurn, over_queues}
 use Rattle.world3270.proofs.Agreeing.{bytes_negotiate, only_negotiates, open_parts}
 use Rattle.world3270.proofs.Frames.{connection_same}
@@ -88,14 +89,14 @@ module _ (app : Application) (serves : Terminals) (number : ℕ) (old mid : Host
 -- ---- a turn
 
 module _ {L : Type 0} (gave : L → ℕ → ℕ → List ℕ → LinkRead → L → Type 0) (took : L → ℕ → List ℕ → LinkWrite → L → Type 0)
-    (serves : Terminals) (number : ℕ) (up down : L → List ℕ) (queues : AreQueues gave took number up down) (tracked : TrackedTerminal) (waits : Bool)
+    (serves : Terminals) (number : ℕ) (up down : L → List ℕ) (queues : AreQueues gave took number up down) (tracked : TrackedTerminal) (pressed : Pressed)
     (old : Host) (links : L) (answer : Served) (new : Host) (left : L) (rest to : Rest) (conn now : Session) (below : number < length old.connections)
     (held : state_at number old ≡ Service.Open rest conn) (unagreed : is_agreed conn.talk.state ≡ false) (fresh : IsFresh (application_of old.panels) serves conn) (is_new : state_at number new ≡ Service.Open to now) where
   abbrev app : Application
   app = application_of old.panels
 
   abbrev Outcome : Type 0
-  Outcome = TurnNegotiates app serves number (over_queues gave took up down old links tracked waits) (over_queues gave took up down new left tracked waits) answer now
+  Outcome = TurnNegotiates app serves number (over_queues gave took up down old links tracked pressed) (over_queues gave took up down new left tracked pressed) answer now
 
   -- it goes on as it was
   still : (mid : Host) → state_at number new ≡ state_at number mid → (mid_rest : Rest) (mid_conn : Session) → state_at number mid ≡ Service.Open mid_rest mid_conn → is_agreed mid_conn.talk.state ≡ false → IsFresh app serves mid_conn
@@ -108,7 +109,7 @@ module _ {L : Type 0} (gave : L → ℕ → ℕ → List ℕ → LinkRead → L 
     -- the host agrees
     agreeing : (a : Agrees app serves number (connection_and_pool_at number old) (take fed.taken bytes) (connection_and_pool_at number mid))
         → let from = with_connection_and_pool number a.mid old in
-        IsTurn number (at_host from (down links) ((a.behind ++ drop fed.taken bytes) ++ up between) tracked waits) (over_queues gave took up down new left tracked waits) answer → Outcome
+        IsTurn number (at_host from (down links) ((a.behind ++ drop fed.taken bytes) ++ up between) tracked pressed) (over_queues gave took up down new left tracked pressed) answer → Outcome
     agreeing a turn =
         let is = from_is app serves number old mid bytes fed rest conn below held feeds a in
         let from : Host = with_connection_and_pool number a.mid old in
@@ -133,7 +134,7 @@ module _ {L : Type 0} (gave : L → ℕ → ℕ → List ℕ → LinkRead → L 
         → ((mid_rest : Rest) (mid_conn : Session) → state_at number mid ≡ Service.Open mid_rest mid_conn → is_agreed mid_conn.talk.state ≡ false → IsFresh app serves mid_conn → Outcome)
         → ((a : Agrees app serves number (connection_and_pool_at number old) (take fed.taken bytes) (connection_and_pool_at number mid))
         → let from = with_connection_and_pool number a.mid old in
-        IsTurn number (at_host from (down links) ((a.behind ++ drop fed.taken bytes) ++ up between) tracked waits) (over_queues gave took up down new left tracked waits) answer)
+        IsTurn number (at_host from (down links) ((a.behind ++ drop fed.taken bytes) ++ up between) tracked pressed) (over_queues gave took up down new left tracked pressed) answer)
         → Outcome
     negotiates here goes_on turns =
         let there = open_there (state_at number mid) here in
@@ -171,14 +172,14 @@ module _ {L : Type 0} (gave : L → ℕ → ℕ → List ℕ → LinkRead → L 
   turn_negotiates (Serves.starved got bytes gives goes (Responds.unfed fed feeds full short) memory) =
       let read = queues.reads links left _ bytes got gives in
       negotiates bytes fed new feeds left read.0 (open_new new refl) (λ mid_rest mid_conn is_mid yet fresh_mid. still new refl mid_rest mid_conn is_mid yet fresh_mid)
-      (λ a. starved_from gave took number up down queues tracked waits (with_connection_and_pool number a.mid old) links (a.behind ++ drop fed.taken bytes) answer new left
+      (λ a. starved_from gave took number up down queues tracked pressed (with_connection_and_pool number a.mid old) links (a.behind ++ drop fed.taken bytes) answer new left
       (RespondsSo.is_unfed (record { taken = length a.behind; stop = fed.stop }) (fed_behind app serves number old new bytes fed rest conn below held feeds a) refl) read.1 memory)
   turn_negotiates (Serves.starved got bytes gives goes (Responds.idle fed mid feeds more acts short) memory) =
       let read = queues.reads links left _ bytes got gives in
       let mid_open : IsOpen (state_at number mid) = acts_open (acted_by (application_of mid.panels) (state_at number mid)) (connection_at number mid) acted_as.Memory (connection_at number new) acts.does (open_new new refl) in
       negotiates bytes fed mid feeds left read.0 mid_open
       (λ mid_rest mid_conn is_mid yet fresh_mid. still mid (acts_unagreed mid new acted_as.Memory mid_rest mid_conn is_mid yet acts) mid_rest mid_conn is_mid yet fresh_mid)
-      (λ a. starved_from gave took number up down queues tracked waits (with_connection_and_pool number a.mid old) links (a.behind ++ drop fed.taken bytes) answer new left
+      (λ a. starved_from gave took number up down queues tracked pressed (with_connection_and_pool number a.mid old) links (a.behind ++ drop fed.taken bytes) answer new left
       (RespondsSo.is_idle (record { taken = length a.behind; stop = fed.stop }) mid (fed_behind app serves number old mid bytes fed rest conn below held feeds a) acts refl) read.1 memory)
   turn_negotiates (Serves.starved got bytes gives goes (Responds.acts fed mid done did feeds more acts able asked whole) memory) = absurd (cc)
   turn_negotiates (Serves.served got bytes host between gives goes (Responds.unfed fed feeds full short) sends other) = absurd (cc)
@@ -189,9 +190,9 @@ module _ {L : Type 0} (gave : L → ℕ → ℕ → List ℕ → LinkRead → L 
       let mid_open : IsOpen (state_at number mid) = acts_open (acted_by (application_of mid.panels) (state_at number mid)) (connection_at number mid) did (connection_at number done) acts.does (open_new done later) in
       negotiates bytes fed mid feeds between read.0 mid_open
       (λ mid_rest mid_conn is_mid yet fresh_mid. still mid (later ∙ acts_unagreed mid done did mid_rest mid_conn is_mid yet acts) mid_rest mid_conn is_mid yet fresh_mid)
-      (λ a. served_from gave took number up down queues tracked waits (with_connection_and_pool number a.mid old) links (a.behind ++ drop fed.taken bytes) host between answer new left
+      (λ a. served_from gave took number up down queues tracked pressed (with_connection_and_pool number a.mid old) links (a.behind ++ drop fed.taken bytes) host between answer new left
       (RespondsSo.is_acting (record { taken = length a.behind; stop = fed.stop }) mid done did (fed_behind app serves number old mid bytes fed rest conn below held feeds a) more acts asked) read.1 sends)
 
 pub turns_negotiate : {L : Type 0} (gave : L → ℕ → ℕ → List ℕ → LinkRead → L → Type 0) (took : L → ℕ → List ℕ → LinkWrite → L → Type 0) → TurnsNegotiate gave took
-turns_negotiate gave took serves number up down queues old links answer new left rest to conn now below held unagreed fresh it is_new tracked waits =
-    turn_negotiates gave took serves number up down queues tracked waits old links answer new left rest to conn now below held unagreed fresh is_new it
+turns_negotiate gave took serves number up down queues old links answer new left rest to conn now below held unagreed fresh it is_new tracked pressed =
+    turn_negotiates gave took serves number up down queues tracked pressed old links answer new left rest to conn now below held unagreed fresh is_new it

@@ -13,6 +13,7 @@ use Rattle.shadow.specs.Pairs.{Pairwise}
 use Rattle.telnet_wire.specs.Items.{CanCome, WireItem, sent_bytes}
 use Rattle.telnet_wire.specs.Laws.{WrongIsFinal}
 use Rattle.telnet_wire.specs.Reading.{Rest, Delivers, GoesWrong}
+use Rattle.tn3270e_msg.specs.Talk.{NegotiationMessage}
 use Rattle.tn3270e_msg.specs.Header.{record_limit}
 use Rattle.tn3270e_msg.specs.Laws.{FaultIsNoHeader, OneHeader}
 use Rattle.datastream.specs.Laws.{OneInbound}
@@ -33,15 +34,15 @@ use Rattle.host_core.specs.Takes.{HostStep, freed_if, quiet, took as host_took}
 use Rattle.host_core.specs.declared.acted.Acted.{Acted}
 use Rattle.host_core.specs.declared.acted.Acted.TheVariants as acted_as
 use Rattle.world3270.specs.model.ByteWorld.{is_there}
-use Rattle.world3270.specs.statement.EveryTerminal.{Move, LinkWithReport, after_moves, came_up, moved}
-use Rattle.world3270.specs.statement.EveryTerminalBytes.{IsUp, OverBytes, Represents, if_sent, link_over, on_connection}
+use Rattle.world3270.specs.statement.EveryTerminal.{IsByTheRules, Move, LinkWithReport, after_moves, came_up, moved}
+use Rattle.world3270.specs.statement.EveryTerminalBytes.{IsUp, OverBytes, Represents, WasPressed, if_sent, link_over, on_connection}
 use Rattle.world3270.specs.model.Link.{Link, host_left_if, host_sent, sent}
 use Rattle.world3270.specs.refinement.Readings.{IsReadAs, MayBeSent}
 use Rattle.world3270.specs.refinement.Sendable.{CanBeSent}
 use Rattle.world3270.specs.refinement.Representation.{conn_of, rest_of}
 use Rattle.world3270.specs.refinement.Ignored.{is_ignored_by_host, is_ignored_by_terminal, without_ignored}
 use Rattle.world3270.specs.refinement.Represents.{ByteLink, LinkRepresentsBy, RepresentsDown}
-use Rattle.world3270.specs.refinement.RepresentsLinks.{ItemsAreSentBy, MayComeAll, UpRepresentsBy, said_down}
+use Rattle.world3270.specs.refinement.RepresentsLinks.{ItemsAreSentBy, UpRepresentsBy, said_down}
 use Rattle.world3270.specs.model.TrackedTerminals.{TrackedTerminal}
 use Rattle.world3270.proofs.Answered.{IsDone}
 use Rattle.world3270.proofs.AnyTerminal.{Goes, GoesBy, IsKept, IsWellFormedMove, goes_after, goes_as, moves_once, stays}
@@ -50,15 +51,22 @@ use Rattle.world3270.proofs.Frames.{connection_same}
 use Rattle.world3270.proofs.HostItems.{host_reads}
 use Rattle.world3270.proofs.HostSteps.{just_talks}
 use Rattle.world3270.proofs.ItemsSpelt.{IsEncodable}
-use Rattle.world3270.proofs.LinkUp.{link_behind, may_behind, never_wrong, none_first, one_first, talk_comes, talk_stands}
+use Rattle.world3270.proofs.LinkUp.{link_behind, never_wrong, none_first, one_first, saying_comes, talk_stands}
 use Rattle.world3270.proofs.RepresentsLinks.{nop_can_come}
-use Rattle.world3270.proofs.WithoutClear.{IsWithoutClear}
+use Rattle.world3270.proofs.AnyBeside.{IsSaidDown}
 
 -- ---- an item that the host only answers, or ignores
 
 kept_if : (item : WireItem) (ignored : Bool) → is_ignored_by_host item ≡ ignored → without_ignored (item ∷ []) ≡ (if ignored then [] else item ∷ [])
 kept_if item true is = ap (λ (b : Bool). cond (not b) (item ∷ []) []) is
 kept_if item false is = ap (λ (b : Bool). cond (not b) (item ∷ []) []) is
+
+-- ---- what the host says
+
+-- what names LUs may come
+said_comes : (talk : List NegotiationMessage) → AllByRecursion IsSaidDown (map ToTerminal.TalksDown talk) → AllByRecursion (CanCome record_limit) (map item_sent (map ToTerminal.TalksDown talk))
+said_comes [] said = tt
+said_comes (saying ∷ talk) said = (saying_comes saying said.0, said_comes talk said.1)
 
 -- ---- the connection with this line of the host
 
@@ -79,12 +87,12 @@ with_parts host down up old = record old { host = host; down = down; up = up }
 
 -- it represents this, whatever the host has on other connections
 represents_with : (number : ℕ) (host : Host) (connection : Connection) (down up : List ℕ) (old : OverBytes) (t : LinkWithReport) → connection_at number host ≡ connection → IsOpen connection.service
-    → LinkRepresentsBy without_ignored IsReadAs is_ignored_by_terminal (link_by connection down up old.tracked) t.link → old.waits ≡ t.waits → t.link.term.waits ≡ false → CanBeSent t.link.term.display.size t.link.term.display.screen
+    → LinkRepresentsBy without_ignored IsReadAs is_ignored_by_terminal (link_by connection down up old.tracked) t.link → WasPressed old.pressed t.waits t.told.screen.aid t.cleared → t.link.term.waits ≡ false → CanBeSent t.link.term.display.size t.link.term.display.screen
     → Represents number (with_parts host down up old) t
-represents_with number host connection down up old t at is_open stands waits unnamed stored = record {
+represents_with number host connection down up old t at is_open stands pressed unnamed stored = record {
   is_open = subst (λ (c : Connection). IsOpen c.service) (sym at) is_open;
   stands = subst (λ (c : Connection). LinkRepresentsBy without_ignored IsReadAs is_ignored_by_terminal (link_by c down up old.tracked) t.link) (sym at) stands;
-  waits = waits;
+  pressed = pressed;
   unnamed = unnamed;
   stored = stored;
 }
@@ -153,7 +161,7 @@ module _ (laws : HearsLaws) (app : Application) (Good : LinkWithReport → Type 
         let read = subst (λ (r : Rest). Delivers record_limit r (byte ∷ []) items to) (sym (ap rest_of held)) delivers in
         let stands = opened rest to conn behind link held (none_first laws.up (link_over number old) link byte behind to is.stands host_here queue items none read) in
         let after : ConnectionAndPool = record { pool = old.host.pool; connection = record line { service = Service.Open to conn } } in
-        let represents = represents_with number (with_connection_and_pool number after old.host) after.connection old.down behind old t (at_line after.connection after.pool) tt stands is.waits is.unnamed is.stored in
+        let represents = represents_with number (with_connection_and_pool number after old.host) after.connection old.down behind old t (at_line after.connection after.pool) tt stands is.pressed is.unnamed is.stored in
         record {
           goes = goes_as app Good number (fed_by number after behind old) (fed_by number counter behind old) t (ap (λ (c : ConnectionAndPool). fed_by number c behind old) is_counter)
               (stays app Good number (fed_by number after behind old) t good represents);
@@ -176,14 +184,14 @@ module _ (laws : HearsLaws) (app : Application) (Good : LinkWithReport → Type 
           ap (λ (up : List ToHost). (came_up old.host.pool up t).link) e
           ∙ ap (λ (c : Option Cause). host_left_if c (link_behind step others link)) closes
 
-      waits_now : now.waits ≡ t.waits
-      waits_now = ap (λ (up : List ToHost). (came_up old.host.pool up t).waits) e
+      pressed_now : WasPressed old.pressed now.waits now.told.screen.aid now.cleared
+      pressed_now = subst (λ (up : List ToHost). let next = came_up old.host.pool up t in WasPressed old.pressed next.waits next.told.screen.aid next.cleared) (sym e) is.pressed
 
       good_now : Good now
       good_now = kept.goes_on (Move.Up old.host.pool) t good served.pool tt
 
-      may_now : MayComeAll link.term (sent link.lost link.down step.sends)
-      may_now = subst (λ (l : Link). MayComeAll l.term l.down) link_now (kept.ready now good_now).may
+      said_now : AllByRecursion IsSaidDown (sent link.lost link.down step.sends)
+      said_now = subst (λ (l : Link). AllByRecursion IsSaidDown l.down) link_now (kept.ready now good_now).said
 
       step_is : (item : WireItem) (done : HostStep) (rest : Rest) (conn : Session) → line.service ≡ Service.Open rest conn → IsReadAs item message → TakesItem (answer_to old.host.pool) conn item done → done ≡ step
       step_is item done rest conn held read taken =
@@ -203,10 +211,10 @@ module _ (laws : HearsLaws) (app : Application) (Good : LinkWithReport → Type 
           let counter_is : counter ≡ after = is_counter ∙ ap (λ (s : HostStep). stepped number to s (connection_and_pool_at number old.host)) (step_is item done rest conn held read taken) in
           let going : service_after to step.conn step.closes ≡ Service.Open to step.conn = ap (service_after to step.conn) closes in
           let lost : false ≡ link.lost = is.stands.lost in
-          let may = may_behind link.down step.sends link.term (subst (λ (l : Bool). MayComeAll link.term (sent l link.down step.sends)) (sym lost) may_now) in
+          let its_own = all_back IsSaidDown link.down step.sends (subst (λ (l : Bool). AllByRecursion IsSaidDown (sent l link.down step.sends)) (sym lost) said_now) in
           let fit : AllByRecursion (CanCome record_limit) (map item_sent step.sends) =
           subst (λ (m : List ToTerminal). AllByRecursion (CanCome record_limit) (map item_sent m)) (sym just.says)
-          (talk_comes just.talk may.0 (subst (λ (m : List ToTerminal). MayComeAll may.0 m) just.says may.1)) in
+          (said_comes just.talk (subst (AllByRecursion IsSaidDown) just.says its_own)) in
           let pairs : Pairwise RepresentsDown (map item_sent step.sends) step.sends = subst (λ (m : List ToTerminal). Pairwise RepresentsDown (map item_sent m) m) (sym just.says) (talk_stands just.talk) in
           let none : AllByRecursion IsNoRefusal step.sends =
           all_back IsNoRefusal link.down step.sends
@@ -222,7 +230,7 @@ module _ (laws : HearsLaws) (app : Application) (Good : LinkWithReport → Type 
           let back = sym link_now in
           let represents = represents_with number (with_connection_and_pool number after old.host) line_now old.down behind old now (at_line after.connection after.pool ∙ line_is) tt
           (subst (λ (l : Link). LinkRepresentsBy without_ignored IsReadAs is_ignored_by_terminal (link_by line_now old.down behind old.tracked) l) back stands)
-          (is.waits ∙ sym waits_now) (ap (λ (l : Link). l.term.waits) link_now ∙ is.unnamed)
+          pressed_now (ap (λ (l : Link). l.term.waits) link_now ∙ is.unnamed)
           (subst (λ (l : Link). CanBeSent l.term.display.size l.term.display.screen) back is.stored) in
           let sound : IsSoundPool after.pool =
           subst (λ (c : Option Cause). IsSoundPool (freed_if number c (granted_if number step.grants old.host.pool))) (sym closes) (still_sound laws.granted number step.grants old.host.pool served.pool) in
@@ -251,7 +259,7 @@ module _ (laws : HearsLaws) (app : Application) (Good : LinkWithReport → Type 
         (subst (λ (c : Session). LinkRepresentsBy without_ignored IsReadAs is_ignored_by_terminal (record (link_by after.connection old.down behind old.tracked) { down = (old.down ++ line.out) ++ more; host = c }) link) same
         (subst (λ (h : Bool). LinkRepresentsBy without_ignored IsReadAs is_ignored_by_terminal (record (link_by after.connection old.down behind old.tracked) { down = (old.down ++ line.out) ++ more; host = link.host; host_here = h }) link)
         (here_if line.service is.is_open) said)) in
-        let represents = represents_with number (with_connection_and_pool number after old.host) after.connection old.down behind old t (at_line after.connection after.pool) tt stands is.waits is.unnamed is.stored in
+        let represents = represents_with number (with_connection_and_pool number after old.host) after.connection old.down behind old t (at_line after.connection after.pool) tt stands is.pressed is.unnamed is.stored in
         record {
           goes = goes_as app Good number (fed_by number after behind old) (fed_by number counter behind old) t (ap (λ (c : ConnectionAndPool). fed_by number c behind old) counter_is)
               (stays app Good number (fed_by number after behind old) t good represents);
@@ -322,7 +330,7 @@ module _ (laws : HearsLaws) (app : Application) (Good : LinkWithReport → Type 
     same_line connection down same is_open = record {
       goes = stays app Good number (record old { host = with_connection number connection old.host; down = down }) t good
           (represents_with number (with_connection number connection old.host) connection down old.up old t (at_line old t good is served connection old.host.pool) is_open
-          (subst (λ (b : ByteLink). LinkRepresentsBy without_ignored IsReadAs is_ignored_by_terminal b t.link) (sym same) is.stands) is.waits is.unnamed is.stored);
+          (subst (λ (b : ByteLink). LinkRepresentsBy without_ignored IsReadAs is_ignored_by_terminal b t.link) (sym same) is.stands) is.pressed is.unnamed is.stored);
       are = refl;
     }
 
@@ -346,7 +354,7 @@ module _ (laws : HearsLaws) (app : Application) (Good : LinkWithReport → Type 
     sent_link sending (Service.Closed cause) out is = absurd is
 
     -- a message is sent, which is encoded
-    pub sends_goes : (move : Move) (sending : Sent) → moved app move t ≡ record t { link = host_sent (Some sending) t.link } → IsWithoutClear move t → IsWellFormedMove move → IsEncodable sending.message
+    pub sends_goes : (move : Move) (sending : Sent) → moved app move t ≡ record t { link = host_sent (Some sending) t.link } → IsByTheRules move t → IsWellFormedMove move t → IsEncodable sending.message
         → GoesBy app Good number (on_connection number (sent_on sending (connection_at number old.host)) old) t (move ∷ [])
     sends_goes move sending goes rules typed encoded =
         let connection : Connection = sent_on sending (connection_at number old.host) in
@@ -364,13 +372,13 @@ module _ (laws : HearsLaws) (app : Application) (Good : LinkWithReport → Type 
           goes = moves_once app Good kept number (on_connection number connection old) t move good rules typed
               (subst (λ (u : LinkWithReport). Represents number (on_connection number connection old) u) (sym goes)
               (represents_with number (with_connection number connection old.host) connection old.down old.up old now (at_line old t good is served connection old.host.pool)
-              (open_still sending.conn (state_at number old.host) is.is_open) stands is.waits is.unnamed is.stored));
+              (open_still sending.conn (state_at number old.host) is.is_open) stands is.pressed is.unnamed is.stored));
           are = refl;
         }
 
     -- it is done, or memory is refused
     pub does_goes : (move : Move) (what : Option Sent) (did : Acted) (connection : Connection) → moved app move t ≡ record t { link = host_sent what t.link }
-        → IsWithoutClear move t → IsWellFormedMove move → IfSome what (λ sending. IsEncodable sending.message) → IsDone what (connection_at number old.host) did connection
+        → IsByTheRules move t → IsWellFormedMove move t → IfSome what (λ sending. IsEncodable sending.message) → IsDone what (connection_at number old.host) did connection
         → GoesBy app Good number (on_connection number connection old) t (if_sent did move)
     does_goes move None did connection goes rules typed encoded done =
         let none = unchanged connection done.1 in
@@ -409,7 +417,7 @@ module _ (laws : HearsLaws) (app : Application) (Good : LinkWithReport → Type 
                   (subst (λ (d : List ℕ). LinkRepresentsBy without_ignored IsReadAs is_ignored_by_terminal (record (link_over number old) { down = d }) t.link) (append_assoc old.down line.out nop)
                   (subst (λ (c : Session). LinkRepresentsBy without_ignored IsReadAs is_ignored_by_terminal (record (link_over number old) { down = (old.down ++ line.out) ++ nop; host = c }) t.link) (sym (conn_is old t good is served))
                   (refusals_stand laws.sends (link_over number old) t.link (no_operation ∷ []) is.stands (nop_can_come, tt) refl)))
-                  is.waits is.unnamed is.stored);
+                  is.pressed is.unnamed is.stored);
               are = refl;
             }
 
@@ -421,6 +429,6 @@ module _ (laws : HearsLaws) (app : Application) (Good : LinkWithReport → Type 
     pub elsewhere_goes : (host : Host) → connection_at number host ≡ connection_at number old.host → GoesBy app Good number (record old { host = host }) t []
     elsewhere_goes host same = record {
       goes = stays app Good number (record old { host = host }) t good
-          (represents_with number host (connection_at number old.host) old.down old.up old t same is.is_open is.stands is.waits is.unnamed is.stored);
+          (represents_with number host (connection_at number old.host) old.down old.up old t same is.is_open is.stands is.pressed is.unnamed is.stored);
       are = refl;
     }

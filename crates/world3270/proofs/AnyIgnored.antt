@@ -1,6 +1,6 @@
 -- What the ends of a session answer or ignore: of such an item the host makes refusals of options, or nothing, and the terminal nothing. No
 -- message of a session is one of these.
-use Rattle.std.proofs.Common.{◌≡◌, ◌==◌, ◌&&◌, ◌≤◌, inl, inr, not, cond, ℕ, Bool, true, false, List, [], ◌∷◌, ◌++◌, Option, length, map, refl, ap, sym, subst, ◌∙◌, arith, if◌then◌else◌}
+use Rattle.std.proofs.Common.{◌≡◌, ◌==◌, ◌&&◌, ◌≤◌, not, cond, ℕ, Bool, true, false, List, [], ◌∷◌, ◌++◌, Option, length, map, refl, ap, sym, subst, ◌∙◌, arith, if◌then◌else◌}
 use Rattle.std.specs.Int.{to_be_bytes, w16}
 use Rattle.std.specs.List.{AllByRecursion}
 use Rattle.std.specs.Prelude.{⊤}
@@ -34,9 +34,8 @@ use Rattle.host_core.specs.Items.{TakesItem, TakesRecord, TakesRecordIf}
 use Rattle.host_core.specs.Messages.{ToHost, ToTerminal}
 use Rattle.host_core.specs.Rejections.{lu_asked}
 use Rattle.host_core.specs.Says.{item_sent}
-use Rattle.host_core.specs.Session.{Session, Pending, is_agreed}
+use Rattle.host_core.specs.Session.{Session, is_agreed}
 use Rattle.host_core.specs.Takes.{Answers, HostStep, quiet, talked, talked_on}
-use Rattle.host_core.specs.declared.turn.Turn.{Turn}
 use Rattle.keyboard.specs.declared.key.Pressed.{Pressed}
 use Rattle.keyboard.specs.declared.key.Pressed.TheVariants.{Done, Refused, Send}
 use Rattle.codes3270.specs.Size.{ScreenSize}
@@ -51,11 +50,8 @@ use Rattle.world3270.specs.refinement.Represents.{ByteLink, BytesDown, BytesDown
 use Rattle.world3270.specs.refinement.RepresentsEnds.{HaveNoEffect, IsOpen}
 use Rattle.world3270.specs.refinement.RepresentsLinks.{ItemsAreSentBy, said_down}
 use Rattle.world3270.specs.refinement.View.{view_of}
-use Rattle.world3270.specs.statement.EveryTerminal.{LinkWithReport}
 use Rattle.world3270.proofs.Represents.{no_talk_stays, nop_has_no_effect, saying_talks, side_of, unanswered, unmoved_by}
 use Rattle.world3270.proofs.RepresentsLinks.{sent_nothing}
-use Rattle.world3270.proofs.SecondKeys.{AddsSecondKeys, SaysAlike, turn_after, pending_after}
-use Rattle.world3270.proofs.Simulation.{Simulated, agrees_now}
 use Rattle.world3270.proofs.TalkStates.{agreed_there}
 
 -- ---- which option a subnegotiation is of, and which type a record has
@@ -414,28 +410,6 @@ no_talk_under_way app link k agrees =
         subst (λ (now : NegotiationPhase). AllByRecursion IsNoTalk (talk_up model k.wanted now)) (sym (agreed_there model talking link.host.talk at.host_talk agrees).1) tt
     by_moment (LinkPhase.FirstPaint lu number command paints over) at = tt
     by_moment (LinkPhase.InSession lu serving) at = served_up_so serving
-
--- what comes up of any terminal is no talk, either
-real_no_talk : (turn : Turn) (pending : Pending) (told real : List ToHost) → AddsSecondKeys turn pending told real → AllByRecursion IsNoTalk told → AllByRecursion IsNoTalk real
-real_no_talk turn pending told [] x all = tt
-real_no_talk turn pending told (message ∷ real) (inl x) all = (subst IsNoTalk (sym x.1.is) tt, real_no_talk turn pending told real x.2 all)
-real_no_talk turn pending told (message ∷ real) (inr x) all =
-    let both = subst (AllByRecursion IsNoTalk) x.1 all in
-    (both.0, real_no_talk (turn_after message turn) (pending_after message pending) x.0 real x.2 both.1)
-
-alike_no_talk : (conn : Session) (told said : List ToHost) → SaysAlike conn told said → AllByRecursion IsNoTalk told → AllByRecursion IsNoTalk said
-alike_no_talk conn told said (SaysAlike.same is) all = subst (AllByRecursion IsNoTalk) (sym is) all
-alike_no_talk conn told said (SaysAlike.checked number one other rest pends skips one_kept other_kept is_told is_said) all =
-    subst (AllByRecursion IsNoTalk) (sym is_said) (tt, (subst (AllByRecursion IsNoTalk) is_told all).1)
-
-pub no_talk_comes : (app : Application) (lu : List ℕ) (t : LinkWithReport) → Simulated app lu t → AllByRecursion IsNoTalk t.link.up
-no_talk_comes app lu t s =
-    let up = s.simulates.up in
-    real_no_talk s.told.host.turn s.told.host.pending up.said t.link.up up.up
-    (alike_no_talk s.told.host s.told.up up.said up.alike (no_talk_under_way app s.told s.kept (agrees_now s)))
-
-pub no_refusal_comes : (app : Application) (lu : List ℕ) (t : LinkWithReport) → Simulated app lu t → AllByRecursion IsNoRefusal t.link.down
-no_refusal_comes app lu t s = subst (AllByRecursion IsNoRefusal) (sym s.simulates.down) (no_refusal_under_way app s.told s.kept)
 
 -- a key's data is no talk
 pub data_no_talk : (bound : Bool) (answer : Pressed) (shape : ScreenSize) (screen : Screen) → AllByRecursion IsNoTalk (data_of bound answer shape screen)

@@ -1,104 +1,62 @@
--- What comes up next to the host of a terminal that keeps the rules may come: it is what the waiting terminal says, or a
--- second key, of the size by which the host reads it. What is still asked for is that a second key's data can't be taken
--- for a read's answer (`KeepsAddressFirst`).
-use Rattle.std.proofs.Common.{◌≡◌, ◌⊎◌, inl, inr, ◌&&◌, ◌≤◌, ◌++◌, ℕ, Bool, true, false, Option, None, Some, List, [], ◌∷◌, arith, map, refl, ap, sym, subst, ◌∙◌, if◌then◌else◌}
+-- The size of what is queued by a terminal that keeps the rules, and so what may come next to its host: what the waiting terminal says, or a second
+-- key's data, of the size by which the host reads it. That few characters lead in it, `AnyLeads` has.
+use Rattle.std.proofs.Common.{◌≡◌, ◌⊎◌, inl, inr, ◌&&◌, ◌<◌, ◌≤◌, ◌++◌, ltb, not, suc, ℕ, Bool, true, false, Option, None, Some, List, [], ◌∷◌, arith, map, refl, ap, sym, subst, ◌∙◌, if◌then◌else◌}
 use Rattle.std.specs.Prelude.{⊤, All}
+use Rattle.std.specs.List.{AllByRecursion}
 use Rattle.std.specs.Option.{option_and_then}
 use Rattle.std.proofs.lemmas.List.Elements.{All-cons, All-head, All-map, All-nil, All-tail}
 use Rattle.codes3270.specs.Size.{ScreenSize, alternate_of, cells_in, model_2}
 use Rattle.codes3270.specs.declared.attention.Aid.{Aid}
+use Rattle.codes3270.specs.declared.attention.Aid.TheVariants.{NoAid, Enter, Clear, Pf, Pa}
 use Rattle.codes3270.specs.declared.size.Model.{Model}
 use Rattle.codes3270.specs.declared.size.Model.TheVariants.{M2, M3, M4, M5}
+use Rattle.datastream.specs.Grammar.{CommandParts}
 use Rattle.datastream.specs.InboundFields.{buffer_data, leading_text_of, parts_of_fields, returned_of}
 use Rattle.datastream.specs.InboundText.{InboundParts, stands_alone}
 use Rattle.datastream.specs.Screen.{Screen}
-use Rattle.datastream.specs.declared.inbound_part.Form.TheVariants.{Buffer, Modified}
+use Rattle.datastream.specs.Wanted.{WantedScreen}
+use Rattle.datastream.specs.declared.inbound_part.Form.{Form}
+use Rattle.datastream.specs.declared.inbound_part.Form.TheVariants.{All as AllModified, Buffer, Modified}
 use Rattle.keyboard.specs.declared.key.Pressed.TheVariants.{Send}
 use Rattle.lu_pool.specs.Asking.{answer_to}
 use Rattle.lu_pool.specs.declared.entry.Entry.{Entry}
+use Rattle.shadow.specs.Belief.{Shadow}
+use Rattle.shadow.specs.Sized.{MeetsIsOfSize}
 use Rattle.tn3270e_msg.specs.Talk.{NegotiationMessage}
 use Rattle.tn3270e_msg.specs.declared.cause.Cause.{Cause}
+use Rattle.tn3270e_msg.specs.declared.cause.Cause.TheVariants.{BadInbound}
 use Rattle.host_core.specs.Acts.{Act, Decision, Sent, acted, decided, decision_on, done, may_act}
-use Rattle.host_core.specs.Application.{Application, IsApplication, IsSizeOf, application_of}
+use Rattle.host_core.specs.Application.{Application, IsApplication, IsSizeOf}
 use Rattle.host_core.specs.Items.{is_paint_or_read, second_key_size}
 use Rattle.host_core.specs.Messages.{ToHost, ToTerminal, Verdict}
 use Rattle.host_core.specs.Notes.{may_note, noted, noted_as}
 use Rattle.host_core.specs.Questions.{act_by, answered_on, has_its_panel, is_asking, panel_for}
 use Rattle.host_core.specs.Session.{Session, Pending, is_agreed, model_in}
-use Rattle.host_core.specs.Takes.{Answers, HostStep, dropping, form_awaited, may_have_changed, took as host_took}
+use Rattle.host_core.specs.Takes.{Answers, HostStep, breaking, closed_by, data_came, form_awaited, may_have_changed, most_restored, once_agreed, painted_over, restoring, second_key, second_key_data, sends_wrong, took as host_took, unbelieved}
+use Rattle.host_core.specs.declared.disbelief.Disbelief.{Disbelief}
+use Rattle.host_core.specs.declared.disbelief.Disbelief.TheVariants.{NoKey}
 use Rattle.host_core.specs.declared.question.Answer.{Answer as ApplicationAnswer}
-use Rattle.host_core.specs.declared.turn.Turn.{Turn}
 use Rattle.host_core.specs.declared.turn.Turn.TheVariants as whose
-use Rattle.world3270.specs.statement.EveryTerminal.{FirstPaint, Move, LinkWithReport, came_down, came_up, moved}
-use Rattle.world3270.specs.statement.EveryTerminalBytes.{EveryTerminalOverBytes}
+use Rattle.world3270.specs.statement.EveryTerminal.{IsByTheRules, Move, LinkWithReport, came_down, came_up, executed, moved, paint_executed}
 use Rattle.world3270.specs.statement.Forms.{IsAwaitedBy}
+use Rattle.world3270.specs.statement.Shown.{is_painting}
 use Rattle.world3270.specs.refinement.LowerLaws.{LowerLaws}
-use Rattle.world3270.specs.model.Link.{Link, host_left_if, host_sent, sent, term_left_if}
-use Rattle.world3270.specs.refinement.Phases.{IsAt, IsHostIn, LinkPhase, SessionPhase, NegotiationPhase, IsInFlight, pending_at, served_up, talk_up, up_at}
-use Rattle.world3270.specs.refinement.Readings.{HasNoLeadingText, IsSecondKeyIn, MayBeSent}
+use Rattle.world3270.specs.model.Link.{Link, host_left_if, host_sent, sent, term_left_if, term_stepped}
+use Rattle.world3270.specs.refinement.Phases.{IsAt, IsHostIn, LinkPhase, NegotiationPhase}
+use Rattle.world3270.specs.refinement.Readings.{IsSecondKeyIn, MayBeSent, count_leading}
 use Rattle.world3270.specs.statement.Rules.{Operates, with_aid}
-use Rattle.world3270.specs.refinement.Sizes.{is_painting}
-use Rattle.world3270.specs.refinement.Invariant.{ConnectionInvariant, may_differ_at}
-use Rattle.world3270.specs.refinement.RepresentsLinks.{HasTheSizes, NoneCloses}
-use Rattle.world3270.specs.model.Terminal.{Display, TermEnd, TermStep, data_of, is_bound, once_bound, took}
+use Rattle.world3270.specs.refinement.Invariant.{ConnectionInvariant}
+use Rattle.world3270.specs.refinement.RepresentsLinks.{HasTheSizes}
+use Rattle.world3270.specs.model.Terminal.{TermEnd, TermStep, data_of, is_bound, once_bound, took}
 use Rattle.world3270.specs.refinement.View.{view_of}
 use Rattle.world3270.proofs.Acting.{asking_parts, may_act_when, model_here}
-use Rattle.world3270.proofs.AnyEvery.{AnyLaws, QueueIsKept, over_bytes}
-use Rattle.world3270.proofs.AnyReady.{all_may_now, same_now}
-use Rattle.world3270.proofs.AnySpelt.{HasSendableContent}
-use Rattle.world3270.proofs.AnyTerminal.{IsWellFormedMove, came_one}
-use Rattle.world3270.proofs.Down.{shape_of_model}
-use Rattle.world3270.proofs.Forms.{awaited}
-use Rattle.world3270.proofs.HeardTurns.{goes_on as heard_goes_on}
+use Rattle.world3270.proofs.AnyBeside.{IsDataOnly, Known, has_paint, host_size, paint_bound, paint_sized}
+use Rattle.world3270.proofs.AnyIgnored.{IsNoTalk}
+use Rattle.world3270.proofs.AnyTerminal.{told_link_is}
 use Rattle.world3270.proofs.HostSteps.{just_talks}
-use Rattle.world3270.proofs.Known.{the_sizes}
-use Rattle.world3270.proofs.Queues.{empty_queue, front, nothing}
-use Rattle.world3270.proofs.SecondKeys.{AddsSecondKeys, IsSecondKey, SaysAlike, alike_silent, alike_talk, is_dropping, pending_after, second_key_dropped, unless_read}
-use Rattle.world3270.proofs.SimulatedHost.{may_note_when, nothing_up}
-use Rattle.world3270.proofs.Simulation.{HeardAlike, Simulated, agrees_now, heard_alike}
+use Rattle.world3270.proofs.SimulatedHost.{may_note_when}
+use Rattle.world3270.proofs.Simulation.{has_agreed}
 use Rattle.world3270.proofs.TalkStates.{agreed_there}
-use Rattle.world3270.proofs.Worlds.{some_cells}
-use Rattle.world3270.proofs.WithoutClear.{IsWithoutClear}
-
--- ---- nothing of the talk comes up once both agreed
-
-abbrev NoTalkFirst : List ToHost → Type 0
-NoTalkFirst [] = ⊤
-NoTalkFirst (ToHost.TalksUp saying ∷ messages) = ⊥
-NoTalkFirst (ToHost.Data parts ∷ messages) = ⊤
-NoTalkFirst (ToHost.Response number verdict ∷ messages) = ⊤
-
-served_first : (serving : SessionPhase) → NoTalkFirst (served_up serving)
-served_first SessionPhase.Deciding = tt
-served_first (SessionPhase.Reading number) = tt
-served_first (SessionPhase.BufferReturning number parts) = tt
-served_first (SessionPhase.DecidingNoteSent number command) = tt
-served_first (SessionPhase.DecidingNoteAnswered number command) = tt
-served_first (SessionPhase.Painting number command wanted over) = tt
-served_first (SessionPhase.AwaitingWriteResponse kind number command) = tt
-served_first SessionPhase.OperatorTyping = tt
-served_first (SessionPhase.Noting number command) = tt
-served_first (SessionPhase.KeySent parts) = tt
-served_first (SessionPhase.KeySentAfterResponse kind number command parts) = tt
-served_first (SessionPhase.KeyCrossingNote number command parts) = tt
-served_first (SessionPhase.KeyBeforeNoteResponse number command parts) = tt
-
-not_first : (lost : Bool) (queue messages : List ToHost) (saying : NegotiationMessage) (rest : List ToHost) → queue ≡ ToHost.TalksUp saying ∷ rest → IsInFlight lost queue messages → NoTalkFirst messages → ⊥
-not_first lost queue [] saying rest e under none = nothing lost queue (ToHost.TalksUp saying) rest e under
-not_first lost queue (message ∷ messages) saying rest e under none =
-    subst (λ (m : ToHost). NoTalkFirst (m ∷ messages)) (sym (front lost queue (ToHost.TalksUp saying) rest message messages e under).0) none
-
-no_talk : (app : Application) (lu : List ℕ) (t : LinkWithReport) (s : Simulated app lu t) (saying : NegotiationMessage) (rest : List ToHost) → s.told.up ≡ ToHost.TalksUp saying ∷ rest → ⊥
-no_talk app lu t s saying rest e = not_first s.told.lost s.told.up (up_at model s.kept.wanted s.kept.moment) saying rest e s.kept.at.goes_up (by_moment s.kept.moment s.kept.at)
-  where
-    model : Model
-    model = s.told.term.display.model
-
-    by_moment : (moment : LinkPhase) → IsAt (view_of s.told) s.kept.wanted moment → NoTalkFirst (up_at model s.kept.wanted moment)
-    by_moment (LinkPhase.Negotiating talking) at =
-        subst (λ (now : NegotiationPhase). NoTalkFirst (talk_up model s.kept.wanted now)) (sym (agreed_there model talking s.told.host.talk at.host_talk (agrees_now s)).1) tt
-    by_moment (LinkPhase.FirstPaint lu number command wanted over) at = tt
-    by_moment (LinkPhase.InSession lu serving) at = served_first serving
 
 -- ---- the size of what is queued
 
@@ -120,17 +78,11 @@ AreSized app model painting now (ToHost.Data parts ∷ up) = IsSizedIf app model
 AreSized app model painting now (ToHost.Response number verdict ∷ up) = AreSized app model false now up
 AreSized app model painting now (ToHost.TalksUp saying ∷ up) = AreSized app model painting now up
 
+-- The screen has a size of its model: the one that the host set last, unless a paint is under way to it.
 pub record IsSized (app : Application) (link : Link) : Type 0 where
-  pub model : Model
-  pub model_is : link.term.display.model ≡ model
-  pub up : AreSized app model (is_painting link.host.pending) link.host.size link.up
-
--- nothing but data
-abbrev IsDataOnly : List ToHost → Type 0
-IsDataOnly [] = ⊤
-IsDataOnly (ToHost.Data parts ∷ up) = IsDataOnly up
-IsDataOnly (ToHost.Response number verdict ∷ up) = ⊥
-IsDataOnly (ToHost.TalksUp saying ∷ up) = ⊥
+  pub up : AreSized app link.term.display.model (is_painting link.host.pending) link.host.size link.up
+  pub term : IsSizeOf app link.term.display.model link.term.display.size
+  pub same : has_paint link.down ≡ false → link.term.display.size ≡ link.host.size
 
 module _ (app : Application) (model : Model) (now : ScreenSize) where
   sized_if : (painting : Bool) (size : ScreenSize) → IsSizeOf app model now → size ≡ now → IsSizedIf app model painting now size
@@ -165,27 +117,79 @@ module _ (app : Application) (model : Model) (now : ScreenSize) where
   once_painting next (ToHost.Response number verdict ∷ up) only is sized = absurd only
   once_painting next (ToHost.TalksUp saying ∷ up) only is sized = absurd only
 
-  still_painting : (pending : Pending) → is_painting (unless_read pending) ≡ is_painting pending
-  still_painting Pending.Nothing = refl
-  still_painting (Pending.Reading number) = refl
-  still_painting (Pending.Writing number command) = refl
-  still_painting (Pending.Noting number command) = refl
+  -- data of that size has a size of the model
+  also_painting : IsSizeOf app model now → (up : List ToHost) → AreSized app model false now up → AreSized app model true now up
+  also_painting is [] sized = tt
+  also_painting is (ToHost.Data parts ∷ up) sized = (subst (IsSizeOf app model) (sym sized.0) is, also_painting is up sized.1)
+  also_painting is (ToHost.Response number verdict ∷ up) sized = sized
+  also_painting is (ToHost.TalksUp saying ∷ up) sized = also_painting is up sized
 
-  -- the first is heard
-  heard_sized : (message : ToHost) (pending : Pending) (up : List ToHost) → AreSized app model (is_painting pending) now (message ∷ up) → AreSized app model (is_painting (pending_after message pending)) now up
-  heard_sized (ToHost.Data parts) pending up sized = subst (λ (painting : Bool). AreSized app model painting now up) (sym (still_painting pending)) sized.1
-  heard_sized (ToHost.Response number verdict) pending up sized = sized
-  heard_sized (ToHost.TalksUp saying) pending up sized = sized
+  either_painting : IsSizeOf app model now → (painting : Bool) (up : List ToHost) → AreSized app model false now up → AreSized app model painting now up
+  either_painting is true up sized = also_painting is up sized
+  either_painting is false up sized = sized
 
-  -- or dropped
-  dropped_sized : (painting : Bool) (message : ToHost) (up : List ToHost) → IsSecondKey message → AreSized app model painting now (message ∷ up) → AreSized app model painting now up
-  dropped_sized painting message up second sized = (subst (λ (m : ToHost). AreSized app model painting now (m ∷ up)) second.is sized).1
+-- ---- the host hears data while a paint waits for its answer
 
--- second keys are data
-data_only : (turn : Turn) (pending : Pending) (up : List ToHost) → AddsSecondKeys turn pending [] up → IsDataOnly up
-data_only turn pending [] x = tt
-data_only turn pending (message ∷ up) (inl x) = subst (λ (m : ToHost). IsDataOnly (m ∷ up)) (sym x.1.is) (data_only turn pending up x.2)
-data_only turn pending (message ∷ up) (inr x) = absurd (let some = x.1 in cc)
+unbelieved_waits : (why : Disbelief) (conn : Session) (number : ℕ) (command : CommandParts) → conn.pending ≡ Pending.Writing number command → (unbelieved why conn).conn.pending ≡ conn.pending
+unbelieved_waits why conn number command pends = by_tests (not (may_have_changed conn.unheard)) conn.verifies (ltb conn.restored most_restored)
+  where
+    restored : Session
+    restored = record conn { restored = suc conn.restored }
+
+    over : (painted_over conn.turn conn.pending restored).pending ≡ conn.pending
+    over = ap (λ (p : Pending). (painted_over conn.turn p restored).pending) pends
+
+    by_tests : (relies verifies few : Bool)
+        → (if relies then closed_by BadInbound conn else if verifies then breaking sends_wrong conn else if few then restoring why (painted_over conn.turn conn.pending restored) else closed_by BadInbound conn).conn.pending ≡ conn.pending
+    by_tests true verifies few = refl
+    by_tests false true few = refl
+    by_tests false false true = over
+    by_tests false false false = refl
+
+key_waits : (parts : InboundParts) (aid : Aid) (conn : Session) (number : ℕ) (command : CommandParts) → conn.pending ≡ Pending.Writing number command → (second_key parts aid conn.pending conn).conn.pending ≡ conn.pending
+key_waits parts NoAid conn number command pends = unbelieved_waits NoKey conn number command pends
+key_waits parts Enter conn number command pends = refl
+key_waits parts Clear conn number command pends = ap (λ (p : Pending). (second_key parts Clear p conn).conn.pending) pends
+key_waits parts (Pf key) conn number command pends = refl
+key_waits parts (Pa key) conn number command pends = refl
+
+data_waits : (pool : Answers) (conn : Session) (parts : InboundParts) (number : ℕ) (command : CommandParts) → conn.pending ≡ Pending.Writing number command → (host_took pool conn (ToHost.Data parts)).conn.pending ≡ conn.pending
+data_waits pool conn parts number command pends =
+    by_agreed (is_agreed conn.talk.state)
+  where
+    by_form : (form : Form) → (second_key_data parts form conn).conn.pending ≡ conn.pending
+    by_form Modified = key_waits parts parts.aid conn number command pends
+    by_form AllModified = refl
+    by_form Buffer = refl
+
+    by_changed : (changed : Bool) → (if changed then second_key_data parts parts.form conn else closed_by BadInbound conn).conn.pending ≡ conn.pending
+    by_changed true = by_form parts.form
+    by_changed false = refl
+
+    came : (data_came parts conn.turn conn.pending conn).conn.pending ≡ conn.pending
+    came = ap (λ (p : Pending). (data_came parts conn.turn p conn).conn.pending) pends ∙ by_changed (may_have_changed conn.unheard)
+
+    by_agreed : (agreed : Bool) → (once_agreed agreed (data_came parts conn.turn conn.pending conn) conn).conn.pending ≡ conn.pending
+    by_agreed true = came
+    by_agreed false = refl
+
+-- so the host still waits
+still_waits : (pool : Answers) (conn : Session) (parts : InboundParts) → is_painting conn.pending ≡ true → is_painting (host_took pool conn (ToHost.Data parts)).conn.pending ≡ true
+still_waits pool conn parts paints = by_pending conn.pending refl
+  where
+    by_pending : (pending : Pending) → conn.pending ≡ pending → is_painting (host_took pool conn (ToHost.Data parts)).conn.pending ≡ true
+    by_pending (Pending.Writing number command) pends = ap is_painting (data_waits pool conn parts number command pends) ∙ paints
+    by_pending Pending.Nothing pends = absurd (let wrong : false ≡ true = sym (ap is_painting pends) ∙ paints in cc)
+    by_pending (Pending.Reading number) pends = absurd (let wrong : false ≡ true = sym (ap is_painting pends) ∙ paints in cc)
+    by_pending (Pending.Noting number command) pends = absurd (let wrong : false ≡ true = sym (ap is_painting pends) ∙ paints in cc)
+
+-- and else doesn't
+never_waits : (pool : Answers) (conn : Session) (message : ToHost) → is_painting conn.pending ≡ false → is_painting (host_took pool conn message).conn.pending ≡ false
+never_waits pool conn message unpainted = by_pending (just_talks pool conn message).pending
+  where
+    by_pending : ((host_took pool conn message).conn.pending ≡ conn.pending) ⊎ ((host_took pool conn message).conn.pending ≡ Pending.Nothing) → is_painting (host_took pool conn message).conn.pending ≡ false
+    by_pending (inl same) = ap is_painting same ∙ unpainted
+    by_pending (inr none) = ap is_painting none
 
 -- ---- what the terminal sends
 
@@ -245,158 +249,171 @@ module _ (app : Application) (model : Model) (now size : ScreenSize) (is : IsSiz
     ap (λ (s : TermStep). s.end.display.model) is,
   )
 
+  executed_sized : (end : TermEnd) (message : ToTerminal) → end.display.size ≡ size → SendsSized app model now size (executed end message).sends
+  executed_sized end (ToTerminal.Paint number wanted over) same = bound_sized (is_bound end) end _ (response_sized number)
+  executed_sized end (ToTerminal.TalksDown saying) same = took_sized end (ToTerminal.TalksDown saying) same
+  executed_sized end (ToTerminal.ReadBuffer number) same = took_sized end (ToTerminal.ReadBuffer number) same
+  executed_sized end (ToTerminal.Note number command) same = took_sized end (ToTerminal.Note number command) same
+
+operates_size : (end : TermEnd) (step : TermStep) → Operates end step → step.end.display.size ≡ end.display.size
+operates_size end step (Operates.edits keyboard cells cursor erases held on is) = ap (λ (s : TermStep). s.end.display.size) is
+operates_size end step (Operates.sends keyboard aid some is) = ap (λ (s : TermStep). s.end.display.size) is
+
 bound_model : (bound : Bool) (step : TermStep) (end : TermEnd) → step.end.display.model ≡ end.display.model → (once_bound bound step end).end.display.model ≡ end.display.model
 bound_model true step end is = is
 bound_model false step end is = refl
 
-took_model : (end : TermEnd) (message : ToTerminal) → (took end message).end.display.model ≡ end.display.model
-took_model end (ToTerminal.TalksDown saying) = refl
-took_model end (ToTerminal.Paint number wanted over) = bound_model (is_bound end) _ end refl
-took_model end (ToTerminal.ReadBuffer number) = bound_model (is_bound end) _ end refl
-took_model end (ToTerminal.Note number command) = bound_model (is_bound end) _ end refl
+executed_model : (end : TermEnd) (message : ToTerminal) → (executed end message).end.display.model ≡ end.display.model
+executed_model end (ToTerminal.TalksDown saying) = refl
+executed_model end (ToTerminal.Paint number wanted over) = bound_model (is_bound end) (paint_executed number wanted over end) end refl
+executed_model end (ToTerminal.ReadBuffer number) = bound_model (is_bound end) _ end refl
+executed_model end (ToTerminal.Note number command) = bound_model (is_bound end) _ end refl
+
+-- the size of the screen then
+size_if : (bound : Bool) (step : TermStep) (end : TermEnd) → (once_bound bound step end).end.display.size ≡ (if bound then step.end.display.size else end.display.size)
+size_if true step end = refl
+size_if false step end = refl
+
+same_size_if : (bound : Bool) (step : TermStep) (end : TermEnd) → step.end.display.size ≡ end.display.size → (once_bound bound step end).end.display.size ≡ end.display.size
+same_size_if true step end same = same
+same_size_if false step end same = refl
 
 -- ---- an end that leaves
 
 host_left_sized : (app : Application) (cause : Option Cause) (link : Link) → IsSized app link → IsSized app (host_left_if cause link)
 host_left_sized app None link z = z
-host_left_sized app (Some cause) link z = record { model = z.model; model_is = z.model_is; up = z.up }
+host_left_sized app (Some cause) link z = record { up = z.up; term = z.term; same = z.same }
 
 term_left_sized : (app : Application) (cause : Option Cause) (link : Link) → IsSized app link → IsSized app (term_left_if cause link)
 term_left_sized app None link z = z
-term_left_sized app (Some cause) link z = record { model = z.model; model_is = z.model_is; up = z.up }
+term_left_sized app (Some cause) link z = record { up = z.up; term = z.term; same = z.same }
 
--- ---- while the sizes of the ends may differ, a paint is under way, and nothing before it
+-- ---- a queue with a paint
 
-record Differs (model : Model) (wanted : Option (List ℕ)) (moment : LinkPhase) : Type 0 where
-  paints : is_painting (pending_at moment) ≡ true
-  none : up_at model wanted moment ≡ []
+no_paint_added : (down : List ToTerminal) (talk : List NegotiationMessage) → has_paint (down ++ map ToTerminal.TalksDown talk) ≡ has_paint down
+no_paint_added [] [] = refl
+no_paint_added [] (saying ∷ talk) = no_paint_added [] talk
+no_paint_added (ToTerminal.Paint number wanted over ∷ down) talk = refl
+no_paint_added (ToTerminal.TalksDown saying ∷ down) talk = no_paint_added down talk
+no_paint_added (ToTerminal.ReadBuffer number ∷ down) talk = no_paint_added down talk
+no_paint_added (ToTerminal.Note number command ∷ down) talk = no_paint_added down talk
 
-differs_at : (model : Model) (wanted : Option (List ℕ)) (moment : LinkPhase) → may_differ_at moment ≡ true → Differs model wanted moment
-differs_at model wanted (LinkPhase.Negotiating talking) is = absurd (cc)
-differs_at model wanted (LinkPhase.FirstPaint lu number command paints over) is = record { paints = refl; none = refl }
-differs_at model wanted (LinkPhase.InSession lu SessionPhase.Deciding) is = absurd (cc)
-differs_at model wanted (LinkPhase.InSession lu (SessionPhase.Reading number)) is = absurd (cc)
-differs_at model wanted (LinkPhase.InSession lu (SessionPhase.BufferReturning number parts)) is = absurd (cc)
-differs_at model wanted (LinkPhase.InSession lu (SessionPhase.DecidingNoteSent number command)) is = absurd (cc)
-differs_at model wanted (LinkPhase.InSession lu (SessionPhase.DecidingNoteAnswered number command)) is = absurd (cc)
-differs_at model wanted (LinkPhase.InSession lu (SessionPhase.Painting number command paints over)) is = record { paints = refl; none = refl }
-differs_at model wanted (LinkPhase.InSession lu (SessionPhase.AwaitingWriteResponse kind number command)) is = absurd (cc)
-differs_at model wanted (LinkPhase.InSession lu SessionPhase.OperatorTyping) is = absurd (cc)
-differs_at model wanted (LinkPhase.InSession lu (SessionPhase.Noting number command)) is = absurd (cc)
-differs_at model wanted (LinkPhase.InSession lu (SessionPhase.KeySent parts)) is = absurd (cc)
-differs_at model wanted (LinkPhase.InSession lu (SessionPhase.KeySentAfterResponse kind number command parts)) is = absurd (cc)
-differs_at model wanted (LinkPhase.InSession lu (SessionPhase.KeyCrossingNote number command parts)) is = absurd (cc)
-differs_at model wanted (LinkPhase.InSession lu (SessionPhase.KeyBeforeNoteResponse number command parts)) is = absurd (cc)
+paint_last : (down : List ToTerminal) (number : ℕ) (wanted : WantedScreen) (over : Shadow) → has_paint (down ++ ToTerminal.Paint number wanted over ∷ []) ≡ true
+paint_last [] number wanted over = refl
+paint_last (ToTerminal.Paint other paints under ∷ down) number wanted over = refl
+paint_last (ToTerminal.TalksDown saying ∷ down) number wanted over = paint_last down number wanted over
+paint_last (ToTerminal.ReadBuffer other ∷ down) number wanted over = paint_last down number wanted over
+paint_last (ToTerminal.Note other command ∷ down) number wanted over = paint_last down number wanted over
+
+read_last : (down : List ToTerminal) (number : ℕ) → has_paint (down ++ ToTerminal.ReadBuffer number ∷ []) ≡ has_paint down
+read_last [] number = refl
+read_last (ToTerminal.Paint other paints under ∷ down) number = refl
+read_last (ToTerminal.TalksDown saying ∷ down) number = read_last down number
+read_last (ToTerminal.ReadBuffer other ∷ down) number = read_last down number
+read_last (ToTerminal.Note other command ∷ down) number = read_last down number
+
+note_last : (down : List ToTerminal) (number : ℕ) (command : CommandParts) → has_paint (down ++ ToTerminal.Note number command ∷ []) ≡ has_paint down
+note_last [] number command = refl
+note_last (ToTerminal.Paint other paints under ∷ down) number command = refl
+note_last (ToTerminal.TalksDown saying ∷ down) number command = note_last down number command
+note_last (ToTerminal.ReadBuffer other ∷ down) number command = note_last down number command
+note_last (ToTerminal.Note other written ∷ down) number command = note_last down number command
 
 -- ---- moves keep it
 
-module _ (given : LowerLaws) (app : Application) (is : IsApplication app) (sizes : HasTheSizes app) (lu : List ℕ) (t : LinkWithReport) (s : Simulated app lu t) (z : IsSized app t.link) where
-  -- both screens are sizes of the model
-  same_model : s.told.term.display.model ≡ z.model
-  same_model = sym (ap (λ (d : Display). d.model) s.simulates.since.rest) ∙ z.model_is
+module _ (given : LowerLaws) (sized_so : MeetsIsOfSize) (app : Application) (is : IsApplication app) (sizes : HasTheSizes app) (lu : List ℕ) (t : LinkWithReport) (k : Known app lu t) (alive : t.link.lost ≡ false) (z : IsSized app t.link) where
+  abbrev model : Model
+  model = t.link.term.display.model
 
-  term_size : IsSizeOf app z.model t.link.term.display.size
-  term_size =
-      subst (IsSizeOf app z.model) (sym (ap (λ (d : Display). d.size) s.simulates.since.rest))
-      (subst (λ (m : Model). IsSizeOf app m s.told.term.display.size) same_model s.kept.sizes.screen)
-
-  host_size : IsSizeOf app z.model t.link.host.size
-  host_size =
-      subst (IsSizeOf app z.model) (sym (ap (λ (c : Session). c.size) s.simulates.host))
-      (subst (λ (m : Model). IsSizeOf app m s.told.host.size) same_model s.kept.sizes.host)
-
-  -- where a paint is under way, second keys alone are queued
-  only_data : s.told.up ≡ [] → IsDataOnly t.link.up
-  only_data none = data_only s.told.host.turn s.told.host.pending t.link.up (subst (λ (said : List ToHost). AddsSecondKeys s.told.host.turn s.told.host.pending said t.link.up) (alike_silent s.told.host s.told.up s.simulates.up.said none s.simulates.up.alike) s.simulates.up.up)
-
-  paints_now : Differs s.told.term.display.model s.kept.wanted s.kept.moment → is_painting t.link.host.pending ≡ true
-  paints_now differs = ap (λ (c : Session). is_painting c.pending) s.simulates.host ∙ ap is_painting s.kept.at.pending ∙ differs.paints
+  host_shape : IsSizeOf app model t.link.host.size
+  host_shape = subst (λ (m : Model). IsSizeOf app m t.link.host.size) (sym k.model) (host_size given sized_so app is sizes lu t k)
 
   -- what the terminal sends is queued behind
-  queued_sized : (lost : Bool) (sends : List ToHost) → SendsSized app z.model t.link.host.size t.link.term.display.size sends
-      → AreSized app z.model (is_painting t.link.host.pending) t.link.host.size (sent lost t.link.up sends)
+  queued_sized : (lost : Bool) (sends : List ToHost) → SendsSized app model t.link.host.size t.link.term.display.size sends
+      → AreSized app model (is_painting t.link.host.pending) t.link.host.size (sent lost t.link.up sends)
   queued_sized true sends sized = z.up
-  queued_sized false sends sized = by_moment (may_differ_at s.kept.moment) refl
+  queued_sized false sends sized = by_paint (has_paint t.link.down) refl
     where
-      by_moment : (differ : Bool) → may_differ_at s.kept.moment ≡ differ → AreSized app z.model (is_painting t.link.host.pending) t.link.host.size (t.link.up ++ sends)
-      by_moment false same =
-          let one : t.link.term.display.size ≡ t.link.host.size =
-          ap (λ (d : Display). d.size) s.simulates.since.rest ∙ s.kept.sizes.same same ∙ sym (ap (λ (c : Session). c.size) s.simulates.host) in
-          more_sized app z.model t.link.host.size (is_painting t.link.host.pending) t.link.up sends host_size z.up (subst (λ (size : ScreenSize). All (HasThatSize size) sends) one sized.all)
-      by_moment true differ =
-          let differs = differs_at s.told.term.display.model s.kept.wanted s.kept.moment differ in
-          let way = s.kept.at.goes_up in
-          let only = only_data (empty_queue s.told.lost s.told.up (subst (IsInFlight s.told.lost s.told.up) differs.none way)) in
-          let paints = paints_now differs in
-          subst (λ (painting : Bool). AreSized app z.model painting t.link.host.size (t.link.up ++ sends)) (sym paints)
-          (more_before app z.model t.link.host.size t.link.up sends only (subst (λ (painting : Bool). AreSized app z.model painting t.link.host.size t.link.up) paints z.up) sized.before)
+      by_paint : (paints : Bool) → has_paint t.link.down ≡ paints → AreSized app model (is_painting t.link.host.pending) t.link.host.size (t.link.up ++ sends)
+      by_paint false none =
+          more_sized app model t.link.host.size (is_painting t.link.host.pending) t.link.up sends host_shape z.up
+          (subst (λ (size : ScreenSize). All (HasThatSize size) sends) (z.same none) sized.all)
+      by_paint true some =
+          let painting = k.painting some in
+          subst (λ (b : Bool). AreSized app model b t.link.host.size (t.link.up ++ sends)) (sym painting.0)
+          (more_before app model t.link.host.size t.link.up sends painting.1 (subst (λ (b : Bool). AreSized app model b t.link.host.size t.link.up) painting.0 z.up) sized.before)
 
   down_sized : (down : List ToTerminal) → t.link.down ≡ down → IsSized app (moved app Move.Down t).link
   down_sized [] e = subst (λ (d : List ToTerminal). IsSized app (came_down d t).link) (sym e) z
   down_sized (message ∷ rest) e =
-      let step : TermStep = took t.link.term message in
-      let none = (subst (λ (d : List ToTerminal). NoneCloses t.link.term d) e (all_may_now given app is sizes lu t.link.down t s refl).1).0 in
-      let one = came_one app message rest t s.uncleared e (same_now given app is sizes lu t s message rest e) none in
-      subst (IsSized app) (sym one.link)
-      (term_left_sized app step.closes (record t.link { down = rest; term = step.end; up = sent t.link.lost t.link.up step.sends }) (record {
-        model = z.model;
-        model_is = took_model t.link.term message ∙ z.model_is;
-        up = queued_sized t.link.lost step.sends (took_sized app z.model t.link.host.size t.link.term.display.size term_size t.link.term message refl);
-      }))
+      let step : TermStep = executed t.link.term message in
+      let stays : Link = record t.link { down = rest; term = step.end; up = sent t.link.lost t.link.up step.sends } in
+      subst (λ (d : List ToTerminal). IsSized app (came_down d t).link) (sym e)
+      (subst (IsSized app) (sym (told_link_is (is_bound t.link.term) message t (term_stepped step rest t.link)))
+      (term_left_sized app step.closes stays (by_message message e)))
+    where
+      -- the screen then has this size
+      executed_so : (m : ToTerminal) → t.link.down ≡ m ∷ rest → IsSizeOf app model (executed t.link.term m).end.display.size → (has_paint rest ≡ false → (executed t.link.term m).end.display.size ≡ t.link.host.size)
+          → IsSized app (record t.link { down = rest; term = (executed t.link.term m).end; up = sent t.link.lost t.link.up (executed t.link.term m).sends })
+      executed_so m is_m shape same = record {
+        up = subst (λ (n : Model). AreSized app n (is_painting t.link.host.pending) t.link.host.size (sent t.link.lost t.link.up (executed t.link.term m).sends)) (sym (executed_model t.link.term m))
+            (queued_sized t.link.lost (executed t.link.term m).sends (executed_sized app model t.link.host.size t.link.term.display.size z.term t.link.term m refl));
+        term = subst (λ (n : Model). IsSizeOf app n (executed t.link.term m).end.display.size) (sym (executed_model t.link.term m)) shape;
+        same = same;
+      }
+
+      as_it_was : (m : ToTerminal) → t.link.down ≡ m ∷ rest → (executed t.link.term m).end.display.size ≡ t.link.term.display.size → has_paint (m ∷ rest) ≡ has_paint rest
+          → IsSized app (record t.link { down = rest; term = (executed t.link.term m).end; up = sent t.link.lost t.link.up (executed t.link.term m).sends })
+      as_it_was m is_m same no_paint =
+          executed_so m is_m (subst (IsSizeOf app model) (sym same) z.term) (λ none. same ∙ z.same (ap has_paint is_m ∙ no_paint ∙ none))
+
+      by_message : (m : ToTerminal) → t.link.down ≡ m ∷ rest → IsSized app (record t.link { down = rest; term = (executed t.link.term m).end; up = sent t.link.lost t.link.up (executed t.link.term m).sends })
+      by_message (ToTerminal.TalksDown saying) is_m = as_it_was (ToTerminal.TalksDown saying) is_m refl refl
+      by_message (ToTerminal.ReadBuffer number) is_m = as_it_was (ToTerminal.ReadBuffer number) is_m (same_size_if (is_bound t.link.term) _ t.link.term refl) refl
+      by_message (ToTerminal.Note number command) is_m = as_it_was (ToTerminal.Note number command) is_m (same_size_if (is_bound t.link.term) _ t.link.term refl) refl
+      by_message (ToTerminal.Paint number wanted over) is_m =
+          let now : (executed t.link.term (ToTerminal.Paint number wanted over)).end.display.size ≡ t.link.host.size =
+          size_if (is_bound t.link.term) (paint_executed number wanted over t.link.term) t.link.term
+          ∙ ap (λ (b : Bool). if b then wanted.size else t.link.term.display.size) (paint_bound given sized_so app is sizes lu t k number wanted over rest is_m)
+          ∙ paint_sized given sized_so app is sizes lu t k number wanted over rest is_m in
+          executed_so (ToTerminal.Paint number wanted over) is_m (subst (IsSizeOf app model) (sym now) host_shape) (λ none. now)
 
   operated_sized : (step : TermStep) → Operates t.link.term step → IsSized app (moved app (Move.Operate step) t).link
   operated_sized step does =
-      let operates = operates_sized app z.model t.link.host.size t.link.term.display.size term_size t.link.term step does refl in
+      let operates = operates_sized app model t.link.host.size t.link.term.display.size z.term t.link.term step does refl in
       term_left_sized app step.closes (record t.link { term = step.end; up = sent t.link.lost t.link.up step.sends }) (record {
-        model = z.model;
-        model_is = operates.1 ∙ z.model_is;
-        up = queued_sized t.link.lost step.sends operates.0;
+        up = subst (λ (n : Model). AreSized app n (is_painting t.link.host.pending) t.link.host.size (sent t.link.lost t.link.up step.sends)) (sym operates.1) (queued_sized t.link.lost step.sends operates.0);
+        term = subst (λ (n : Model). IsSizeOf app n step.end.display.size) (sym operates.1) (subst (IsSizeOf app model) (sym (operates_size t.link.term step does)) z.term);
+        same = λ none. operates_size t.link.term step does ∙ z.same none;
       })
 
   -- ---- the host
 
-  abbrev heard : HostStep → List ToHost → Link
-  heard step rest = host_left_if step.closes (record t.link { up = rest; host = step.conn; down = sent t.link.lost t.link.down step.sends })
-
-  drops_sized : (pool : Answers) (message : ToHost) (rest : List ToHost) → is_dropping s.told.host.turn s.told.host.pending ≡ true → IsSecondKey message
-      → AreSized app z.model (is_painting t.link.host.pending) t.link.host.size (message ∷ rest) → IsSized app (heard (host_took pool t.link.host message) rest)
-  drops_sized pool message rest drops second sized =
-      let host : t.link.host ≡ s.told.host = s.simulates.host in
-      let dropped : host_took pool t.link.host message ≡ dropping second.parts.aid t.link.host =
-      second_key_dropped pool t.link.host message second (ap (λ (c : Session). is_agreed c.talk.state) host ∙ agrees_now s)
-      (ap (λ (c : Session). may_have_changed c.unheard) host ∙ s.any) (ap (λ (c : Session). is_dropping c.turn c.pending) host ∙ drops) in
-      subst (λ (step : HostStep). IsSized app (heard step rest)) (sym dropped) (record {
-        model = z.model;
-        model_is = z.model_is;
-        up = dropped_sized app z.model t.link.host.size (is_painting t.link.host.pending) message rest second sized;
-      })
-
-  hears_sized : (pool : Answers) (message : ToHost) (rest others : List ToHost) → HeardAlike pool s.told.host s.told.up message others
-      → AreSized app z.model (is_painting t.link.host.pending) t.link.host.size (message ∷ rest) → IsSized app (heard (host_took pool t.link.host message) rest)
-  hears_sized pool message rest others alike sized =
-      let step : HostStep = host_took pool s.told.host message in
-      let goes = heard_goes_on given app pool s.told alike.first others alike.is s.kept (agrees_now s) in
-      let shape : step.conn.size ≡ t.link.host.size = (just_talks pool s.told.host message).size ∙ sym (ap (λ (c : Session). c.size) s.simulates.host) in
-      let pending : step.conn.pending ≡ pending_after message t.link.host.pending =
-      ap (λ (made : HostStep). made.conn.pending) (sym alike.same) ∙ goes.pending ∙ alike.pending ∙ ap (λ (c : Session). pending_after message c.pending) (sym s.simulates.host) in
-      subst (λ (host : Session). IsSized app (heard (host_took pool host message) rest)) (sym s.simulates.host)
-      (host_left_sized app step.closes (record t.link { up = rest; host = step.conn; down = sent t.link.lost t.link.down step.sends }) (record {
-        model = z.model;
-        model_is = z.model_is;
-        up = subst (λ (size : ScreenSize). AreSized app z.model (is_painting step.conn.pending) size rest) (sym shape)
-            (subst (λ (p : Pending). AreSized app z.model (is_painting p) t.link.host.size rest) (sym pending) (heard_sized app z.model t.link.host.size message t.link.host.pending rest sized));
-      }))
-
   up_sized : (pool : List Entry) (up : List ToHost) → t.link.up ≡ up → IsSized app (came_up pool up t).link
   up_sized pool [] e = z
-  up_sized pool (message ∷ rest) e = by_extra (subst (AddsSecondKeys s.told.host.turn s.told.host.pending s.simulates.up.said) e s.simulates.up.up)
+  up_sized pool (message ∷ rest) e =
+      let step : HostStep = host_took (answer_to pool) t.link.host message in
+      let just = just_talks (answer_to pool) t.link.host message in
+      host_left_sized app step.closes (record t.link { up = rest; host = step.conn; down = sent t.link.lost t.link.down step.sends }) (record {
+        up = subst (λ (size : ScreenSize). AreSized app model (is_painting step.conn.pending) size rest) (sym just.size)
+            (heard message (subst (AreSized app model (is_painting t.link.host.pending) t.link.host.size) e z.up) (subst (AllByRecursion IsNoTalk) e k.no_talk).0);
+        term = z.term;
+        same = λ none. z.same (sym (sends_no_paint t.link.lost step.sends just.talk just.says) ∙ none) ∙ sym just.size;
+      })
     where
-      sized : AreSized app z.model (is_painting t.link.host.pending) t.link.host.size (message ∷ rest)
-      sized = subst (AreSized app z.model (is_painting t.link.host.pending) t.link.host.size) e z.up
+      sends_no_paint : (lost : Bool) (sends : List ToTerminal) (talk : List NegotiationMessage) → sends ≡ map ToTerminal.TalksDown talk → has_paint (sent lost t.link.down sends) ≡ has_paint t.link.down
+      sends_no_paint true sends talk says = refl
+      sends_no_paint false sends talk says = ap (λ (s : List ToTerminal). has_paint (t.link.down ++ s)) says ∙ no_paint_added t.link.down talk
 
-      by_extra : AddsSecondKeys s.told.host.turn s.told.host.pending s.simulates.up.said (message ∷ rest) → IsSized app (came_up pool (message ∷ rest) t).link
-      by_extra (inl x) = drops_sized (answer_to pool) message rest x.0 x.1 sized
-      by_extra (inr x) = hears_sized (answer_to pool) message rest x.0 (heard_alike (answer_to pool) s.told.host s.told.up s.simulates.up.said message x.0 (agrees_now s) x.1 s.simulates.up.alike) sized
+      heard : (m : ToHost) → AreSized app model (is_painting t.link.host.pending) t.link.host.size (m ∷ rest) → IsNoTalk m → AreSized app model (is_painting (host_took (answer_to pool) t.link.host m).conn.pending) t.link.host.size rest
+      heard (ToHost.TalksUp saying) sized none = absurd none
+      heard (ToHost.Response number verdict) sized none = either_painting app model t.link.host.size host_shape _ rest sized
+      heard (ToHost.Data parts) sized none = by_painting (is_painting t.link.host.pending) refl sized.1
+        where
+          by_painting : (painting : Bool) → is_painting t.link.host.pending ≡ painting → AreSized app model painting t.link.host.size rest
+              → AreSized app model (is_painting (host_took (answer_to pool) t.link.host (ToHost.Data parts)).conn.pending) t.link.host.size rest
+          by_painting true paints others = subst (λ (b : Bool). AreSized app model b t.link.host.size rest) (sym (still_waits (answer_to pool) t.link.host parts paints)) others
+          by_painting false unpainted others = subst (λ (b : Bool). AreSized app model b t.link.host.size rest) (sym (never_waits (answer_to pool) t.link.host (ToHost.Data parts) unpainted)) others
 
   abbrev sends_so : Option Sent → Type 0
   sends_so what = IsSized app (host_sent what t.link)
@@ -405,21 +422,24 @@ module _ (given : LowerLaws) (app : Application) (is : IsApplication app) (sizes
   may_act_now = may_act t.link.host.turn t.link.host.pending (is_agreed t.link.host.talk.state)
 
   -- in its turn nothing is pending
-  unpainted : t.link.host.pending ≡ Pending.Nothing → AreSized app z.model false t.link.host.size t.link.up
-  unpainted pends = subst (λ (p : Pending). AreSized app z.model (is_painting p) t.link.host.size t.link.up) pends z.up
+  unpainted : t.link.host.pending ≡ Pending.Nothing → AreSized app model false t.link.host.size t.link.up
+  unpainted pends = subst (λ (p : Pending). AreSized app model (is_painting p) t.link.host.size t.link.up) pends z.up
+
+  -- what is sent goes down, since the connection isn't lost
+  sent_down : (message : ToTerminal) → has_paint (t.link.down ++ message ∷ []) ≡ has_paint (sent t.link.lost t.link.down (message ∷ []))
+  sent_down message = ap (λ (lost : Bool). has_paint (sent lost t.link.down (message ∷ []))) (sym alive)
 
   act_sized : (act : Act) → may_act_now ≡ true → sends_so (Some (done app t.link.host act))
   act_sized act may = by_act act (may_act_when t.link.host.turn t.link.host.pending (is_agreed t.link.host.talk.state) may)
     where
       by_act : (act : Act) → (t.link.host.turn ≡ whose.Host) × (t.link.host.pending ≡ Pending.Nothing) × (is_agreed t.link.host.talk.state ≡ true) → sends_so (Some (done app t.link.host act))
-      by_act Act.Read when = record { model = z.model; model_is = z.model_is; up = unpainted when.1 }
+      by_act Act.Read when = record { up = unpainted when.1; term = z.term; same = λ none. z.same (sym (read_last t.link.down t.link.host.next_seq) ∙ sent_down (ToTerminal.ReadBuffer t.link.host.next_seq) ∙ none) }
       by_act (Act.Show panel message keep values) when =
-          let host = sym s.simulates.host in
-          let none = nothing_up app s.told s.kept (agrees_now s) (ap (λ (c : Session). c.turn) host ∙ when.0) (ap (λ (c : Session). c.pending) host ∙ when.1) in
+          let sending : Sent = done app t.link.host (Act.Show panel message keep values) in
           record {
-            model = z.model;
-            model_is = z.model_is;
-            up = once_painting app z.model t.link.host.size (done app t.link.host (Act.Show panel message keep values)).conn.size t.link.up (only_data none) host_size (unpainted when.1);
+            up = once_painting app model t.link.host.size sending.conn.size t.link.up (k.silent when.0 when.1) host_shape (unpainted when.1);
+            term = z.term;
+            same = λ none. absurd (let wrong : true ≡ false = sym (paint_last t.link.down _ _ _) ∙ sent_down sending.message ∙ none in cc);
           }
 
   acts_sized : sends_so (acted app t.link.host)
@@ -447,17 +467,17 @@ module _ (given : LowerLaws) (app : Application) (is : IsApplication app) (sizes
       by_may : (may : Bool) → may_note t.link.host.turn t.link.host.pending (is_agreed t.link.host.talk.state) ≡ may → sends_so (if may then Some (noted_as text t.link.host) else None)
       by_may true may =
           let when = may_note_when t.link.host.turn t.link.host.pending (is_agreed t.link.host.talk.state) may in
-          record { model = z.model; model_is = z.model_is; up = unpainted when.1 }
+          record { up = unpainted when.1; term = z.term; same = λ none. z.same (sym (note_last t.link.down _ _) ∙ sent_down (noted_as text t.link.host).message ∙ none) }
       by_may false may = z
 
-  move_sized : (move : Move) → IsWithoutClear move t → IsSized app (moved app move t).link
+  pub move_sized : (move : Move) → IsByTheRules move t → IsSized app (moved app move t).link
   move_sized (Move.Up pool) rules = up_sized pool t.link.up refl
   move_sized Move.Down rules = down_sized t.link.down refl
   move_sized Move.Act rules = acts_sized
   move_sized (Move.Answer said) rules = answers_sized said
   move_sized (Move.Note text) rules = notes_sized text
   move_sized (Move.Operate step) rules = operated_sized step rules.0
-  move_sized Move.Lose rules = record { model = z.model; model_is = z.model_is; up = z.up }
+  move_sized Move.Lose rules = record { up = z.up; term = z.term; same = z.same }
 
 -- ---- the largest size
 
@@ -486,45 +506,33 @@ knows_the_model app link k agrees = by_moment k.moment k.at
     by_moment (LinkPhase.FirstPaint lu number command wanted over) at = model_here link lu at.host_talk
     by_moment (LinkPhase.InSession lu serving) at = model_here link lu at.host_talk
 
--- ---- what is asked of second keys
+-- ---- what comes next
 
--- Some property of what comes up holds at agreement, and all typed moves that keep the rules keep it; and by it a key's data that comes while a read
--- is pending has no characters before the first address.
-pub record KeepsAddressFirst (app : Application) (lu : List ℕ) (Queued : LinkWithReport → Type 0) : Type 0 where
-  pub begins : (t : LinkWithReport) → FirstPaint app lu t → t.link.lost ≡ false → Queued t
-  pub goes_on : (move : Move) (t : LinkWithReport) → Simulated app lu t → HasSendableContent t → Queued t → IsWithoutClear move t → IsWellFormedMove move → Queued (moved app move t)
-  pub no_lead : (t : LinkWithReport) → Simulated app lu t → Queued t → (parts : InboundParts) (others : List ToHost) → t.link.up ≡ ToHost.Data parts ∷ others → parts.form ≡ Modified
-      → form_awaited t.link.host.pending ≡ Buffer → HasNoLeadingText parts.parts
-
-module _ (given : LowerLaws) (app : Application) (is : IsApplication app) (sizes : HasTheSizes app) (lu : List ℕ) (Queued : LinkWithReport → Type 0) (leads : KeepsAddressFirst app lu Queued) where
-  pub record IsQueued (t : LinkWithReport) : Type 0 where
-    pub sized : IsSized app t.link
-    pub queued : Queued t
-
-  -- a second key's data
-  second_comes : (t : LinkWithReport) (s : Simulated app lu t) (q : IsQueued t) (parts : InboundParts) (others : List ToHost) → t.link.up ≡ ToHost.Data parts ∷ others → parts.form ≡ Modified
+module _ (app : Application) (sizes : HasTheSizes app) (lu : List ℕ) (t : LinkWithReport) (k : Known app lu t) (z : IsSized app t.link) where
+  -- a key's data
+  key_comes : (parts : InboundParts) (others : List ToHost) → t.link.up ≡ ToHost.Data parts ∷ others → parts.form ≡ Modified → (form_awaited t.link.host.pending ≡ Buffer → count_leading parts.parts < cells_in t.link.host.size)
       → (pending : Pending) → t.link.host.pending ≡ pending → IsAwaitedBy t.link.host parts ⊎ IsSecondKeyIn t.link.host parts
-  second_comes t s q parts others e form pending pends = by_pending pending pends
+  key_comes parts others e form few pending pends = by_pending pending pends
     where
-      model : Model
-      model = q.sized.model
+      its_model : Model
+      its_model = t.link.term.display.model
 
-      size : (painting : Bool) → is_painting t.link.host.pending ≡ painting → IsSizedIf app model painting t.link.host.size parts.size
+      size : (painting : Bool) → is_painting t.link.host.pending ≡ painting → IsSizedIf app its_model painting t.link.host.size parts.size
       size painting is_it =
-          (subst (λ (b : Bool). AreSized app model b t.link.host.size (ToHost.Data parts ∷ others)) is_it
-          (subst (AreSized app model (is_painting t.link.host.pending) t.link.host.size) e q.sized.up)).0
+          (subst (λ (b : Bool). AreSized app its_model b t.link.host.size (ToHost.Data parts ∷ others)) is_it
+          (subst (AreSized app its_model (is_painting t.link.host.pending) t.link.host.size) e z.up)).0
 
-      knows : model_in t.link.host ≡ model
-      knows = ap model_in s.simulates.host ∙ knows_the_model app s.told s.kept (agrees_now s) ∙ same_model given app is sizes lu t s q.sized
+      knows : model_in t.link.host ≡ its_model
+      knows =
+          ap (λ talk. model_in (record t.link.host { talk = talk })) k.talk
+          ∙ knows_the_model app k.told k.kept (has_agreed lu k.told.host.talk.state k.agreed) ∙ sym k.model
 
       second : is_paint_or_read t.link.host.pending ≡ true → cells_in parts.size ≤ cells_in (second_key_size t.link.host t.link.host.pending) → IsSecondKeyIn t.link.host parts
       second some fits = record {
-        may_be = ap (λ (b : Bool). may_have_changed t.link.host.unheard && b) some
-            ∙ ap (λ (b : Bool). b && true) (ap (λ (c : Session). may_have_changed c.unheard) s.simulates.host ∙ s.any);
+        may_be = ap (λ (b : Bool). may_have_changed t.link.host.unheard && b) some ∙ ap (λ (b : Bool). b && true) k.any;
         form = form;
         size = fits;
-        some = some_cells t.link.host.size (shape_of_model app model t.link.host.size is (host_size given app is sizes lu t s q.sized));
-        no_lead = leads.no_lead t s q.queued parts others e form;
+        few = few;
       }
 
       by_pending : (pending : Pending) → t.link.host.pending ≡ pending → IsAwaitedBy t.link.host parts ⊎ IsSecondKeyIn t.link.host parts
@@ -534,55 +542,33 @@ module _ (given : LowerLaws) (app : Application) (is : IsApplication app) (sizes
           let same : second_key_size t.link.host t.link.host.pending ≡ parts.size = ap (second_key_size t.link.host) pends ∙ sym (size false (ap is_painting pends)) in
           inr (second (ap is_paint_or_read pends) (subst (λ (large : ScreenSize). cells_in parts.size ≤ cells_in large) (sym same) (no_more (cells_in parts.size))))
       by_pending (Pending.Writing number command) pends =
-          let large : second_key_size t.link.host t.link.host.pending ≡ alternate_of model = ap (second_key_size t.link.host) pends ∙ ap alternate_of knows in
+          let large : second_key_size t.link.host t.link.host.pending ≡ alternate_of its_model = ap (second_key_size t.link.host) pends ∙ ap alternate_of knows in
           inr (second (ap is_paint_or_read pends)
-          (subst (λ (shape : ScreenSize). cells_in parts.size ≤ cells_in shape) (sym large) (at_most_alternate app sizes model parts.size (size true (ap is_painting pends)))))
+          (subst (λ (shape : ScreenSize). cells_in parts.size ≤ cells_in shape) (sym large) (at_most_alternate app sizes its_model parts.size (size true (ap is_painting pends)))))
 
-  comes_next : (t : LinkWithReport) (s : Simulated app lu t) (q : IsQueued t) (message : ToHost) (others : List ToHost) → t.link.up ≡ message ∷ others
-      → AddsSecondKeys s.told.host.turn s.told.host.pending s.simulates.up.said (message ∷ others) → MayBeSent t.link.host message
-  comes_next t s q (ToHost.TalksUp saying) others e (inl x) = absurd (let clash = x.1.is in cc)
-  comes_next t s q (ToHost.TalksUp saying) others e (inr x) = absurd (no_talk app lu t s saying x.0 (alike_talk s.told.host s.told.up s.simulates.up.said saying x.0 x.1 s.simulates.up.alike))
-  comes_next t s q (ToHost.Response number verdict) others e x = tt
-  comes_next t s q (ToHost.Data parts) others e (inl x) =
-      let same : x.1.parts ≡ parts = data_is x.1.parts parts x.1.is in
-      second_comes t s q parts others e (ap (λ (p : InboundParts). p.form) (sym same) ∙ x.1.form) t.link.host.pending refl
+  pub comes_next : (message : ToHost) (others : List ToHost) → t.link.up ≡ message ∷ others
+      → ((parts : InboundParts) → message ≡ ToHost.Data parts → parts.form ≡ Modified → form_awaited t.link.host.pending ≡ Buffer → count_leading parts.parts < cells_in t.link.host.size) → MayBeSent t.link.host message
+  comes_next (ToHost.TalksUp saying) others e few = absurd (subst (AllByRecursion IsNoTalk) e k.no_talk).0
+  comes_next (ToHost.Response number verdict) others e few = tt
+  comes_next (ToHost.Data parts) others e few = by_form (k.comes parts others e)
     where
-      data_is : (one other : InboundParts) → ToHost.Data other ≡ ToHost.Data one → one ≡ other
-      data_is one other e = cc
-  comes_next t s q (ToHost.Data parts) others e (inr x) =
-      inl (subst (λ (c : Session). IsAwaitedBy c parts) (sym s.simulates.host) (by_alike s.simulates.up.alike))
-    where
-      data_is : (one other : InboundParts) (rest more : List ToHost) → ToHost.Data one ∷ rest ≡ ToHost.Data other ∷ more → one ≡ other
-      data_is one other rest more same = cc
+      by_form : (parts.form ≡ Modified) ⊎ IsAwaitedBy t.link.host parts → MayBeSent t.link.host (ToHost.Data parts)
+      by_form (inl form) = key_comes parts others e form (few parts refl form) t.link.host.pending refl
+      by_form (inr awaited) = inl awaited
 
-      by_alike : SaysAlike s.told.host s.told.up s.simulates.up.said → IsAwaitedBy s.told.host parts
-      by_alike (SaysAlike.same is_same) = awaited app (view_of s.told) parts x.0 s.kept (sym is_same ∙ x.1)
-      by_alike (SaysAlike.checked number one other more pends skips one_kept other_kept is_told is_said) =
-          subst (IsAwaitedBy s.told.host) (data_is (buffer_data s.told.host.size other) parts more x.0 (sym is_said ∙ x.1)) (record { form = sym (ap form_awaited pends); size = refl })
+-- the data that comes while a read is pending has the host's size
+pub read_size : (app : Application) (link : Link) → IsSized app link → (parts : InboundParts) (others : List ToHost) → link.up ≡ ToHost.Data parts ∷ others → form_awaited link.host.pending ≡ Buffer → parts.size ≡ link.host.size
+read_size app link z parts others e reads = by_pending link.host.pending refl
+  where
+    model : Model
+    model = link.term.display.model
 
-  pub queue_is_kept : QueueIsKept app lu IsQueued
-  queue_is_kept = record {
-    begins = λ t b alive. record {
-      sized = record {
-        model = t.link.term.display.model;
-        model_is = refl;
-        up = subst (AreSized app t.link.term.display.model (is_painting t.link.host.pending) t.link.host.size) (sym b.nothing_up) tt;
-      };
-      queued = leads.begins t b alive;
-    };
-    goes_on = λ move t s x q rules typed. record {
-      sized = move_sized given app is sizes lu t s q.sized move rules;
-      queued = leads.goes_on move t s x q.queued rules typed;
-    };
-    comes_up = λ t s x q message others e.
-        comes_next t s q message others e (subst (λ (up : List ToHost). AddsSecondKeys s.told.host.turn s.told.host.pending s.simulates.up.said up) e s.simulates.up.up);
-  }
+    unpainted : is_painting link.host.pending ≡ false → parts.size ≡ link.host.size
+    unpainted none =
+        (subst (λ (b : Bool). AreSized app model b link.host.size (ToHost.Data parts ∷ others)) none (subst (AreSized app model (is_painting link.host.pending) link.host.size) e z.up)).0
 
--- The theorem, if the leads are kept.
-pub address_first_suffices : AnyLaws → (Leads : Application → List ℕ → LinkWithReport → Type 0) → ((app : Application) (lu : List ℕ) → IsApplication app → HasTheSizes app → KeepsAddressFirst app lu (Leads app lu)) → EveryTerminalOverBytes
-address_first_suffices laws Leads leads number lu old new states sound begins lead =
-    let app : Application = application_of old.host.panels in
-    let is = laws.known.worlds.application old.host.panels sound.otherwise sound.laid_out sound.apart in
-    let asks = laws.known.worlds.screens old.host.panels sound.laid_out sound.characters in
-    let sizes = the_sizes old.host.panels in
-    over_bytes laws app is asks sizes lu (IsQueued laws.given app is sizes lu (Leads app lu) (leads app lu is sizes)) (queue_is_kept laws.given app is sizes lu (Leads app lu) (leads app lu is sizes)) number states old new begins lead
+    by_pending : (pending : Pending) → link.host.pending ≡ pending → parts.size ≡ link.host.size
+    by_pending Pending.Nothing is = unpainted (ap is_painting is)
+    by_pending (Pending.Reading number) is = unpainted (ap is_painting is)
+    by_pending (Pending.Noting number command) is = unpainted (ap is_painting is)
+    by_pending (Pending.Writing number command) is = absurd (let wrong : Modified ≡ Buffer = sym (ap form_awaited is) ∙ reads in cc)

@@ -1,7 +1,13 @@
 -- A terminal that keeps the rules takes bytes and is operated: the bytes on its connection then represent that over messages after moves that
 -- keep the rules.
-use Rattle.std.proofs.Common.{◌≡◌, ◌≢◌, ◌||◌, ℕ, Bool, true, false, Option, None, Some, List, [], ◌∷◌, ◌++◌, append-nil, refl, ap, sym, subst, ◌∙◌, if◌then◌else◌}
+use Rattle.std.proofs.Common.{◌≡◌, ◌||◌, ◌&&◌, not, ℕ, Bool, true, false, Option, None, Some, List, [], ◌∷◌, ◌++◌, append-nil, refl, ap, sym, subst, ◌∙◌, if◌then◌else◌}
+use Rattle.codes3270.specs.Size.{cells_in}
+use Rattle.codes3270.specs.declared.attention.Aid.{Aid}
 use Rattle.codes3270.specs.declared.attention.Aid.TheVariants.{Clear}
+use Rattle.datastream.specs.NoteLaws.{NoteKeepsBounds}
+use Rattle.datastream.specs.declared.command_code.CommandCode.TheVariants.{EraseWrite, EraseWriteAlternate}
+use Rattle.shadow.specs.Exactness.{is_erase}
+use Rattle.shadow.specs.Paint.{paint}
 use Rattle.datastream.specs.Screen.{Screen}
 use Rattle.lu_pool.specs.Asking.{answer_to}
 use Rattle.lu_pool.specs.HolderLaws.{IsSound as IsSoundPool}
@@ -27,73 +33,77 @@ use Rattle.host_core.specs.State.{connection_at}
 use Rattle.host_core.specs.Takes.{took as host_took}
 use Rattle.host_core.specs.declared.question.Answer.{Answer as ApplicationAnswer}
 use Rattle.keyboard.specs.State.{Keyboard}
-use Rattle.world3270.specs.statement.EveryTerminal.{Move, LinkWithReport, after_moves, came_down, executed, is_shown, key_pressed, moved, operated, told_if}
-use Rattle.world3270.specs.statement.EveryTerminalBytes.{IsDown, IsOperated, OverBytes, Represents, Takes, display_of, displaying, end_of, link_over}
+use Rattle.world3270.specs.statement.EveryTerminal.{AreByTheRules, HasAnswered, IsByTheRules, Move, LinkWithReport, after_moves, came_down, executed, is_pa, is_shown, key_pressed, moved, operated, paint_executed, sends_clear, told_if}
+use Rattle.world3270.specs.statement.EveryTerminalBytes.{IsDown, IsOperated, OverBytes, Pressed, Represents, Takes, WasPressed, display_of, displaying, end_of, ended_if, ends_wait, has_code, item_completed, link_over, pressed_by, sends_full}
 use Rattle.world3270.specs.model.Link.{Link, sent, term_left_if, term_stepped}
 use Rattle.world3270.specs.model.Enabled.{is_queued}
 use Rattle.world3270.specs.refinement.Readings.{AreReadAs, IsReadAs, MayBeSent}
 use Rattle.world3270.specs.statement.Rules.{Operates}
 use Rattle.world3270.specs.refinement.Sendable.{CanBeSent}
 use Rattle.world3270.specs.refinement.Representation.{with_out}
-use Rattle.world3270.specs.refinement.Represents.{BytesDownBy, BytesRepresent, Holds, LinkRepresentsBy, RepresentsDown, RepresentsUp, without, without_nops}
+use Rattle.world3270.specs.refinement.Represents.{BytesDownBy, BytesRepresent, Holds, LinkRepresentsBy, RepresentsDown, RepresentsUp, TermRepresentsBy, without, without_nops}
 use Rattle.world3270.specs.refinement.Ignored.{is_ignored_by_terminal, without_ignored}
 use Rattle.world3270.specs.refinement.RepresentsEnds.{NopHasNoEffect, TakesKeepSendable, TermTakes, WritesAreMarked, is_painted}
-use Rattle.world3270.specs.refinement.RepresentsLinks.{MayComeAll, NoneCloses, RepresentsGoOn, RepresentsJoin, any_painted, took_down}
-use Rattle.world3270.specs.model.Terminal.{Display, TermEnd, TermStep, is_bound, once_bound, took}
+use Rattle.world3270.specs.refinement.RepresentsLinks.{RepresentsGoOn, RepresentsJoin}
+use Rattle.world3270.specs.model.Terminal.{Display, TermEnd, TermStep, is_bound, once_bound}
 use Rattle.world3270.specs.model.TrackedTerminals.{TrackedTerminal}
 use Rattle.world3270.proofs.HostItems.{stands_read}
 use Rattle.world3270.proofs.ItemsSpelt.{IsEncodable}
 use Rattle.world3270.proofs.AnyIgnored.{IsNoRefusal, IsNoTalk, all_back, all_heard, ignored_have_no_effect}
 use Rattle.world3270.proofs.Represents.{written_stand}
-use Rattle.world3270.proofs.RepresentsLinks.{Ran, byte_came, ran_stands}
-use Rattle.world3270.proofs.WithoutClear.{AreWithoutClear, IsWithoutClear}
+use Rattle.world3270.proofs.RepresentsLinks.{MayTakeNext, OneCame, Ran, any_byte_came, ran_stands}
+use Rattle.world3270.proofs.Executing.{AnyTermTakes, ExecutedStaysSendable, MayTake}
+use Rattle.world3270.proofs.AnyBeside.{IsSaidDown}
+use Rattle.world3270.proofs.ItemCodes.{paint_erases}
 
 -- ---- what is known of a connection over messages after moves that keep the rules
 
--- What comes down may come and closes nothing, and a terminal that executes it makes of it what one in a world does; what comes up may come, and
--- closes nothing; and what the host sends is encoded.
+-- What comes down next may be taken, and closes nothing; what comes up next may come, and closes nothing; and what the host sends is encoded.
 pub record Ready (app : Application) (t : LinkWithReport) : Type 0 where
-  pub may : MayComeAll t.link.term t.link.down
-  pub none : NoneCloses t.link.term t.link.down
-  pub same : (message : ToTerminal) (others : List ToTerminal) → t.link.down ≡ message ∷ others → executed t.link.term message ≡ took t.link.term message
+  pub next : MayTakeNext t.link
+  pub said : AllByRecursion IsSaidDown t.link.down
   pub comes_up : (message : ToHost) (others : List ToHost) → t.link.up ≡ message ∷ others → MayBeSent t.link.host message
   pub agreed : is_agreed t.link.host.talk.state ≡ true
   pub no_talk : AllByRecursion IsNoTalk t.link.up
   pub no_refusal : AllByRecursion IsNoRefusal t.link.down
-  pub uncleared : t.cleared ≡ false
   pub hears : (pool : List Entry) → IsSoundPool pool → (message : ToHost) (others : List ToHost) → t.link.up ≡ message ∷ others
       → (host_took (answer_to pool) t.link.host message).closes ≡ None
   pub acts : IfSome (acted app t.link.host) (λ sending. IsEncodable sending.message)
   pub answers : (said : ApplicationAnswer) → AreTexts said.values → IfSome (answered_on app t.link.host said) (λ sending. IsEncodable sending.message)
   pub notes : (text : List ℕ) → IsNoteText text → IfSome (noted text t.link.host) (λ sending. IsEncodable sending.message)
 
--- Over bytes there are characters alone: the operator leaves no others, and values are texts. On a lost connection nothing more comes.
-abbrev pub IsWellFormedMove : Move → Type 0
-IsWellFormedMove (Move.Operate step) = CanBeSent step.end.display.size step.end.display.screen
-IsWellFormedMove (Move.Answer said) = AreTexts said.values
-IsWellFormedMove (Move.Up pool) = ⊤
-IsWellFormedMove Move.Down = ⊤
-IsWellFormedMove Move.Act = ⊤
-IsWellFormedMove (Move.Note text) = ⊤
-IsWellFormedMove Move.Lose = ⊥
+-- Over bytes there are characters alone: the operator leaves no others, and values are texts. After Clear in the wait no whole screen of them is
+-- sent. On a lost connection nothing more comes.
+pub record IsWellFormedStep (step : TermStep) (cleared : Bool) : Type 0 where
+  pub stored : CanBeSent step.end.display.size step.end.display.screen
+  pub not_full : cleared ≡ true → sends_full step ≡ false
+
+abbrev pub IsWellFormedMove : Move → LinkWithReport → Type 0
+IsWellFormedMove (Move.Operate step) t = IsWellFormedStep step t.cleared
+IsWellFormedMove (Move.Answer said) t = AreTexts said.values
+IsWellFormedMove (Move.Up pool) t = ⊤
+IsWellFormedMove Move.Down t = ⊤
+IsWellFormedMove Move.Act t = ⊤
+IsWellFormedMove (Move.Note text) t = ⊤
+IsWellFormedMove Move.Lose t = ⊥
 
 -- some property has this in it, and all such moves that keep the rules keep it
 pub record IsKept (app : Application) (Good : LinkWithReport → Type 0) : Type 0 where
   pub ready : (t : LinkWithReport) → Good t → Ready app t
-  pub goes_on : (move : Move) (t : LinkWithReport) → Good t → IsWithoutClear move t → IsWellFormedMove move → Good (moved app move t)
+  pub goes_on : (move : Move) (t : LinkWithReport) → Good t → IsByTheRules move t → IsWellFormedMove move t → Good (moved app move t)
 
 -- ---- what a move over bytes is over messages
 
 pub record Goes (app : Application) (Good : LinkWithReport → Type 0) (number : ℕ) (bytes : OverBytes) (t : LinkWithReport) : Type 0 where
   pub moves : List Move
-  pub by_the_rules : AreWithoutClear app moves t
+  pub by_the_rules : AreByTheRules app moves t
   pub represents : Represents number bytes (after_moves app moves t)
   pub good : Good (after_moves app moves t)
 
 abbrev pub stays : (app : Application) (Good : LinkWithReport → Type 0) (number : ℕ) (bytes : OverBytes) (t : LinkWithReport) → Good t → Represents number bytes t → Goes app Good number bytes t
 stays app Good number bytes t good represents = record { moves = []; by_the_rules = tt; represents = represents; good = good }
 
-abbrev pub moves_once : (app : Application) (Good : LinkWithReport → Type 0) → IsKept app Good → (number : ℕ) (bytes : OverBytes) (t : LinkWithReport) (move : Move) → Good t → IsWithoutClear move t → IsWellFormedMove move
+abbrev pub moves_once : (app : Application) (Good : LinkWithReport → Type 0) → IsKept app Good → (number : ℕ) (bytes : OverBytes) (t : LinkWithReport) (move : Move) → Good t → IsByTheRules move t → IsWellFormedMove move t
     → Represents number bytes (moved app move t) → Goes app Good number bytes t
 moves_once app Good kept number bytes t move good is typed represents = record { moves = move ∷ []; by_the_rules = (is, tt); represents = represents; good = kept.goes_on move t good is typed }
 
@@ -101,7 +111,7 @@ pub more_moves : (app : Application) (one others : List Move) (t : LinkWithRepor
 more_moves app [] others t = refl
 more_moves app (move ∷ one) others t = more_moves app one others (moved app move t)
 
-pub more_rules : (app : Application) (one others : List Move) (t : LinkWithReport) → AreWithoutClear app one t → AreWithoutClear app others (after_moves app one t) → AreWithoutClear app (one ++ others) t
+pub more_rules : (app : Application) (one others : List Move) (t : LinkWithReport) → AreByTheRules app one t → AreByTheRules app others (after_moves app one t) → AreByTheRules app (one ++ others) t
 more_rules app [] others t are behind = behind
 more_rules app (move ∷ one) others t are behind = (are.0, more_rules app one others (moved app move t) are.1 behind)
 
@@ -148,111 +158,111 @@ ours_read written link now old new behind silent ran none =
     (subst (λ (items : List WireItem). Pairwise IsReadAs items ran.sends) (sym (all_heard ran.says ran.sends none ran.said))
     (pairs_become RepresentsUp IsReadAs stands_read ran.says ran.sends ran.said)))
 
--- ---- messages come down
+-- ---- the terminal takes a byte
 
--- a terminal that takes a message keeps its name, whatever else it does
-left_term : (cause : Option Cause) (link : Link) → (term_left_if cause link).term ≡ link.term
-left_term None link = refl
-left_term (Some cause) link = refl
-
-told_link_is : (bound : Bool) (message : ToTerminal) (t : LinkWithReport) (link : Link) → (told_if bound message t link).link ≡ link
+pub told_link_is : (bound : Bool) (message : ToTerminal) (t : LinkWithReport) (link : Link) → (told_if bound message t link).link ≡ link
 told_link_is true message t link = refl
 told_link_is false message t link = refl
-
--- whether a 3278 would wait then
-waits_then : (message : ToTerminal) (t : LinkWithReport) (link : Link) → t.cleared ≡ false → (told_if (is_bound t.link.term) message t link).waits ≡ (if is_painted t.link.term message then false else t.waits)
-waits_then message t link never = by_message (is_bound t.link.term) message refl
-  where
-    by_message : (bound : Bool) (message : ToTerminal) → is_bound t.link.term ≡ bound → (told_if bound message t link).waits ≡ (if is_painted t.link.term message then false else t.waits)
-    by_message true (ToTerminal.Paint number wanted over) e = ap (λ (c : Bool). if is_shown c wanted over then false else t.waits) never ∙ ap (λ (b : Bool). if b then false else t.waits) (sym e)
-    by_message false (ToTerminal.Paint number wanted over) e = ap (λ (b : Bool). if b then false else t.waits) (sym e)
-    by_message true (ToTerminal.TalksDown saying) e = refl
-    by_message false (ToTerminal.TalksDown saying) e = refl
-    by_message true (ToTerminal.ReadBuffer number) e = refl
-    by_message false (ToTerminal.ReadBuffer number) e = refl
-    by_message true (ToTerminal.Note number command) e = refl
-    by_message false (ToTerminal.Note number command) e = refl
-
--- it doesn't wait once any of these was painted
-either_paints : (one others waits : Bool) → (if others then false else (if one then false else waits)) ≡ (if one || others then false else waits)
-either_paints true true waits = refl
-either_paints true false waits = refl
-either_paints false true waits = refl
-either_paints false false waits = refl
-
--- one message came down, which a terminal that executes it takes as one in a world does, and closes nothing
-pub record CameOne (app : Application) (message : ToTerminal) (others : List ToTerminal) (t : LinkWithReport) : Type 0 where
-  pub link : (moved app Move.Down t).link ≡ term_stepped (took t.link.term message) others t.link
-  pub term : (moved app Move.Down t).link.term ≡ (took t.link.term message).end
-  pub down : (moved app Move.Down t).link.down ≡ others
-  pub waits : (moved app Move.Down t).waits ≡ (if is_painted t.link.term message then false else t.waits)
-
-pub came_one : (app : Application) (message : ToTerminal) (others : List ToTerminal) (t : LinkWithReport) → t.cleared ≡ false → t.link.down ≡ message ∷ others → executed t.link.term message ≡ took t.link.term message
-    → (took t.link.term message).closes ≡ None → CameOne app message others t
-came_one app message others t never down same closes =
-    let step : TermStep = took t.link.term message in
-    let stays : Link = record t.link { down = others; term = step.end; up = sent t.link.lost t.link.up step.sends } in
-    let next : Link = term_stepped step others t.link in
-    let went : moved app Move.Down t ≡ told_if (is_bound t.link.term) message t next =
-    ap (λ (d : List ToTerminal). came_down d t) down ∙ ap (λ (s : TermStep). told_if (is_bound t.link.term) message t (term_stepped s others t.link)) same in
-    let link : (moved app Move.Down t).link ≡ next = ap (λ (u : LinkWithReport). u.link) went ∙ told_link_is (is_bound t.link.term) message t next in
-    record {
-      link = link;
-      term = ap (λ (l : Link). l.term) link ∙ left_term step.closes stays;
-      down = ap (λ (l : Link). l.down) link ∙ ap (λ (c : Option Cause). (term_left_if c stays).down) closes;
-      waits = ap (λ (u : LinkWithReport). u.waits) went ∙ waits_then message t next never;
-    }
-
-record CameDown (app : Application) (Good : LinkWithReport → Type 0) (taken others : List ToTerminal) (t : LinkWithReport) : Type 0 where
-  moves : List Move
-  downs : All IsDown moves
-  by_the_rules : AreWithoutClear app moves t
-  link_is : (after_moves app moves t).link ≡ took_down taken others t.link
-  waits_is : (after_moves app moves t).waits ≡ (if any_painted t.link.term taken then false else t.waits)
-  good : Good (after_moves app moves t)
-
-module _ (app : Application) (Good : LinkWithReport → Type 0) (kept : IsKept app Good) where
-  -- messages come down, one by one
-  all_came : (taken others : List ToTerminal) (t : LinkWithReport) → Good t → t.link.down ≡ taken ++ others → CameDown app Good taken others t
-  all_came [] others t good down = record { moves = []; downs = All-nil IsDown; by_the_rules = tt; link_is = refl; waits_is = refl; good = good }
-  all_came (message ∷ taken) others t good down =
-      let ready = kept.ready t good in
-      let step : TermStep = took t.link.term message in
-      let mid : LinkWithReport = moved app Move.Down t in
-      let one = came_one app message (taken ++ others) t ready.uncleared down (ready.same message (taken ++ others) down) (subst (λ (d : List ToTerminal). NoneCloses t.link.term d) down ready.none).0 in
-      let more = all_came taken others mid (kept.goes_on Move.Down t good tt tt) one.down in
-      record {
-        moves = Move.Down ∷ more.moves;
-        downs = All-cons IsDown Move.Down more.moves tt more.downs;
-        by_the_rules = (tt, more.by_the_rules);
-        link_is = more.link_is ∙ ap (took_down taken others) one.link;
-        waits_is = more.waits_is
-            ∙ ap (λ (e : TermEnd). if any_painted e taken then false else mid.waits) one.term
-            ∙ ap (λ (w : Bool). if any_painted step.end taken then false else w) one.waits
-            ∙ either_paints (is_painted t.link.term message) (any_painted step.end taken) t.waits;
-        good = more.good;
-      }
-
--- ---- the terminal takes a byte
 
 -- a terminal keeps its name
 bound_waits : (bound : Bool) (step : TermStep) (end : TermEnd) → step.end.waits ≡ end.waits → (once_bound bound step end).end.waits ≡ end.waits
 bound_waits true step end is = is
 bound_waits false step end is = refl
 
-took_waits : (end : TermEnd) (message : ToTerminal) → (took end message).end.waits ≡ end.waits
-took_waits end (ToTerminal.TalksDown saying) = refl
-took_waits end (ToTerminal.Paint number wanted over) = bound_waits (is_bound end) _ end refl
-took_waits end (ToTerminal.ReadBuffer number) = bound_waits (is_bound end) _ end refl
-took_waits end (ToTerminal.Note number command) = bound_waits (is_bound end) _ end refl
+executed_waits : (end : TermEnd) (message : ToTerminal) → (executed end message).end.waits ≡ end.waits
+executed_waits end (ToTerminal.TalksDown saying) = refl
+executed_waits end (ToTerminal.Paint number wanted over) = bound_waits (is_bound end) (paint_executed number wanted over end) end refl
+executed_waits end (ToTerminal.ReadBuffer number) = bound_waits (is_bound end) _ end refl
+executed_waits end (ToTerminal.Note number command) = bound_waits (is_bound end) _ end refl
 
-all_waits : (taken others : List ToTerminal) (link : Link) → (took_down taken others link).term.waits ≡ link.term.waits
-all_waits [] others link = refl
-all_waits (message ∷ taken) others link =
-    let step : TermStep = took link.term message in
-    all_waits taken others (term_stepped step (taken ++ others) link)
-    ∙ ap (λ (e : TermEnd). e.waits) (left_term step.closes (record link { down = taken ++ others; term = step.end; up = sent link.lost link.up step.sends }))
-    ∙ took_waits link.term message
+-- ---- what was pressed in the wait, behind it
+
+no_mark : (cleared : Bool) (item : Option WireItem) (pressed : Pressed) → ended_if (ends_wait cleared false item) pressed ≡ pressed
+no_mark cleared item pressed = by_test (not cleared || (has_code EraseWrite item || has_code EraseWriteAlternate item))
+  where
+    by_test : (b : Bool) → ended_if (b && false) pressed ≡ pressed
+    by_test true = refl
+    by_test false = refl
+
+a_mark : (b : Bool) → (b && true) ≡ b
+a_mark true = refl
+a_mark false = refl
+
+unmarked_still : (took : Bool) (item : Option WireItem) (pressed : Pressed) (waits : Bool) (first : Aid) (cleared : Bool) → took ≡ false → WasPressed pressed waits first cleared
+    → WasPressed (ended_if (ends_wait pressed.cleared took item) pressed) waits first cleared
+unmarked_still took item pressed waits first cleared none was =
+    subst (λ (p : Pressed). WasPressed p waits first cleared) (sym (ap (λ (b : Bool). ended_if (ends_wait pressed.cleared b item) pressed) none ∙ no_mark pressed.cleared item pressed)) was
+
+-- what was pressed, behind a paint that finds the terminal bound
+behind_paint : (shown ends : Bool) (pressed : Pressed) (told now : Display) (waits cleared : Bool) → ends ≡ shown → WasPressed pressed waits told.screen.aid cleared
+    → WasPressed (ended_if ends pressed) (if shown then false else waits) (if shown then now else told).screen.aid (if shown then false else cleared)
+behind_paint shown ends pressed told now waits cleared same was =
+    subst (λ (b : Bool). WasPressed (ended_if b pressed) (if shown then false else waits) (if shown then now else told).screen.aid (if shown then false else cleared)) (sym same) (by_shown shown)
+  where
+    by_shown : (b : Bool) → WasPressed (ended_if b pressed) (if b then false else waits) (if b then now else told).screen.aid (if b then false else cleared)
+    by_shown true = record { waits_is = refl; first_is = λ waits. absurd (cc); cleared_is = refl }
+    by_shown false = was
+
+read_aid : (pa : Bool) (told now : Display) → (if pa then record now { screen = record now.screen { aid = told.screen.aid } } else told).screen.aid ≡ told.screen.aid
+read_aid true told now = refl
+read_aid false told now = refl
+
+pressed_then : NoteKeepsBounds → (message : ToTerminal) (item : WireItem) (t : LinkWithReport) (link : Link) (pressed : Pressed) (took : Bool) → RepresentsDown item message → MayTake t.link.term message → took ≡ is_painted t.link.term message
+    → WasPressed pressed t.waits t.told.screen.aid t.cleared
+    → let after = told_if (is_bound t.link.term) message t link in
+    WasPressed (ended_if (ends_wait pressed.cleared took (Some item)) pressed) after.waits after.told.screen.aid after.cleared
+pressed_then bounds (ToTerminal.Paint number wanted over) item t link pressed took stands may marked was = by_bound (is_bound t.link.term) marked
+  where
+    erases : Bool
+    erases = is_erase (paint (cells_in wanted.size) over wanted).code
+
+    ends : took ≡ true → ends_wait pressed.cleared took (Some item) ≡ is_shown t.cleared wanted over
+    ends took_it =
+        ap (λ (b : Bool). ends_wait pressed.cleared b (Some item)) took_it
+        ∙ a_mark (not pressed.cleared || (has_code EraseWrite (Some item) || has_code EraseWriteAlternate (Some item)))
+        ∙ ap (λ (b : Bool). not pressed.cleared || b) (paint_erases number wanted over item stands)
+        ∙ ap (λ (c : Bool). not c || erases) was.cleared_is
+
+    by_bound : (bound : Bool) → took ≡ bound → let after = told_if bound (ToTerminal.Paint number wanted over) t link in
+        WasPressed (ended_if (ends_wait pressed.cleared took (Some item)) pressed) after.waits after.told.screen.aid after.cleared
+    by_bound true is = behind_paint (is_shown t.cleared wanted over) (ends_wait pressed.cleared took (Some item)) pressed t.told link.term.display t.waits t.cleared (ends is) was
+    by_bound false is = unmarked_still took (Some item) pressed t.waits t.told.screen.aid t.cleared is was
+pressed_then bounds (ToTerminal.TalksDown saying) item t link pressed took stands may marked was = by_bound (is_bound t.link.term)
+  where
+    by_bound : (bound : Bool) → let after = told_if bound (ToTerminal.TalksDown saying) t link in
+        WasPressed (ended_if (ends_wait pressed.cleared took (Some item)) pressed) after.waits after.told.screen.aid after.cleared
+    by_bound true = unmarked_still took (Some item) pressed t.waits t.told.screen.aid t.cleared marked was
+    by_bound false = unmarked_still took (Some item) pressed t.waits t.told.screen.aid t.cleared marked was
+pressed_then bounds (ToTerminal.ReadBuffer number) item t link pressed took stands may marked was = by_bound (is_bound t.link.term)
+  where
+    by_bound : (bound : Bool) → let after = told_if bound (ToTerminal.ReadBuffer number) t link in
+        WasPressed (ended_if (ends_wait pressed.cleared took (Some item)) pressed) after.waits after.told.screen.aid after.cleared
+    by_bound true =
+        subst (λ (aid : Aid). WasPressed (ended_if (ends_wait pressed.cleared took (Some item)) pressed) t.waits aid t.cleared) (sym (read_aid (is_pa t.told.screen.aid) t.told link.term.display))
+        (unmarked_still took (Some item) pressed t.waits t.told.screen.aid t.cleared marked was)
+    by_bound false = unmarked_still took (Some item) pressed t.waits t.told.screen.aid t.cleared marked was
+pressed_then bounds (ToTerminal.Note number command) item t link pressed took stands may marked was = by_bound (is_bound t.link.term)
+  where
+    by_bound : (bound : Bool) → let after = told_if bound (ToTerminal.Note number command) t link in
+        WasPressed (ended_if (ends_wait pressed.cleared took (Some item)) pressed) after.waits after.told.screen.aid after.cleared
+    by_bound true =
+        subst (λ (aid : Aid). WasPressed (ended_if (ends_wait pressed.cleared took (Some item)) pressed) t.waits aid t.cleared) (sym (bounds command t.told.screen may.note).aid)
+        (unmarked_still took (Some item) pressed t.waits t.told.screen.aid t.cleared marked was)
+    by_bound false = unmarked_still took (Some item) pressed t.waits t.told.screen.aid t.cleared marked was
+
+-- behind a step of the operator
+operated_then : (step : TermStep) (t : LinkWithReport) (pressed : Pressed) → WasPressed pressed t.waits t.told.screen.aid t.cleared
+    → WasPressed (pressed_by step pressed) (operated step t).waits (operated step t).told.screen.aid (operated step t).cleared
+operated_then step t pressed was = record {
+  waits_is = ap (λ (w : Bool). w || is_queued step.sends) was.waits_is;
+  first_is = λ waits. by_wait t.waits pressed.waits was.waits_is was.first_is;
+  cleared_is = ap (λ (c : Bool). c || (pressed.waits && sends_clear step)) was.cleared_is ∙ ap (λ (w : Bool). t.cleared || (w && sends_clear step)) was.waits_is;
+}
+  where
+    by_wait : (waits waited : Bool) → waited ≡ waits → (waits ≡ true → pressed.first ≡ t.told.screen.aid)
+        → (if waited then pressed.first else step.end.display.screen.aid) ≡ (if waits then t.told else step.end.display).screen.aid
+    by_wait true waited is first = ap (λ (w : Bool). if w then pressed.first else step.end.display.screen.aid) is ∙ first refl
+    by_wait false waited is first = ap (λ (w : Bool). if w then pressed.first else step.end.display.screen.aid) is
 
 -- messages came down
 pub record WentDown (app : Application) (Good : LinkWithReport → Type 0) (number : ℕ) (bytes : OverBytes) (t : LinkWithReport) : Type 0 where
@@ -262,6 +272,8 @@ pub record WentDown (app : Application) (Good : LinkWithReport → Type 0) (numb
 pub record TakesLaws : Type 0 where
   pub takes : TermTakes
   pub keeps : TakesKeepSendable
+  pub any_takes : AnyTermTakes
+  pub any_keeps : ExecutedStaysSendable
   pub nop : NopHasNoEffect
   pub down : RepresentsGoOn without_nops RepresentsDown
   pub any_down : RepresentsGoOn (without is_ignored_by_terminal) RepresentsDown
@@ -269,55 +281,104 @@ pub record TakesLaws : Type 0 where
   pub marks : WritesAreMarked
   pub written : ItemsAreRead
   pub join : RepresentsJoin without_ignored IsReadAs
+  pub bounds : NoteKeepsBounds
 
 module _ (laws : TakesLaws) (app : Application) (Good : LinkWithReport → Type 0) (kept : IsKept app Good) where
   pub takes_goes : (number : ℕ) (old new : OverBytes) (t : LinkWithReport) → Good t → Represents number old t → Takes old new → WentDown app Good number new t
   takes_goes number old new t good is comes =
-      let out : List ℕ = (connection_at number old.host).out in
-      let link : Link = t.link in
-      let here : link.term_here ≡ Some 0 = sym is.stands.term_here in
-      let term = is.stands.term 0 here in
-      let queue : (link_over number old).down ≡ comes.byte ∷ (comes.behind ++ out) = ap (λ (d : List ℕ). d ++ out) comes.next in
-      let ready = kept.ready t good in
-      let one = byte_came laws.takes laws.keeps ignored_have_no_effect laws.any_down laws.final laws.marks comes.byte (comes.behind ++ out) old.tracked comes.ours term.rest link term.holds
-      (subst (λ (d : List ℕ). BytesDownBy is_ignored_by_terminal term.rest d link.down) queue term.down) ready.may ready.none is.stored comes.takes in
-      let taken : List ToTerminal = one.came.taken in
-      let others : List ToTerminal = one.came.others in
-      let ran = one.came.ran in
-      let lost : false ≡ link.lost = is.stands.lost in
-      let down = all_came app Good kept taken others t good one.came.whole in
-      let after_up : (after_moves app down.moves t).link.up ≡ link.up ++ ran.sends =
-      ap (λ (l : Link). l.up) down.link_is ∙ ran.up ∙ ap (λ (l : Bool). sent l link.up ran.sends) (sym lost) in
-      let none : AllByRecursion IsNoTalk ran.sends =
-      all_back IsNoTalk link.up ran.sends (subst (AllByRecursion IsNoTalk) after_up (kept.ready (after_moves app down.moves t) down.good).no_talk) in
-      let said : AreReadAs comes.bytes ran.sends = comes.alike ran.sends (ours_read laws.written link (took_down taken others link) old.tracked comes.ours (comes.behind ++ out) term.silent ran none) in
-      let stands = ran_stands (link_over number old) link (took_down taken others link) (comes.behind ++ out) comes.bytes comes.ours is.stands ran
-      (subst (λ (l : Bool). BytesRepresent without_ignored IsReadAs is.stands.read (sent l old.up comes.bytes) (sent l link.up ran.sends)) lost
-      (laws.join is.stands.read old.up comes.bytes link.up ran.sends is.stands.up said)) in
-      let bytes : OverBytes = record {
+      by_one (any_byte_came laws.any_takes laws.any_keeps ignored_have_no_effect laws.any_down laws.final comes.byte (comes.behind ++ out) old.tracked comes.ours term.rest link term.holds
+      (subst (λ (d : List ℕ). BytesDownBy is_ignored_by_terminal term.rest d link.down) queue term.down) ready.next is.stored comes.takes)
+    where
+      out : List ℕ
+      out = (connection_at number old.host).out
+
+      link : Link
+      link = t.link
+
+      here : link.term_here ≡ Some 0
+      here = sym is.stands.term_here
+
+      term : TermRepresentsBy is_ignored_by_terminal (link_over number old) link
+      term = is.stands.term 0 here
+
+      queue : (link_over number old).down ≡ comes.byte ∷ (comes.behind ++ out)
+      queue = ap (λ (d : List ℕ). d ++ out) comes.next
+
+      ready : Ready app t
+      ready = kept.ready t good
+
+      lost : false ≡ link.lost
+      lost = is.stands.lost
+
+      took : Bool
+      took = comes.ours.terminal.station.took_write
+
+      item : Option WireItem
+      item = item_completed comes.takes.takes
+
+      bytes : OverBytes
+      bytes = record {
         host = old.host;
         down = comes.behind;
         up = old.up ++ comes.bytes;
         tracked = with_out [] comes.ours;
-        waits = if comes.ours.terminal.station.took_write then false else old.waits;
-      } in
-      let back = sym down.link_is in
-      let represents : Represents number bytes (after_moves app down.moves t) = record {
-        is_open = is.is_open;
-        stands = subst (λ (l : Link). LinkRepresentsBy without_ignored IsReadAs is_ignored_by_terminal (link_over number bytes) l) back stands;
-        waits = ap (λ (b : Bool). if b then false else old.waits) one.marked ∙ ap (λ (w : Bool). if any_painted link.term taken then false else w) is.waits ∙ sym down.waits_is;
-        unnamed = ap (λ (l : Link). l.term.waits) down.link_is ∙ all_waits taken others link ∙ is.unnamed;
-        stored = subst (λ (l : Link). CanBeSent l.term.display.size l.term.display.screen) back ran.can;
-      } in
-      record {
-        goes = record {
-          moves = down.moves;
-          by_the_rules = down.by_the_rules;
-          represents = subst (λ (b : OverBytes). Represents number b (after_moves app down.moves t)) (sym comes.leaves) represents;
-          good = down.good;
-        };
-        downs = down.downs;
+        pressed = ended_if (ends_wait old.pressed.cleared took item) old.pressed;
       }
+
+      -- the connection then, whatever the terminal said
+      stands_then : (now : Link) (ran : Ran is_ignored_by_terminal link now old.tracked comes.ours (comes.behind ++ out)) → AllByRecursion IsNoTalk ran.sends
+          → LinkRepresentsBy without_ignored IsReadAs is_ignored_by_terminal (link_over number bytes) now
+      stands_then now ran none =
+          let said : AreReadAs comes.bytes ran.sends = comes.alike ran.sends (ours_read laws.written link now old.tracked comes.ours (comes.behind ++ out) term.silent ran none) in
+          ran_stands (link_over number old) link now (comes.behind ++ out) comes.bytes comes.ours is.stands ran
+          (subst (λ (l : Bool). BytesRepresent without_ignored IsReadAs is.stands.read (sent l old.up comes.bytes) (sent l link.up ran.sends)) lost
+          (laws.join is.stands.read old.up comes.bytes link.up ran.sends is.stands.up said))
+
+      by_one : OneCame is_ignored_by_terminal link comes.byte old.tracked comes.ours (comes.behind ++ out) comes.takes.takes → WentDown app Good number new t
+      by_one (OneCame.no_message unmarked ran) =
+          let silent : AllByRecursion IsNoTalk ran.sends =
+          all_back IsNoTalk link.up ran.sends (subst (AllByRecursion IsNoTalk) (ran.up ∙ ap (λ (l : Bool). sent l link.up ran.sends) (sym lost)) ready.no_talk) in
+          record {
+            goes = stays app Good number new t good (subst (λ (b : OverBytes). Represents number b t) (sym comes.leaves) (record {
+              is_open = is.is_open;
+              stands = stands_then link ran silent;
+              pressed = unmarked_still took item old.pressed t.waits t.told.screen.aid t.cleared unmarked is.pressed;
+              unnamed = is.unnamed;
+              stored = is.stored;
+            }));
+            downs = All-nil IsDown;
+          }
+      by_one (OneCame.one_message message others whole_item whole completes represents marked ran) =
+          let step : TermStep = executed link.term message in
+          let now : Link = record link { down = others; term = step.end; up = sent link.lost link.up step.sends } in
+          let after : LinkWithReport = told_if (is_bound link.term) message t now in
+          let next : term_stepped step others link ≡ now = ap (λ (c : Option Cause). term_left_if c now) (ready.next.none message others whole) in
+          let went : moved app Move.Down t ≡ after =
+          ap (λ (d : List ToTerminal). came_down d t) whole ∙ ap (λ (l : Link). told_if (is_bound link.term) message t l) next in
+          let good_now : Good (moved app Move.Down t) = kept.goes_on Move.Down t good tt tt in
+          let link_is : (moved app Move.Down t).link ≡ now = ap (λ (u : LinkWithReport). u.link) went ∙ told_link_is (is_bound link.term) message t now in
+          let after_up : (moved app Move.Down t).link.up ≡ link.up ++ ran.sends =
+          ap (λ (l : Link). l.up) link_is ∙ ran.up ∙ ap (λ (l : Bool). sent l link.up ran.sends) (sym lost) in
+          let silent : AllByRecursion IsNoTalk ran.sends = all_back IsNoTalk link.up ran.sends (subst (AllByRecursion IsNoTalk) after_up (kept.ready (moved app Move.Down t) good_now).no_talk) in
+          let back = sym link_is in
+          let pressed = pressed_then laws.bounds message whole_item t now old.pressed took represents (ready.next.may message others whole) marked is.pressed in
+          let there : Represents number bytes (moved app Move.Down t) = record {
+            is_open = is.is_open;
+            stands = subst (λ (l : Link). LinkRepresentsBy without_ignored IsReadAs is_ignored_by_terminal (link_over number bytes) l) back (stands_then now ran silent);
+            pressed = subst (λ (u : LinkWithReport). WasPressed bytes.pressed u.waits u.told.screen.aid u.cleared) (sym went)
+                (subst (λ (i : Option WireItem). WasPressed (ended_if (ends_wait old.pressed.cleared took i) old.pressed) after.waits after.told.screen.aid after.cleared) (sym completes) pressed);
+            unnamed = ap (λ (l : Link). l.term.waits) link_is ∙ executed_waits link.term message ∙ is.unnamed;
+            stored = subst (λ (l : Link). CanBeSent l.term.display.size l.term.display.screen) back ran.can;
+          } in
+          record {
+            goes = record {
+              moves = Move.Down ∷ [];
+              by_the_rules = (tt, tt);
+              represents = subst (λ (b : OverBytes). Represents number b (moved app Move.Down t)) (sym comes.leaves) there;
+              good = good_now;
+            };
+            downs = All-cons IsDown Move.Down [] tt (All-nil IsDown);
+          }
 
   -- ---- it is operated
 
@@ -358,15 +419,20 @@ module _ (laws : TakesLaws) (app : Application) (Good : LinkWithReport → Type 
       let here : link.term_here ≡ Some 0 = sym is.stands.term_here in
       let term = is.stands.term 0 here in
       let end = end_is does.rest does.talk old.tracked link.term term.rest term.holds is.unnamed does.attached in
-      let rules : IsWithoutClear (Move.Operate step) t =
-      subst (λ (e : TermEnd). (d : Operates e step) × (t.waits ≡ true → key_pressed d ≢ Clear)) end (does.does, λ waits. does.not_clear (is.waits ∙ waits)) in
+      let rules : IsByTheRules (Move.Operate step) t =
+      subst (λ (e : TermEnd). (d : Operates e step) × (t.waits ≡ true → t.cleared ≡ false → key_pressed d ≡ Clear → HasAnswered t)) end (
+        does.does,
+        λ waits uncleared clear pa.
+            let other : is_pa t.told.screen.aid ≡ false = ap is_pa (sym (is.pressed.first_is waits)) ∙ does.not_after_pa (is.pressed.waits_is ∙ waits) clear in
+            absurd (let wrong : true ≡ false = sym pa ∙ other in cc),
+      ) in
       let left = leaves link.term step rules.0 in
       let now : Link = record link { term = step.end; up = sent link.lost link.up step.sends } in
       let link_is : (operated step t).link ≡ now = ap (λ (c : Option Cause). term_left_if c now) left.closes in
       let bytes : OverBytes = record old {
         up = old.up ++ does.bytes;
         tracked = displaying step.end.display does.number old.tracked;
-        waits = old.waits || is_queued step.sends;
+        pressed = pressed_by step old.pressed;
       } in
       let lost : false ≡ link.lost = is.stands.lost in
       let stands : LinkRepresentsBy without_ignored IsReadAs is_ignored_by_terminal (link_over number bytes) now = record {
@@ -399,12 +465,12 @@ module _ (laws : TakesLaws) (app : Application) (Good : LinkWithReport → Type 
       let represents : Represents number bytes (operated step t) = record {
         is_open = is.is_open;
         stands = subst (λ (l : Link). LinkRepresentsBy without_ignored IsReadAs is_ignored_by_terminal (link_over number bytes) l) back stands;
-        waits = ap (λ (w : Bool). w || is_queued step.sends) is.waits;
+        pressed = operated_then step t old.pressed is.pressed;
         unnamed = ap (λ (l : Link). l.term.waits) link_is ∙ left.waits ∙ is.unnamed;
         stored = subst (λ (l : Link). CanBeSent l.term.display.size l.term.display.screen) back does.stored;
       } in
       record {
-        goes = moves_once app Good kept number new t (Move.Operate step) good rules does.stored
+        goes = moves_once app Good kept number new t (Move.Operate step) good rules (record { stored = does.stored; not_full = λ cleared. does.not_full (is.pressed.cleared_is ∙ cleared) })
             (subst (λ (b : OverBytes). Represents number b (operated step t)) (sym does.leaves) represents);
         are = refl;
       }
@@ -430,7 +496,7 @@ module _ (laws : TakesLaws) (app : Application) (Good : LinkWithReport → Type 
           down = term.down;
         };
       };
-      waits = is.waits;
+      pressed = is.pressed;
       unnamed = is.unnamed;
       stored = is.stored;
     });

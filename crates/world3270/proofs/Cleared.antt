@@ -1,6 +1,6 @@
 -- A terminal at which Clear was pressed in the wait, beside one that waits and displays what was told: the screens differ, but the host paints
 -- the next panel whole.
-use Rattle.std.proofs.Common.{◌≡◌, ◌||◌, not, ℕ, Bool, true, false, Some, List, [], ◌∷◌, length, ap, sym, subst, ◌∙◌}
+use Rattle.std.proofs.Common.{◌≡◌, ◌⊎◌, inl, inr, ◌||◌, not, ℕ, Bool, true, false, Some, List, [], ◌∷◌, length, ap, sym, subst, ◌∙◌}
 use Rattle.std.specs.Prelude.{is_some}
 use Rattle.codes3270.specs.Size.{ScreenSize}
 use Rattle.datastream.specs.Fields.{fields}
@@ -15,6 +15,7 @@ use Rattle.host_core.specs.Messages.{ToHost, Verdict}
 use Rattle.host_core.specs.Session.{Session, Pending, agreed_lu, is_agreed}
 use Rattle.host_core.specs.Takes.{is_after_pa, is_unread, may_be_read, may_have_changed}
 use Rattle.host_core.specs.declared.turn.Turn.{Turn}
+use Rattle.host_core.specs.declared.turn.Turn.TheVariants as whose
 use Rattle.host_core.specs.declared.unheard.Unheard.{Unheard}
 use Rattle.host_core.specs.declared.unheard.Unheard.TheVariants as unheards
 use Rattle.world3270.specs.model.Link.{Link}
@@ -25,10 +26,10 @@ use Rattle.world3270.specs.refinement.View.{view_of}
 use Rattle.world3270.specs.statement.EveryTerminal.{LinkWithReport, is_pa}
 use Rattle.world3270.specs.statement.Shown.{is_painting}
 use Rattle.world3270.specs.statement.TurnReasons.{IsOccasion}
-use Rattle.world3270.proofs.ClearedQueue.{DoesNoHarm, SaysToo, erases}
+use Rattle.world3270.proofs.ClearedQueue.{DoesNoHarm, SaysToo, answer_first, erases}
 use Rattle.world3270.proofs.ClearsDue.{Fate}
 use Rattle.world3270.proofs.Returning.{HostReturns, pa_counts, unread_pa}
-use Rattle.world3270.proofs.SecondKeys.{is_dropping}
+use Rattle.world3270.proofs.SecondKeys.{is_dropping, is_reading}
 use Rattle.world3270.proofs.Queues.{front, nothing}
 use Rattle.world3270.proofs.Simulation.{Simulated, Since, has_agreed, is_waiting}
 
@@ -43,10 +44,18 @@ pub data HostsAlike (told : Link) (now : Session) : Type 0 where
   crossed : is_painting told.host.pending ≡ true → DoesNoHarm told.host.pending told.up → now ≡ hearing_clear told.host → HostsAlike told now
   erasing : erases told.host.pending ≡ true → now ≡ record told.host { shadow = now.shadow; unheard = now.unheard } → may_have_changed now.unheard ≡ true → HostsAlike told now
 
+-- The host needs no answer to a Read Buffer that Clear precedes: the key wasn't PA, or the screen was read since, or the answer is under way
+-- before Clear, or a panel is shown by now.
+pub data HasRead (t : LinkWithReport) (told : Link) : Type 0 where
+  no_pa : is_pa t.told.screen.aid ≡ false → HasRead t told
+  was_read : told.host.turn ≡ whose.Host → is_unread told.host.turn_reason ≡ false → HasRead t told
+  is_read : told.host.turn ≡ whose.Host → is_reading told.host.pending ≡ true → told.down ≡ [] → answer_first t.link.lost t.link.up ≡ true → HasRead t told
+  was_shown : is_painting told.host.pending ≡ true → told.up ≡ [] → HasRead t told
+
 -- Clear was pressed in the wait, and the host hears of it, or paints the next panel whole; or such a paint was taken, and waits for its
 -- answer. `said`: what both say.
 pub data Stage (t : LinkWithReport) (told : Link) (said : List ToHost) : Type 0 where
-  gone : t.cleared ≡ true → told.term.display.keyboard.lock ≡ Wait → is_pa t.told.screen.aid ≡ false → Fate told said t.link → Stage t told said
+  gone : t.cleared ≡ true → told.term.display.keyboard.lock ≡ Wait → HasRead t told → Fate told said t.link → Stage t told said
   erased : t.cleared ≡ false → erases told.host.pending ≡ true → told.down ≡ [] → Since told.term.display t.link.term.display → Stage t told said
 
 -- A screen that Clear nulled has no fields, whatever was typed since; or an erase over nothing is under way.
@@ -117,9 +126,9 @@ pub record HearsOfClear (app : Application) (told : Link) : Type 0 where
   pub kept : ConnectionInvariant app (view_of (record told { host = hearing_clear told.host }))
   pub read : is_unread told.host.turn_reason ≡ false
 
-pub hears_of_clear : (app : Application) (told : Link) → ConnectionInvariant app (view_of told) → may_have_changed told.host.unheard ≡ true → is_pa told.term.display.screen.aid ≡ false → is_dropping told.host.turn told.host.pending ≡ true
-    → is_painting told.host.pending ≡ false → HearsOfClear app told
-hears_of_clear app told k any no_pa drops unpainted = by_moment k.moment k.sizes k.at k.fact k.shown dropping_at unpainted_at
+pub hears_of_clear : (app : Application) (told : Link) → ConnectionInvariant app (view_of told) → may_have_changed told.host.unheard ≡ true → (is_pa told.term.display.screen.aid ≡ false) ⊎ (is_unread told.host.turn_reason ≡ false)
+    → is_dropping told.host.turn told.host.pending ≡ true → is_painting told.host.pending ≡ false → HearsOfClear app told
+hears_of_clear app told k any read drops unpainted = by_moment k.moment k.sizes k.at k.fact k.shown dropping_at unpainted_at
   where
     dropping_at : is_dropping (turn_at k.moment) (pending_at k.moment) ≡ true
     dropping_at = sym (ap (λ (turn : Turn). is_dropping turn told.host.pending) k.at.turn ∙ ap (λ (pending : Pending). is_dropping (turn_at k.moment) pending) k.at.pending) ∙ drops
@@ -152,14 +161,18 @@ hears_of_clear app told k any no_pa drops unpainted = by_moment k.moment k.sizes
     }
 
     by_occasion : IsOccasion told.host.turn_reason told.term.display.screen.aid → is_unread told.host.turn_reason ≡ false
-    by_occasion is = unread_pa told.host.turn_reason (pa_counts told.host.turn_reason told.term.display.screen.aid is ∙ no_pa)
+    by_occasion is = by_read read
+      where
+        by_read : (is_pa told.term.display.screen.aid ≡ false) ⊎ (is_unread told.host.turn_reason ≡ false) → is_unread told.host.turn_reason ≡ false
+        by_read (inl other) = unread_pa told.host.turn_reason (pa_counts told.host.turn_reason told.term.display.screen.aid is ∙ other)
+        by_read (inr was) = was
 
     by_serving : (lu : List ℕ) (serving : SessionPhase) → Sizes app (view_of told) (LinkPhase.InSession lu serving) → IsAt (view_of told) k.wanted (LinkPhase.InSession lu serving) → Fact k.wanted state (LinkPhase.InSession lu serving)
         → ShownAt app told.term.waits told.host told.term.display.before_restored told.term.display.last_restored told.term.display.screen (LinkPhase.InSession lu serving)
         → is_dropping (turn_at (LinkPhase.InSession lu serving)) (pending_at (LinkPhase.InSession lu serving)) ≡ true → is_painting (pending_at (LinkPhase.InSession lu serving)) ≡ false → HearsOfClear app told
     by_serving lu SessionPhase.Deciding s at f shown drops unpainted = so (LinkPhase.InSession lu SessionPhase.Deciding) s at (decides_cleared state state.shadow f) shown (by_occasion f.turn_reason)
     by_serving lu (SessionPhase.Reading number) s at f shown drops unpainted =
-        so (LinkPhase.InSession lu (SessionPhase.Reading number)) s at (record { decides = decides_cleared state state.shadow f.decides; not_cleared = f.not_cleared; not_first = f.not_first }) shown (by_occasion f.decides.turn_reason)
+        so (LinkPhase.InSession lu (SessionPhase.Reading number)) s at (record { decides = decides_cleared state state.shadow f.decides; not_cleared = f.not_cleared; not_first = f.not_first; unread = f.unread }) shown (by_occasion f.decides.turn_reason)
     by_serving lu (SessionPhase.BufferReturning number parts) s at f shown drops unpainted =
         so (LinkPhase.InSession lu (SessionPhase.BufferReturning number parts)) s at (record {
           lock = f.lock;

@@ -1,5 +1,5 @@
 -- What comes down after Clear in the wait: a paint over nothing erases, so that both terminals display the same then.
-use Rattle.std.proofs.Common.{◌≡◌, ◌<◌, inr, ℕ, Bool, true, false, None, Option, List, [], ◌∷◌, ◌++◌, length, refl, ap, sym, subst, ◌∙◌, if◌then◌else◌}
+use Rattle.std.proofs.Common.{◌≡◌, ◌<◌, ◌⊎◌, inl, inr, ◌||◌, not, ℕ, Bool, true, false, None, Option, List, [], ◌∷◌, ◌++◌, arith, length, refl, ap, sym, subst, ◌∙◌, if◌then◌else◌}
 use Rattle.std.specs.Prelude.{⊤, is_some}
 use Rattle.codes3270.specs.Size.{ScreenSize, cells_in}
 use Rattle.datastream.specs.Grammar.{CommandParts}
@@ -24,27 +24,30 @@ use Rattle.tn3270e_msg.specs.TermTable.{Term}
 use Rattle.host_core.specs.Application.{Application, IsApplication}
 use Rattle.host_core.specs.Messages.{ToHost, ToTerminal, Verdict}
 use Rattle.host_core.specs.Session.{Pending, Session}
-use Rattle.host_core.specs.Takes.{may_be_read, may_have_changed}
+use Rattle.host_core.specs.Takes.{is_after_pa, is_read_believed, is_unread, may_be_read, may_have_changed}
+use Rattle.host_core.specs.declared.turn.Turn.{Turn}
+use Rattle.datastream.specs.InboundFields.{buffer_data}
+use Rattle.datastream.specs.declared.inbound_part.Form.{Form}
 use Rattle.host_core.specs.declared.turn.Turn.TheVariants as whose
-use Rattle.world3270.specs.statement.EveryTerminal.{LinkWithReport, is_pa, once_shown, paint_executed, told_after, told_if}
+use Rattle.world3270.specs.statement.EveryTerminal.{LinkWithReport, is_clear, is_pa, once_shown, paint_executed, told_after, told_if}
 use Rattle.world3270.specs.statement.Shown.{is_painting}
 use Rattle.world3270.specs.refinement.LowerLaws.{LowerLaws}
 use Rattle.world3270.specs.model.Link.{Link, sent, term_stepped}
 use Rattle.world3270.specs.refinement.Invariant.{ConnectionInvariant, IsPainted, local_state_of}
 use Rattle.world3270.specs.refinement.Phases.{IsAt, IsInFlight, LinkPhase, SessionPhase}
-use Rattle.world3270.specs.model.Terminal.{Display, TermEnd, TermStep, bound_to, is_bound, note_came, once_bound, paint_came}
+use Rattle.world3270.specs.model.Terminal.{Display, TermEnd, TermStep, bound_to, is_bound, note_came, once_bound, paint_came, read_came}
 use Rattle.world3270.specs.refinement.View.{view_of}
-use Rattle.world3270.proofs.Cleared.{Cleared, HostsAlike, IsPlain, Stage, agrees_still, but_belief, may_change}
-use Rattle.world3270.proofs.ClearedQueue.{AddsKeys, SaysToo, any_later, both_say_too, erases, says_last}
-use Rattle.world3270.proofs.ClearsDue.{Fate, clears_due, clears_in, due_answered}
-use Rattle.world3270.proofs.ComesDown.{NoteComes, PaintComes, note_comes, paint_comes}
-use Rattle.world3270.proofs.Down.{paints_on, shape_of_model, showing, term_view}
+use Rattle.world3270.proofs.Cleared.{Cleared, HasRead, HostsAlike, IsPlain, Stage, agrees_still, but_belief, may_change}
+use Rattle.world3270.proofs.ClearedQueue.{AddsKeys, AnswersAlike, SaysToo, answers_silent, any_later, both_say_too, clears_first, erases, is_clear_before, same_last_too, says_last}
+use Rattle.world3270.proofs.ClearsDue.{Fate, clears_due, clears_in, due_answered, due_read, is_clear_data, one_more}
+use Rattle.world3270.proofs.ComesDown.{NoteComes, PaintComes, ReadComes, note_comes, paint_comes, read_comes}
+use Rattle.world3270.proofs.Down.{bound, paints_on, shape_of_model, showing, term_view}
 use Rattle.world3270.proofs.NotesHeld.{bare_held, no_attributes}
 use Rattle.world3270.proofs.Obeys.{obeys}
 use Rattle.world3270.proofs.OverNothing.{fits_nothing, same_paint, same_taken, wants_over_nothing}
-use Rattle.world3270.proofs.Returning.{HostReturns, returns_at, returns_if}
+use Rattle.world3270.proofs.Returning.{HostReturns, pa_counts, read_skipped, returns_at, returns_if}
 use Rattle.world3270.proofs.Queues.{empty_queue, front, nothing}
-use Rattle.world3270.proofs.SecondKeys.{SaysAlike, alike_silent}
+use Rattle.world3270.proofs.SecondKeys.{SaysAlike}
 use Rattle.world3270.proofs.Simulation.{Since, since_same}
 use Rattle.world3270.proofs.SimulatedDown.{talk_over}
 
@@ -57,7 +60,7 @@ unpainted_erases (Pending.Writing number command) unpainted = absurd (cc)
 -- ---- what is under way
 
 -- while a note is under way, no paint waits for its answer
-note_unpainted : (app : Application) (link : Link) (number : ℕ) (command : CommandParts) (rest : List ToTerminal) → link.down ≡ ToTerminal.Note number command ∷ rest → ConnectionInvariant app (view_of link) → is_bound link.term ≡ true
+pub note_unpainted : (app : Application) (link : Link) (number : ℕ) (command : CommandParts) (rest : List ToTerminal) → link.down ≡ ToTerminal.Note number command ∷ rest → ConnectionInvariant app (view_of link) → is_bound link.term ≡ true
     → is_painting link.host.pending ≡ false
 note_unpainted app link number command rest e k bound_here = by_moment k.moment k.at
   where
@@ -86,6 +89,10 @@ note_unpainted app link number command rest e k bound_here = by_moment k.moment 
     by_moment (LinkPhase.Negotiating talking) at = ap is_painting at.pending
     by_moment (LinkPhase.FirstPaint lu noted other wanted over) at = absurd (let wrong : false ≡ true = sym (ap (λ state. is_some (bound_to state)) at.term_talk) ∙ bound_here in cc)
     by_moment (LinkPhase.InSession lu serving) at = by_serving lu serving at
+
+first_behind : (b : Bool) (n : ℕ) (later : Bool) → (0 < n → later ≡ true) → 0 < one_more b n → (b || later) ≡ true
+first_behind true n later goes some = refl
+first_behind false n later goes some = goes some
 
 -- the host knew of no field
 abbrev IsWithoutFields : Shadow → Type 0
@@ -143,13 +150,13 @@ module _ (given : LowerLaws) (app : Application) (is : IsApplication app) (lu : 
 
   -- the waiting terminal was gone
   abbrev pub Gone : Type 0
-  Gone = (t.cleared ≡ true) × (end.term.display.keyboard.lock ≡ Wait) × (is_pa t.told.screen.aid ≡ false) × Fate end c.up.said now
+  Gone = (t.cleared ≡ true) × (end.term.display.keyboard.lock ≡ Wait) × HasRead t end × Fate end c.up.said now
 
   pub gone_now : (message : ToTerminal) (rest : List ToTerminal) → now.down ≡ message ∷ rest → Gone
   gone_now message rest e = by_stage c.stage
     where
       by_stage : Stage t end c.up.said → Gone
-      by_stage (Stage.gone cleared locked no_pa fate) = (cleared, locked, no_pa, fate)
+      by_stage (Stage.gone cleared locked read fate) = (cleared, locked, read, fate)
       by_stage (Stage.erased uncleared erasing silent since) = absurd (let wrong = sym silent ∙ (sym c.down ∙ e) in cc)
 
   -- An erase over nothing, or over a screen without fields; what comes up before its answer does no harm.
@@ -203,7 +210,7 @@ module _ (given : LowerLaws) (app : Application) (is : IsApplication app) (lu : 
 
       keys : AddsKeys c.clears false end.host.turn end.host.pending [] now.up
       keys = any_later c.clears t.cleared false end.host.turn end.host.pending now.up
-          (subst (λ (said : List ToHost). AddsKeys c.clears t.cleared end.host.turn end.host.pending said now.up) (alike_silent end.host end.up c.up.said silent c.up.alike) c.up.up)
+          (subst (λ (said : List ToHost). AddsKeys c.clears t.cleared end.host.turn end.host.pending said now.up) (answers_silent end.host end.up c.up.said now.up silent c.up.alike) c.up.up)
 
       kept : ConnectionInvariant app (view_of (term_view step rest end))
       kept = paints_on given app is end rest c.kept comes.lu number comes.command wanted over comes.at comes.fact comes.asked comes.left screen meets (λ waits. absurd (let wrong : false ≡ true = sym c.unsure ∙ waits in cc))
@@ -246,7 +253,7 @@ module _ (given : LowerLaws) (app : Application) (is : IsApplication app) (lu : 
         talk = c.talk;
         clears = c.clears;
         up = both_say_too c.clears false end.host end.lost now.lost end.up now.up (ToHost.Response number Verdict.Positive) c.lost (λ paints. erasing)
-            (record { said = []; alike = SaysAlike.same (sym silent); up = keys });
+            (record { said = []; alike = AnswersAlike.by_saying (SaysAlike.same (sym silent)); up = keys });
         stage = Stage.erased refl erasing (empty_queue end.lost rest comes.left) since;
         model = c.model;
         rest = λ shown. since.rest;
@@ -351,7 +358,7 @@ module _ (given : LowerLaws) (app : Application) (is : IsApplication app) (lu : 
 
       keys : AddsKeys c.clears false end.host.turn end.host.pending [] now.up
       keys = any_later c.clears t.cleared false end.host.turn end.host.pending now.up
-          (subst (λ (said : List ToHost). AddsKeys c.clears t.cleared end.host.turn end.host.pending said now.up) (alike_silent end.host end.up c.up.said silent c.up.alike) c.up.up)
+          (subst (λ (said : List ToHost). AddsKeys c.clears t.cleared end.host.turn end.host.pending said now.up) (answers_silent end.host end.up c.up.said now.up silent c.up.alike) c.up.up)
 
       kept : ConnectionInvariant app (view_of (term_view step rest fresh))
       kept = paints_on given app is fresh rest fresh_kept comes.lu number comes.command wanted Shadow.NothingKnown fresh_at fresh_fact fresh_asked comes.left screen tt (λ waits. absurd (let wrong : false ≡ true = sym c.unsure ∙ waits in cc))
@@ -389,7 +396,7 @@ module _ (given : LowerLaws) (app : Application) (is : IsApplication app) (lu : 
         talk = c.talk;
         clears = c.clears;
         up = both_say_too c.clears false fresh.host end.lost now.lost end.up now.up (ToHost.Response number Verdict.Positive) c.lost (λ paints. erasing)
-            (record { said = []; alike = SaysAlike.same (sym silent); up = keys });
+            (record { said = []; alike = AnswersAlike.by_saying (SaysAlike.same (sym silent)); up = keys });
         stage = Stage.erased refl erasing (empty_queue end.lost rest comes.left) since;
         model = c.model;
         rest = λ shown. since.rest;
@@ -456,6 +463,13 @@ module _ (given : LowerLaws) (app : Application) (is : IsApplication app) (lu : 
   hosts_noted up down term unpainted (HostsAlike.erasing is_erasing is_now any) = absurd (let wrong : false ≡ true = sym (unpainted_erases end.host.pending unpainted) ∙ is_erasing in cc)
   hosts_noted up down term unpainted (HostsAlike.crossed paints harmless crossed) = absurd (let wrong : false ≡ true = sym unpainted ∙ paints in cc)
 
+  read_noted : (number : ℕ) (command : CommandParts) (rest : List ToTerminal) → now.down ≡ ToTerminal.Note number command ∷ rest → is_painting end.host.pending ≡ false → (after_command command t.told.screen).aid ≡ t.told.screen.aid → HasRead t end
+      → HasRead (taken_so true (ToTerminal.Note number command) (note_came number command now.term) rest) (term_view (note_came number command end.term) rest end)
+  read_noted number command rest e unpainted same (HasRead.no_pa none) = HasRead.no_pa (ap is_pa same ∙ none)
+  read_noted number command rest e unpainted same (HasRead.was_read turns was) = HasRead.was_read turns was
+  read_noted number command rest e unpainted same (HasRead.is_read turns reads silent first) = absurd (let wrong = sym silent ∙ sym c.down ∙ e in cc)
+  read_noted number command rest e unpainted same (HasRead.was_shown paints silent) = absurd (let wrong : false ≡ true = sym unpainted ∙ paints in cc)
+
   pub noted_cleared : (number : ℕ) (command : CommandParts) (rest : List ToTerminal) → now.down ≡ ToTerminal.Note number command ∷ rest
       → Cleared app lu (taken_so (is_bound now.term) (ToTerminal.Note number command) (note_came number command now.term) rest)
   noted_cleared number command rest e =
@@ -486,8 +500,190 @@ module _ (given : LowerLaws) (app : Application) (is : IsApplication app) (lu : 
         talk = c.talk;
         clears = c.clears;
         up = both.says;
-        stage = Stage.gone gone.0 gone.1 (ap is_pa (given.notes.bounds command t.told.screen note).aid ∙ gone.2) both.fate;
+        stage = Stage.gone gone.0 gone.1 (read_noted number command rest e unpainted (given.notes.bounds command t.told.screen note).aid gone.2) both.fate;
         model = c.model;
         rest = λ shown. ap (λ (d : Display). record d { screen = after_command command now.term.display.screen }) (c.rest (λ paints. absurd (let wrong : false ≡ true = sym unpainted ∙ paints in cc)));
         plain = λ cleared. still_plain number command rest comes unpainted (c.plain cleared);
       })
+
+  -- ---- a Read Buffer
+
+  -- The host that hears of Clear first makes the same of both answers.
+  record BothRead (one other : ToHost) (up now_up : List ToHost) (waiting link : Link) : Type 0 where
+    says : SaysToo c.clears t.cleared end.host up now_up
+    fate : Fate waiting says.said link
+
+  keys_first : (clears later : Bool) (turn : Turn) (pending : Pending) (real behind : List ToHost) → 0 < clears_in real → AddsKeys clears later turn pending [] real → clears_first (real ++ behind) ≡ true
+  keys_first clears later turn pending [] behind some x = absurd (let wrong : ⊥ = omega arith in wrong)
+  keys_first clears later turn pending (message ∷ real) behind some (inr x) = absurd (let wrong = x.1 in cc)
+  keys_first clears later turn pending (message ∷ real) behind some (inl x) =
+      let key = x.1 in
+      subst (λ (m : ToHost). clears_first (m ∷ real ++ behind) ≡ true) (sym key.is)
+      (ap (λ (f : Form). is_clear_before f (is_clear key.parts.aid) (clears_first (real ++ behind))) key.form
+      ∙ first_behind (is_clear key.parts.aid) (clears_in real) (clears_first (real ++ behind)) (λ more. keys_first clears later turn pending real behind more x.2)
+      (subst (λ (m : ToHost). 0 < one_more (is_clear_data m) (clears_in real)) key.is some))
+
+  pub read_cleared : (number : ℕ) (rest : List ToTerminal) → now.down ≡ ToTerminal.ReadBuffer number ∷ rest → Cleared app lu (taken_so (is_bound now.term) (ToTerminal.ReadBuffer number) (read_came now.term) rest)
+  read_cleared number rest e =
+      subst (λ (b : Bool). Cleared app lu (taken_so b (ToTerminal.ReadBuffer number) (read_came now.term) rest)) (sym bound_now)
+      (subst (λ (pa : Bool). Cleared app lu (read_so pa)) (sym told_no_pa) goes)
+    where
+      gone : Gone
+      gone = gone_now (ToTerminal.ReadBuffer number) rest e
+
+      down : end.down ≡ ToTerminal.ReadBuffer number ∷ rest
+      down = sym c.down ∙ e
+
+      comes : ReadComes app end c.kept.wanted rest
+      comes = read_comes app end number rest down c.kept (agrees_still c)
+
+      is_bound_told : is_bound end.term ≡ true
+      is_bound_told = bound end c.kept.wanted comes.lu _ comes.at
+
+      old : Screen
+      old = end.term.display.screen
+
+      screen : Screen
+      screen = now.term.display.screen
+
+      read_so : Bool → LinkWithReport
+      read_so pa = record {
+        link = term_stepped (read_came now.term) rest now;
+        told = if pa then record now.term.display { screen = record screen { aid = t.told.screen.aid } } else t.told;
+        waits = t.waits;
+        cleared = t.cleared;
+      }
+
+      one : ToHost
+      one = ToHost.Data (buffer_data end.term.display.size old)
+
+      other : ToHost
+      other = ToHost.Data (buffer_data now.term.display.size screen)
+
+      unpainted : is_painting end.host.pending ≡ false
+      unpainted = ap is_painting comes.at.pending
+
+      counts : is_after_pa end.host.turn_reason ≡ is_pa t.told.screen.aid
+      counts = pa_counts end.host.turn_reason old.aid comes.fact.decides.turn_reason ∙ ap (λ (d : Display). is_pa d.screen.aid) c.display
+
+      -- after PA it is read once
+      told_no_pa : is_pa t.told.screen.aid ≡ false
+      told_no_pa = by_read gone.2
+        where
+          once : (b : Bool) → is_after_pa end.host.turn_reason ≡ b → is_unread end.host.turn_reason ≡ false → b ≡ false
+          once false after was = refl
+          once true after was = absurd (let wrong : false ≡ true = sym was ∙ comes.fact.unread after in cc)
+
+          by_read : HasRead t end → is_pa t.told.screen.aid ≡ false
+          by_read (HasRead.no_pa none) = none
+          by_read (HasRead.was_read turns was) = sym counts ∙ once (is_after_pa end.host.turn_reason) refl was
+          by_read (HasRead.is_read turns reads none first) = absurd (let wrong = sym none ∙ down in cc)
+          by_read (HasRead.was_shown paints none) = absurd (let wrong : false ≡ true = sym (ap is_painting comes.at.pending) ∙ paints in cc)
+
+      no_pa : is_after_pa end.host.turn_reason ≡ false
+      no_pa = counts ∙ told_no_pa
+
+      skips : is_read_believed end.host ≡ false
+      skips = read_skipped given end.host comes.number comes.at.turn comes.at.pending c.any no_pa c.returning
+
+      same_host : HostsAlike end now.host → now.host ≡ end.host
+      same_host (HostsAlike.same same) = same
+      same_host (HostsAlike.crossed paints harmless crossed) = absurd (let wrong : false ≡ true = sym unpainted ∙ paints in cc)
+      same_host (HostsAlike.erasing is_erasing is_now any) = absurd (let wrong : false ≡ true = sym (unpainted_erases end.host.pending unpainted) ∙ is_erasing in cc)
+
+      -- both displays have this size
+      same_shape : now.term.display.size ≡ end.host.size
+      same_shape = ap (λ (d : Display). d.size) (c.rest (λ paints. absurd (let wrong : false ≡ true = sym unpainted ∙ paints in cc))) ∙ comes.same
+
+      silent : end.up ≡ []
+      silent = empty_queue end.lost end.up comes.at.goes_up
+
+      said_none : c.up.said ≡ []
+      said_none = answers_silent end.host end.up c.up.said now.up silent c.up.alike
+
+      keys : AddsKeys c.clears t.cleared end.host.turn end.host.pending [] now.up
+      keys = subst (λ (said : List ToHost). AddsKeys c.clears t.cleared end.host.turn end.host.pending said now.up) said_none c.up.up
+
+      waiting : Link
+      waiting = term_view (read_came end.term) rest end
+
+      link : Link
+      link = term_stepped (read_came now.term) rest now
+
+      due : Fate end c.up.said now → now.lost ≡ false → (may_be_read end.host.unheard ≡ false) ⊎ (0 < clears_in now.up)
+      due (Fate.is_lost is) live = absurd (let wrong : false ≡ true = sym live ∙ is in cc)
+      due (Fate.is_due is) live =
+          inr (subst (λ (said : List ToHost). clears_in said < clears_in now.up) said_none
+          (subst (λ (b : Bool). clears_due b c.up.said < clears_due b now.up) (unpainted_erases end.host.pending unpainted) is))
+      due (Fate.was_heard none unheard) live = inl (sym (ap (λ (s : Session). may_be_read s.unheard) (same_host c.host)) ∙ unheard)
+      due (Fate.erases_next erasing none) live = absurd (let wrong : false ≡ true = sym (unpainted_erases end.host.pending unpainted) ∙ erasing in cc)
+
+      hears : (may_be_read end.host.unheard ≡ false) ⊎ (0 < clears_in now.up) → (not (may_be_read end.host.unheard) || clears_first (now.up ++ other ∷ [])) ≡ true
+      hears (inl heard) = ap (λ (b : Bool). not b || clears_first (now.up ++ other ∷ [])) heard
+      hears (inr some) = or_true (not (may_be_read end.host.unheard)) (clears_first (now.up ++ other ∷ [])) (keys_first c.clears t.cleared end.host.turn end.host.pending now.up (other ∷ []) some keys)
+        where
+          or_true : (b d : Bool) → d ≡ true → (b || d) ≡ true
+          or_true true d is = refl
+          or_true false d is = is
+
+      by_fate : now.lost ≡ false → Fate end c.up.said now → Fate waiting (other ∷ []) link
+      by_fate live (Fate.is_lost is) = Fate.is_lost is
+      by_fate live (Fate.was_heard none unheard) = Fate.was_heard none unheard
+      by_fate live (Fate.erases_next erasing none) = absurd (let wrong : false ≡ true = sym (unpainted_erases end.host.pending unpainted) ∙ erasing in cc)
+      by_fate live (Fate.is_due is) =
+          Fate.is_due (subst (λ (b : Bool). clears_due b (other ∷ []) < clears_due b link.up) (sym (unpainted_erases end.host.pending unpainted))
+          (subst (λ (up : List ToHost). clears_in (other ∷ []) < clears_in up) (sym (ap (λ (b : Bool). sent b now.up (other ∷ [])) live))
+          (due_read now.up other (some_due (due (Fate.is_due is) live)))))
+        where
+          some_due : (may_be_read end.host.unheard ≡ false) ⊎ (0 < clears_in now.up) → 0 < clears_in now.up
+          some_due either = subst (λ (said : List ToHost). clears_in said < clears_in now.up) said_none
+              (subst (λ (b : Bool). clears_due b c.up.said < clears_due b now.up) (unpainted_erases end.host.pending unpainted) is)
+
+      by_lost : (lost : Bool) → end.lost ≡ lost → BothRead one other (sent lost end.up (one ∷ [])) (sent lost now.up (other ∷ [])) waiting link
+      by_lost true is = record { says = c.up; fate = Fate.is_lost (c.lost ∙ is) }
+      by_lost false is = record {
+        says = record {
+          said = other ∷ [];
+          alike = AnswersAlike.behind_clear comes.number old screen [] comes.at.pending skips
+              (given.belief.unbroken false end.host.shadow old old comes.fact.decides.sees.meets (given.keys.at_first old.cells))
+              (ap (λ (l : List ToHost). l ++ one ∷ []) silent ∙ ap (λ (shape : ScreenSize). ToHost.Data (buffer_data shape old) ∷ []) comes.same)
+              (ap (λ (shape : ScreenSize). ToHost.Data (buffer_data shape screen) ∷ []) same_shape)
+              (hears (due gone.3 (c.lost ∙ is)));
+          up = same_last_too c.clears t.cleared end.host.turn end.host.pending [] now.up other (λ paints. absurd (let wrong : false ≡ true = sym unpainted ∙ paints in cc)) keys;
+        };
+        fate = by_fate (c.lost ∙ is) gone.3;
+      }
+
+      both : BothRead one other (sent end.lost end.up (one ∷ [])) (sent now.lost now.up (other ∷ [])) waiting link
+      both = subst (λ (lost : Bool). BothRead one other (sent end.lost end.up (one ∷ [])) (sent lost now.up (other ∷ [])) waiting link) (sym c.lost) (by_lost end.lost refl)
+
+      by_plain : IsPlain end screen → IsPlain waiting screen
+      by_plain (IsPlain.bare none size) = IsPlain.bare none size
+      by_plain (IsPlain.over_nothing nothing paints none) = absurd (let wrong : false ≡ true = sym unpainted ∙ paints in cc)
+
+      goes : Cleared app lu (read_so false)
+      goes = record {
+        told = waiting;
+        kept = subst (λ (b : Bool). ConnectionInvariant app (view_of (term_view (once_bound b (read_came end.term) end.term) rest end))) is_bound_told
+            (obeys given app is end (ToTerminal.ReadBuffer number) rest down c.kept).kept;
+        agreed = c.agreed;
+        any = c.any;
+        unsure = c.unsure;
+        marks = c.marks;
+        returning = c.returning;
+        display = c.display;
+        waits = c.waits;
+        bound = c.bound;
+        host_here = c.host_here;
+        term_here = c.term_here;
+        host = HostsAlike.same (same_host c.host);
+        lost = c.lost;
+        down = refl;
+        talk = c.talk;
+        clears = c.clears;
+        up = both.says;
+        stage = Stage.gone gone.0 gone.1 (HasRead.no_pa told_no_pa) both.fate;
+        model = c.model;
+        rest = λ shown. c.rest (λ paints. absurd (let wrong : false ≡ true = sym unpainted ∙ paints in cc));
+        plain = λ cleared. by_plain (c.plain cleared);
+      }

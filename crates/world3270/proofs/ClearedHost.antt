@@ -36,19 +36,19 @@ use Rattle.world3270.specs.refinement.Invariant.{ConnectionInvariant}
 use Rattle.world3270.specs.refinement.Phases.{Kind}
 use Rattle.world3270.specs.refinement.View.{view_of}
 use Rattle.world3270.proofs.Acting.{acts, answers_are_shown, asking_parts, loses, may_act_at, may_act_when}
-use Rattle.world3270.proofs.Cleared.{Cleared, Follows, HearsOfClear, HostsAlike, IsPlain, PaintAnswered, Stage, agrees_still, but_belief, hearing_clear, hears_of_clear, may_change, paint_answers, still_cleared}
-use Rattle.world3270.proofs.ClearedQueue.{AddsKeys, DoesNoHarm, IsAnyKey, SaysToo, alike_cleared, clear_dropped, clears_behind, erases, noted_keys, only_keys, second_keys, second_of}
+use Rattle.world3270.proofs.Cleared.{Cleared, Follows, HasRead, HearsOfClear, HostsAlike, IsPlain, PaintAnswered, Stage, agrees_still, but_belief, hearing_clear, hears_of_clear, may_change, paint_answers, still_cleared}
+use Rattle.world3270.proofs.ClearedQueue.{AddsKeys, AnswersAlike, DoesNoHarm, IsAnyKey, SaysToo, answers_hearing, answers_dropped, answers_heard, answers_silent, answers_unread, answer_first, answer_lost, answer_next, clear_dropped, clears_behind, erases, no_clear_first, noted_keys, only_keys, second_keys, second_of}
 use Rattle.world3270.proofs.ClearsDue.{Fate, clears_due, clears_in, due_behind, due_dropped, erases_no_more}
-use Rattle.world3270.proofs.HeardTurns.{GoesOn, goes_on}
+use Rattle.world3270.proofs.HeardTurns.{GoesOn, goes_on, is_data}
 use Rattle.world3270.proofs.HostSteps.{act_changed, just_talks, still_changed}
 use Rattle.world3270.proofs.Noting.{notes}
 use Rattle.world3270.proofs.OneOfMany.{same_number}
 use Rattle.world3270.proofs.OverNothing.{same_taken}
 use Rattle.world3270.proofs.Queues.{nothing_sent}
 use Rattle.world3270.proofs.Returning.{HostReturns, returns_acted, returns_heard, returns_noted}
-use Rattle.world3270.proofs.SecondKeys.{IsSecondKey, SaysAlike, alike_silent, alike_unread, is_dropping, is_key, pending_after, second_key_dropped, turn_after, unless_read}
+use Rattle.world3270.proofs.SecondKeys.{IsSecondKey, SaysAlike, is_dropping, is_key, is_reading, pending_after, second_key_dropped, turn_after, unless_read}
 use Rattle.world3270.proofs.SimulatedHost.{act_drops, act_talk, may_note_when, nothing_up}
-use Rattle.world3270.proofs.Simulation.{HeardAlike, heads, heard_alike}
+use Rattle.world3270.proofs.Simulation.{HeardAlike, heads}
 use Rattle.world3270.proofs.Up.{Answered, answers, host_view, response_took}
 
 -- Clear or another key
@@ -64,9 +64,10 @@ clear_or (Pf number) = IsClearOr.pressed_another (λ is. absurd (cc))
 clear_or (Pa number) = IsClearOr.pressed_another (λ is. absurd (cc))
 
 -- what both say is nothing if the waiting terminal says nothing, and the other way round
-silent_told : (conn : Session) (told said : List ToHost) → said ≡ [] → SaysAlike conn told said → told ≡ []
-silent_told conn told said none (SaysAlike.same is) = sym is ∙ none
-silent_told conn told said none (SaysAlike.checked number one other rest pends skips one_kept other_kept is_told is_said) = absurd (let wrong = sym is_said ∙ none in cc)
+silent_told : (conn : Session) (told said real : List ToHost) → said ≡ [] → AnswersAlike conn told said real → told ≡ []
+silent_told conn told said real none (AnswersAlike.by_saying (SaysAlike.same is)) = sym is ∙ none
+silent_told conn told said real none (AnswersAlike.by_saying (SaysAlike.checked number one other rest pends skips one_kept other_kept is_told is_said)) = absurd (let wrong = sym is_said ∙ none in cc)
+silent_told conn told said real none (AnswersAlike.behind_clear number one other rest pends skips one_kept is_told is_said heard) = absurd (let wrong = sym is_said ∙ none in cc)
 
 -- where a paint erases, one waits for its answer
 pub paints_so : (pending : Pending) → erases pending ≡ true → is_painting pending ≡ true
@@ -127,6 +128,12 @@ key_unclear (Pa number) key = refl
 key_unclear NoAid key = refl
 key_unclear Clear key = absurd (cc)
 
+-- what is heard leaves the host its turn
+turns_then : (message : ToHost) (turn : Turn) → turn ≡ whose.Host → turn_after message turn ≡ whose.Host
+turns_then (ToHost.Data parts) turn turns = refl
+turns_then (ToHost.Response number verdict) turn turns = turns
+turns_then (ToHost.TalksUp saying) turn turns = turns
+
 -- ---- the host hears
 
 module _ (given : LowerLaws) (app : Application) (is_app : IsApplication app) (lu : List ℕ) (t : LinkWithReport) (c : Cleared app lu t) where
@@ -144,8 +151,9 @@ module _ (given : LowerLaws) (app : Application) (is_app : IsApplication app) (l
 
   -- the host is this one then, and the waiting terminal's that one
   dropped_so : (waiting : Session) (conn : Session) (rest : List ToHost) → ConnectionInvariant app (view_of (record told { host = waiting })) → waiting.talk ≡ told.host.talk → waiting.pending ≡ told.host.pending → waiting.shadow ≡ told.host.shadow → may_have_changed waiting.unheard ≡ true
-      → HostsAlike (record told { host = waiting }) conn → HostReturns waiting → (says : SaysToo c.clears t.cleared waiting told.up rest) → (Fate told c.up.said now → Fate (record told { host = waiting }) says.said (heard_by conn None [] rest).link) → Cleared app lu (heard_by conn None [] rest)
-  dropped_so waiting conn rest kept talk pending shadow any alike returns says fate =
+      → HostsAlike (record told { host = waiting }) conn → HostReturns waiting → (says : SaysToo c.clears t.cleared waiting told.up rest) → (Fate told c.up.said now → Fate (record told { host = waiting }) says.said (heard_by conn None [] rest).link)
+      → (HasRead t told → HasRead (heard_by conn None [] rest) (record told { host = waiting })) → Cleared app lu (heard_by conn None [] rest)
+  dropped_so waiting conn rest kept talk pending shadow any alike returns says fate read =
       still_cleared app lu t c (record told { host = waiting }) (heard_by conn None [] rest).link c.clears refl refl refl refl kept talk any alike c.lost (nothing_sent now.lost now.down ∙ c.down) returns says (by_stage c.stage)
       (λ shown paints none. shown (ap is_painting pending ∙ paints) none) by_plain
     where
@@ -154,7 +162,7 @@ module _ (given : LowerLaws) (app : Application) (is_app : IsApplication app) (l
       by_plain (IsPlain.over_nothing nothing paints silent) = IsPlain.over_nothing (shadow ∙ nothing) (ap is_painting pending ∙ paints) silent
 
       by_stage : Stage t told c.up.said → Stage (heard_by conn None [] rest) (record told { host = waiting }) says.said
-      by_stage (Stage.gone cleared locked no_pa was) = Stage.gone cleared locked no_pa (fate was)
+      by_stage (Stage.gone cleared locked has_read was) = Stage.gone cleared locked (read has_read) (fate was)
       by_stage (Stage.erased uncleared erasing silent since) = Stage.erased uncleared (ap erases pending ∙ erasing) silent since
 
   -- another second key is dropped
@@ -164,8 +172,16 @@ module _ (given : LowerLaws) (app : Application) (is_app : IsApplication app) (l
       let is : host_took pool now.host message ≡ dropping second.parts.aid now.host =
       second_key_dropped pool now.host message second agreed_now (may_change told now.host c.host c.any) (ap (λ (s : Session). is_dropping s.turn s.pending) (but_belief told now.host c.host) ∙ drops) in
       subst (λ (step : HostStep). Cleared app lu (record t { link = host_stepped step rest now })) (sym is)
-      (dropped_so told.host now.host rest c.kept refl refl refl c.any c.host c.returning (record { said = c.up.said; alike = c.up.alike; up = x }) fate)
+      (dropped_so told.host now.host rest c.kept refl refl refl c.any c.host c.returning (record { said = c.up.said; alike = answers_dropped told.host told.up c.up.said message second.parts rest second.is second.form (key_unclear second.parts.aid second.key) (subst (AnswersAlike told.host told.up c.up.said) queue c.up.alike); up = x }) fate read)
     where
+      read : HasRead t told → HasRead (heard_by now.host None [] rest) told
+      read (HasRead.no_pa none) = HasRead.no_pa none
+      read (HasRead.was_read turns was) = HasRead.was_read turns was
+      read (HasRead.was_shown paints silent) = HasRead.was_shown paints silent
+      read (HasRead.is_read turns reads silent first) =
+          HasRead.is_read turns reads silent
+          (answer_next now.lost message second.parts rest second.is second.form (key_unclear second.parts.aid second.key) (subst (λ (up : List ToHost). answer_first now.lost up ≡ true) queue first))
+
       fate : Fate told c.up.said now → Fate told c.up.said (heard_by now.host None [] rest).link
       fate (Fate.is_lost is) = Fate.is_lost is
       fate (Fate.is_due due) =
@@ -188,7 +204,7 @@ module _ (given : LowerLaws) (app : Application) (is_app : IsApplication app) (l
       harmless paints = by_said ((key.fits clear).1 paints)
         where
           by_said : (c.up.said ≡ []) ⊎ (erases told.host.pending ≡ true) → (told.up ≡ []) ⊎ (erases told.host.pending ≡ true)
-          by_said (inl none) = inl (silent_told told.host told.up c.up.said none c.up.alike)
+          by_said (inl none) = inl (silent_told told.host told.up c.up.said now.up none c.up.alike)
           by_said (inr erasing) = inr erasing
 
       -- while a paint waits for its answer
@@ -219,20 +235,44 @@ module _ (given : LowerLaws) (app : Application) (is_app : IsApplication app) (l
       fate_at waiting same true is (Fate.was_heard none unheard) = absurd (let wrong : true ≡ false = sym is ∙ none in cc)
       fate_at waiting same true is (Fate.erases_next erasing none) = Fate.erases_next (ap erases same ∙ is) none
 
-      no_pa : is_painting told.host.pending ≡ false → Stage t told c.up.said → is_pa told.term.display.screen.aid ≡ false
-      no_pa none (Stage.gone cleared locked it fate) = ap (λ (d : Display). is_pa d.screen.aid) c.display ∙ it
-      no_pa none (Stage.erased uncleared erasing silent since) = absurd (let wrong : false ≡ true = sym none ∙ paints_so told.host.pending erasing in cc)
+      -- no answer to a Read Buffer is behind it
+      none_behind : {Then : Type 0} → answer_first now.lost now.up ≡ true → Then
+      none_behind first = no_clear_first now.lost message key.parts rest key.is key.form clear (subst (λ (up : List ToHost). answer_first now.lost up ≡ true) queue first)
+
+      read_before : is_painting told.host.pending ≡ false → Stage t told c.up.said → (is_pa told.term.display.screen.aid ≡ false) ⊎ (is_unread told.host.turn_reason ≡ false)
+      read_before none (Stage.gone cleared locked (HasRead.no_pa it) fate) = inl (ap (λ (d : Display). is_pa d.screen.aid) c.display ∙ it)
+      read_before none (Stage.gone cleared locked (HasRead.was_read turns was) fate) = inr was
+      read_before none (Stage.gone cleared locked (HasRead.is_read turns reads silent first) fate) = none_behind first
+      read_before none (Stage.gone cleared locked (HasRead.was_shown paints silent) fate) = absurd (let wrong : false ≡ true = sym none ∙ paints in cc)
+      read_before none (Stage.erased uncleared erasing silent since) = absurd (let wrong : false ≡ true = sym none ∙ paints_so told.host.pending erasing in cc)
+
+      read_still : HasRead t told → HasRead (heard_by (hearing_clear now.host) None [] rest) told
+      read_still (HasRead.no_pa none) = HasRead.no_pa none
+      read_still (HasRead.was_read turns was) = HasRead.was_read turns was
+      read_still (HasRead.is_read turns reads silent first) = none_behind first
+      read_still (HasRead.was_shown paints silent) = HasRead.was_shown paints silent
+
+      read_hearing : is_painting told.host.pending ≡ false → HasRead t told → HasRead (heard_by (hearing_clear now.host) None [] rest) (record told { host = hearing_clear told.host })
+      read_hearing none (HasRead.no_pa it) = HasRead.no_pa it
+      read_hearing none (HasRead.was_read turns was) = HasRead.was_read turns was
+      read_hearing none (HasRead.is_read turns reads silent first) = none_behind first
+      read_hearing none (HasRead.was_shown paints silent) = absurd (let wrong : false ≡ true = sym none ∙ paints in cc)
+
+      -- while a paint waits for its answer, no read does
+      alike_painting : is_painting told.host.pending ≡ true → AnswersAlike told.host told.up c.up.said rest
+      alike_painting paints =
+          AnswersAlike.by_saying (SaysAlike.same (answers_unread told.host told.up c.up.said now.up (λ number reads. absurd (let wrong : false ≡ true = sym (ap is_painting reads) ∙ paints in cc)) c.up.alike))
 
       by_painting : (paints : Bool) → is_painting told.host.pending ≡ paints → Cleared app lu (record t { link = host_stepped (host_took pool now.host message) rest now })
       by_painting true paints =
           goes (dropped_so told.host (hearing_clear now.host) rest c.kept refl refl refl c.any
           (hosts_hearing paints c.host) c.returning
-          (record { said = c.up.said; alike = c.up.alike; up = x }) (fate_at told.host refl (erases told.host.pending) refl))
+          (record { said = c.up.said; alike = alike_painting paints; up = x }) (fate_at told.host refl (erases told.host.pending) refl) read_still)
           (λ none. absurd (let wrong : true ≡ false = sym (painting_now ∙ paints) ∙ none in cc))
       by_painting false none =
-          let hears : HearsOfClear app told = hears_of_clear app told c.kept c.any (no_pa none c.stage) drops none in
+          let hears : HearsOfClear app told = hears_of_clear app told c.kept c.any (read_before none c.stage) drops none in
           goes (dropped_so (hearing_clear told.host) (hearing_clear now.host) rest hears.kept refl refl refl refl (HostsAlike.same (hearing_alike none c.host)) c.returning
-          (record { said = c.up.said; alike = alike_cleared told.host told.up c.up.said c.any c.up.alike; up = x }) (fate_at (hearing_clear told.host) refl (erases told.host.pending) refl))
+          (record { said = c.up.said; alike = answers_hearing told.host told.up c.up.said now.up rest c.any c.up.alike; up = x }) (fate_at (hearing_clear told.host) refl (erases told.host.pending) refl) (read_hearing none))
           (λ unpainted. ap (λ (s : Session). is_unread s.turn_reason) (but_belief told now.host c.host) ∙ hears.read)
 
   -- Any other message is heard of both; of what the waiting terminal says first the host makes the same.
@@ -304,10 +344,25 @@ module _ (given : LowerLaws) (app : Application) (is_app : IsApplication app) (l
       by_plain (IsPlain.bare none size) = IsPlain.bare none size
       by_plain (IsPlain.over_nothing nothing paints silent) = absurd (shown_before paints silent)
 
+      -- after a Read Buffer was answered the screen is read
+      read_on : HasRead t told → HasRead (heard_by step.conn None step.sends rest) (host_view step others told)
+      read_on (HasRead.no_pa none) = HasRead.no_pa none
+      read_on (HasRead.was_shown paints silent) = absurd (shown_before paints silent)
+      read_on (HasRead.was_read turns was) = by_data (is_data first) refl
+        where
+          by_data : (b : Bool) → is_data first ≡ b → HasRead (heard_by step.conn None step.sends rest) (host_view step others told)
+          by_data true of_data = HasRead.was_read (goes.turn ∙ turns_then first told.host.turn turns) (goes.reads of_data turns)
+          by_data false other = HasRead.was_read (goes.turn ∙ turns_then first told.host.turn turns) (ap is_unread (goes.reason other) ∙ was)
+      read_on (HasRead.is_read turns reads silent first_up) = by_data (is_data first) refl
+        where
+          by_data : (b : Bool) → is_data first ≡ b → HasRead (heard_by step.conn None step.sends rest) (host_view step others told)
+          by_data true of_data = HasRead.was_read (goes.turn ∙ turns_then first told.host.turn turns) (goes.reads of_data turns)
+          by_data false other = absurd (let wrong : false ≡ true = sym (goes.answers other) ∙ reads in cc)
+
       by_stage : Stage t told c.up.said → Follows app lu (heard_by step.conn None step.sends rest)
-      by_stage (Stage.gone cleared locked no_pa was) =
+      by_stage (Stage.gone cleared locked has_read was) =
           Follows.cleared (still_cleared app lu t c (host_view step others told) (heard_by step.conn None step.sends rest).link (clears_behind message c.clears t.cleared) refl refl refl refl heard.kept goes.talk any
-          (HostsAlike.same refl) c.lost down returns (record { said = others; alike = SaysAlike.same refl; up = up }) (Stage.gone cleared locked no_pa (fate was)) (λ shown. shown_before) by_plain)
+          (HostsAlike.same refl) c.lost down returns (record { said = others; alike = AnswersAlike.by_saying (SaysAlike.same refl); up = up }) (Stage.gone cleared locked (read_on has_read) (fate was)) (λ shown. shown_before) by_plain)
       by_stage (Stage.erased uncleared erasing silent since) = Follows.simulated (record {
         told = host_view step others told;
         kept = heard.kept;
@@ -362,12 +417,10 @@ module _ (given : LowerLaws) (app : Application) (is_app : IsApplication app) (l
 
       -- both say the same, since no read is pending
       message_is : (it : PaintAnswered told alike.first) → message ≡ ToHost.Response it.number Verdict.Positive
-      message_is it = heads message alike.first others others (sym some ∙ by_alike c.up.alike ∙ alike.is) ∙ it.first_is
-        where
-          by_alike : SaysAlike told.host told.up c.up.said → c.up.said ≡ told.up
-          by_alike (SaysAlike.same same) = same
-          by_alike (SaysAlike.checked number one other more pends skips one_kept other_kept is_told is_said) =
-              absurd (let wrong : Pending.Reading number ≡ Pending.Writing it.number it.command = sym pends ∙ it.pending in cc)
+      message_is it =
+          heads message alike.first others others
+          (sym some ∙ answers_unread told.host told.up c.up.said now.up (λ number reads. absurd (let wrong : Pending.Reading number ≡ Pending.Writing it.number it.command = sym reads ∙ it.pending in cc)) c.up.alike ∙ alike.is)
+          ∙ it.first_is
 
       by_erase : (shadow : Shadow) (unheard : Unheard) → now.host ≡ record told.host { shadow = shadow; unheard = unheard } → may_have_changed unheard ≡ true → erases told.host.pending ≡ true → host_took pool now.host message ≡ host_took pool told.host message
       by_erase shadow unheard is changed erasing =
@@ -398,7 +451,7 @@ module _ (given : LowerLaws) (app : Application) (is_app : IsApplication app) (l
       by_extra : AddsKeys c.clears t.cleared told.host.turn told.host.pending c.up.said (message ∷ rest) → Follows app lu (record t { link = host_stepped (host_took (answer_to entries) now.host message) rest now })
       by_extra (inl x) = Follows.cleared (by_key x.0 x.1 x.2 (clear_or x.1.parts.aid))
       by_extra (inr x) =
-          let alike = heard_alike (answer_to entries) told.host told.up c.up.said message x.0 (agrees_still c) x.1 c.up.alike in
+          let alike = answers_heard (answer_to entries) told.host told.up c.up.said message rest x.0 (agrees_still c) x.1 (subst (AnswersAlike told.host told.up c.up.said) is c.up.alike) in
           hears_both entries sound message (made_alike entries message x.0 x.1 alike) rest x.0 is x.1 alike x.2
 
 -- ---- the host sends
@@ -443,19 +496,20 @@ module _ (given : LowerLaws) (app : Application) (is : IsApplication app) (lu : 
   sends_so sending = record t { link = host_sent sending t.link }
 
   -- where no paint waits for its answer, the screen was cleared
-  gone_now : {later : LinkWithReport} {link : Link} {said : List ToHost} → is_painting end.host.pending ≡ false → Stage t end c.up.said → later.cleared ≡ t.cleared → later.told ≡ t.told → link.term ≡ end.term → (Fate end c.up.said t.link → Fate link said later.link)
-      → Stage later link said
-  gone_now unpainted (Stage.gone cleared locked no_pa was) same told term fate =
-      Stage.gone (same ∙ cleared) (ap (λ (e : TermEnd). e.display.keyboard.lock) term ∙ locked) (ap (λ (d : Display). is_pa d.screen.aid) told ∙ no_pa) (fate was)
-  gone_now unpainted (Stage.erased uncleared erasing silent since) same told term fate = absurd (let wrong : false ≡ true = sym unpainted ∙ paints_so end.host.pending erasing in cc)
+  gone_now : {later : LinkWithReport} {link : Link} {said : List ToHost} → is_painting end.host.pending ≡ false → Stage t end c.up.said → later.cleared ≡ t.cleared → link.term ≡ end.term → (Fate end c.up.said t.link → Fate link said later.link)
+      → (HasRead t end → HasRead later link) → Stage later link said
+  gone_now unpainted (Stage.gone cleared locked has_read was) same term fate read =
+      Stage.gone (same ∙ cleared) (ap (λ (e : TermEnd). e.display.keyboard.lock) term ∙ locked) (read has_read) (fate was)
+  gone_now unpainted (Stage.erased uncleared erasing silent since) same term fate read = absurd (let wrong : false ≡ true = sym unpainted ∙ paints_so end.host.pending erasing in cc)
 
   -- both ends send this
   both_send : (sending : Sent) → ConnectionInvariant app (view_of (host_sent (Some sending) end)) → sending.conn.talk ≡ end.host.talk → may_have_changed sending.conn.unheard ≡ true → HostReturns sending.conn
-      → AddsKeys c.clears t.cleared sending.conn.turn sending.conn.pending end.up t.link.up → is_painting end.host.pending ≡ false → (Fate end c.up.said t.link → Fate (host_sent (Some sending) end) end.up (host_sent (Some sending) t.link)) → Cleared app lu (sends_so (Some sending))
-  both_send sending kept talk any returning up unpainted fate =
+      → AddsKeys c.clears t.cleared sending.conn.turn sending.conn.pending end.up t.link.up → is_painting end.host.pending ≡ false → (Fate end c.up.said t.link → Fate (host_sent (Some sending) end) end.up (host_sent (Some sending) t.link))
+      → (HasRead t end → HasRead (sends_so (Some sending)) (host_sent (Some sending) end)) → Cleared app lu (sends_so (Some sending))
+  both_send sending kept talk any returning up unpainted fate read =
       still_cleared app lu t c (host_sent (Some sending) end) (host_sent (Some sending) t.link) c.clears refl refl refl refl kept talk any (HostsAlike.same refl) c.lost
       (ap (λ (lost : Bool). sent lost t.link.down (sending.message ∷ [])) c.lost ∙ ap (λ (down : List ToTerminal). sent end.lost down (sending.message ∷ [])) c.down) returning
-      (record { said = end.up; alike = SaysAlike.same refl; up = up }) (gone_now unpainted c.stage refl refl refl fate)
+      (record { said = end.up; alike = AnswersAlike.by_saying (SaysAlike.same refl); up = up }) (gone_now unpainted c.stage refl refl fate read)
       (λ shown paints none. absurd (let wrong : false ≡ true = sym unpainted ∙ paints in cc)) by_plain
     where
       by_plain : IsPlain end t.link.term.display.screen → IsPlain (host_sent (Some sending) end) t.link.term.display.screen
@@ -475,12 +529,19 @@ module _ (given : LowerLaws) (app : Application) (is : IsApplication app) (lu : 
     where
       due_now : clears_in end.up < clears_in t.link.up
       due_now =
-          subst (λ (said : List ToHost). clears_in said < clears_in t.link.up) (alike_silent end.host end.up c.up.said silent c.up.alike ∙ sym silent)
+          subst (λ (said : List ToHost). clears_in said < clears_in t.link.up) (answers_silent end.host end.up c.up.said t.link.up silent c.up.alike ∙ sym silent)
           (subst (λ (b : Bool). clears_due b c.up.said < clears_due b t.link.up) (ap erases pends) due)
 
       by_erasing : (erasing : Bool) → erases (done app end.host act).conn.pending ≡ erasing → Fate (host_sent (Some (done app end.host act)) end) end.up (host_sent (Some (done app end.host act)) t.link)
       by_erasing true is = Fate.erases_next is silent
       by_erasing false is = Fate.is_due (subst (λ (b : Bool). clears_due b end.up < clears_due b t.link.up) (sym is) due_now)
+
+  read_acted : (act : Act) → end.host.pending ≡ Pending.Nothing → end.up ≡ [] → HasRead t end → HasRead (sends_so (Some (done app end.host act))) (host_sent (Some (done app end.host act)) end)
+  read_acted act pends silent (HasRead.no_pa none) = HasRead.no_pa none
+  read_acted act pends silent (HasRead.is_read turns reads none first) = absurd (let wrong : false ≡ true = sym (ap is_reading pends) ∙ reads in cc)
+  read_acted act pends silent (HasRead.was_shown paints none) = absurd (let wrong : false ≡ true = sym (ap is_painting pends) ∙ paints in cc)
+  read_acted Act.Read pends silent (HasRead.was_read turns was) = HasRead.was_read turns was
+  read_acted (Act.Show panel message keep values) pends silent (HasRead.was_read turns was) = HasRead.was_shown refl silent
 
   -- an act
   both_act : (act : Act) → t.link.host ≡ end.host → may_act_now ≡ true → ConnectionInvariant app (view_of (host_sent (Some (done app end.host act)) end)) → Cleared app lu (sends_so (Some (done app end.host act)))
@@ -492,8 +553,8 @@ module _ (given : LowerLaws) (app : Application) (is : IsApplication app) (lu : 
       (returns_acted given app is c.marks end c.kept (may_act_at given app is end c.kept when.0 when.1 (agrees_still c)) when.0 when.1 (still_changed end.host.unheard ∙ c.any) c.returning act)
       (subst (λ (told : List ToHost). AddsKeys c.clears t.cleared sending.conn.turn sending.conn.pending told t.link.up) (sym none)
       (only_keys c.clears t.cleared end.host.turn sending.conn.turn end.host.pending sending.conn.pending t.link.up (act_drops app end.host act when.0)
-      (subst (λ (said : List ToHost). AddsKeys c.clears t.cleared end.host.turn end.host.pending said t.link.up) (alike_silent end.host end.up c.up.said none c.up.alike) c.up.up)))
-      (ap is_painting when.1) (fate_acted act same when.1 none)
+      (subst (λ (said : List ToHost). AddsKeys c.clears t.cleared end.host.turn end.host.pending said t.link.up) (answers_silent end.host end.up c.up.said t.link.up none c.up.alike) c.up.up)))
+      (ap is_painting when.1) (fate_acted act same when.1 none) (read_acted act when.1 none)
 
   -- a host that has heard of Clear while a paint is under way sends nothing
   waits_on : (sends : Session → Option Sent) → ((conn : Session) → is_painting conn.pending ≡ true → sends conn ≡ None) → (t.link.host ≡ end.host → Cleared app lu (sends_so (sends end.host))) → Cleared app lu (sends_so (sends t.link.host))
@@ -543,19 +604,28 @@ module _ (given : LowerLaws) (app : Application) (is : IsApplication app) (lu : 
           let when = may_note_when end.host.turn end.host.pending (is_agreed end.host.talk.state) may in
           let command = note_command end.host.size text in
           let up : AddsKeys c.clears t.cleared end.host.turn end.host.pending end.up t.link.up =
-          subst (λ (said : List ToHost). AddsKeys c.clears t.cleared end.host.turn end.host.pending said t.link.up) (alike_unread end.host end.up c.up.said when.1 c.up.alike) c.up.up in
+          subst (λ (said : List ToHost). AddsKeys c.clears t.cleared end.host.turn end.host.pending said t.link.up) (answers_unread end.host end.up c.up.said t.link.up (unread when.1) c.up.alike) c.up.up in
           both_send (noted_as text end.host) kept refl c.any (returns_noted given app is text is_text end c.kept when.0 when.1 c.returning)
           (subst (λ (turn : Turn). AddsKeys c.clears t.cleared turn (Pending.Noting end.host.next_seq command) end.up t.link.up) (sym when.0)
           (noted_keys c.clears t.cleared end.host.next_seq command end.up t.link.up
           (subst (λ (turn : Turn). AddsKeys c.clears t.cleared turn Pending.Nothing end.up t.link.up) when.0 (subst (λ (pending : Pending). AddsKeys c.clears t.cleared end.host.turn pending end.up t.link.up) when.1 up))))
-          (ap is_painting when.1) (fate_noted same when.1)
+          (ap is_painting when.1) (fate_noted same when.1) (read_noted when.0 when.1)
         where
+          read_noted : end.host.turn ≡ whose.Terminal → end.host.pending ≡ Pending.Nothing → HasRead t end → HasRead (sends_so (Some (noted_as text end.host))) (host_sent (Some (noted_as text end.host)) end)
+          read_noted turn pends (HasRead.no_pa none) = HasRead.no_pa none
+          read_noted turn pends (HasRead.was_read turns was) = absurd (let wrong = sym turn ∙ turns in cc)
+          read_noted turn pends (HasRead.is_read turns reads none first) = absurd (let wrong = sym turn ∙ turns in cc)
+          read_noted turn pends (HasRead.was_shown paints none) = absurd (let wrong : false ≡ true = sym (ap is_painting pends) ∙ paints in cc)
+
+          unread : end.host.pending ≡ Pending.Nothing → (number : ℕ) → end.host.pending ≡ Pending.Reading number → ⊥
+          unread pends number reads = let wrong : Pending.Nothing ≡ Pending.Reading number = sym pends ∙ reads in absurd (cc)
+
           fate_noted : t.link.host ≡ end.host → end.host.pending ≡ Pending.Nothing → Fate end c.up.said t.link → Fate (host_sent (Some (noted_as text end.host)) end) end.up (host_sent (Some (noted_as text end.host)) t.link)
           fate_noted same pends (Fate.is_lost lost) = Fate.is_lost lost
           fate_noted same pends (Fate.erases_next erasing none) = absurd (let wrong : false ≡ true = sym (ap erases pends) ∙ erasing in cc)
           fate_noted same pends (Fate.was_heard none unheard) = Fate.was_heard refl (sym (ap (λ (s : Session). may_be_read s.unheard) same) ∙ unheard)
           fate_noted same pends (Fate.is_due due) =
-              Fate.is_due (subst (λ (said : List ToHost). clears_in said < clears_in t.link.up) (alike_unread end.host end.up c.up.said pends c.up.alike)
+              Fate.is_due (subst (λ (said : List ToHost). clears_in said < clears_in t.link.up) (answers_unread end.host end.up c.up.said t.link.up (unread pends) c.up.alike)
               (subst (λ (b : Bool). clears_due b c.up.said < clears_due b t.link.up) (ap erases pends) due))
 
   pub loses_cleared : Cleared app lu (record t { link = cut t.link })
@@ -565,8 +635,14 @@ module _ (given : LowerLaws) (app : Application) (is : IsApplication app) (lu : 
       lost_plain (IsPlain.bare none size) = IsPlain.bare none size
       lost_plain (IsPlain.over_nothing nothing paints silent) = IsPlain.over_nothing nothing paints silent
 
+      lost_read : HasRead t end → HasRead (record t { link = cut t.link }) (cut end)
+      lost_read (HasRead.no_pa none) = HasRead.no_pa none
+      lost_read (HasRead.was_read turns was) = HasRead.was_read turns was
+      lost_read (HasRead.was_shown paints silent) = HasRead.was_shown paints silent
+      lost_read (HasRead.is_read turns reads silent first) = HasRead.is_read turns reads silent (answer_lost t.link.lost t.link.up first)
+
       lost_stage : Stage t end c.up.said → Stage (record t { link = cut t.link }) (cut end) c.up.said
-      lost_stage (Stage.gone cleared locked no_pa fate) = Stage.gone cleared locked no_pa (Fate.is_lost refl)
+      lost_stage (Stage.gone cleared locked has_read fate) = Stage.gone cleared locked (lost_read has_read) (Fate.is_lost refl)
       lost_stage (Stage.erased uncleared erasing silent since) = Stage.erased uncleared erasing silent since
 
       hosts_lost : HostsAlike end t.link.host → HostsAlike (cut end) t.link.host

@@ -124,6 +124,26 @@ due_answered said real number verdict due =
     subst (λ (n : ℕ). n < clears_in (real ++ ToHost.Response number verdict ∷ [])) (sym (answer_in said number verdict))
     (subst (λ (n : ℕ). clears_in said < n) (sym (answer_in real number verdict)) due)
 
+-- both say an answer to a Read Buffer last
+at_least : (real : List ToHost) (message : ToHost) → clears_in (message ∷ []) ≤ clears_in (real ++ message ∷ [])
+at_least [] message = by_same (clears_in (message ∷ []))
+  where
+    by_same : (n : ℕ) → n ≤ n
+    by_same n = omega arith
+at_least (first ∷ real) message = by_more (is_clear_data first) (clears_in (message ∷ [])) (clears_in (real ++ message ∷ [])) (at_least real message)
+  where
+    by_more : (b : Bool) (m n : ℕ) → m ≤ n → m ≤ one_more b n
+    by_more true m n less = omega arith
+    by_more false m n less = less
+
+read_behind : (b : Bool) (l m n : ℕ) → m ≤ n → (0 < l → m < n) → 0 < one_more b l → m < one_more b n
+read_behind true l m n at_most less some = omega arith
+read_behind false l m n at_most less some = less some
+
+pub due_read : (real : List ToHost) (message : ToHost) → 0 < clears_in real → clears_in (message ∷ []) < clears_in (real ++ message ∷ [])
+due_read [] message some = absurd (let wrong : ⊥ = omega arith in wrong)
+due_read (first ∷ real) message some = read_behind (is_clear_data first) (clears_in real) (clears_in (message ∷ [])) (clears_in (real ++ message ∷ [])) (at_least real message) (due_read real message) some
+
 -- ---- Clear is pressed
 
 -- what comes up has each Clear that both say

@@ -37,7 +37,7 @@ use Rattle.shadow.specs.Exactness.{is_erase}
 use Rattle.shadow.specs.Paint.{paint}
 use Rattle.world3270.specs.statement.TurnReasons.{IsOccasion}
 use Rattle.world3270.specs.statement.Asked.{AreFieldsAsked, IsKeyAsked, IsSeen, panel_with_keys}
-use Rattle.world3270.specs.statement.EveryTerminal.{AreByTheRules, CrossesNoClear, FirstPaint, EveryTerminal, IsByTheRules, IsRepeating, Move, RightOf, LinkWithReport, after_moves, came_down, came_up, moved, told_link}
+use Rattle.world3270.specs.statement.EveryTerminal.{AreByTheRules, FirstPaint, EveryTerminal, IsByTheRules, IsRepeating, Move, RightOf, LinkWithReport, after_moves, came_down, came_up, moved, told_link}
 use Rattle.world3270.specs.statement.Leading.{IsLedTo}
 use Rattle.world3270.specs.refinement.LowerLaws.{LowerLaws}
 use Rattle.world3270.specs.statement.Headline.{Agrees, IsHostsTurn, SeesTheScreen}
@@ -69,7 +69,7 @@ use Rattle.world3270.proofs.Simulation.{Simulated, since_same}
 use Rattle.world3270.proofs.Unreturned.{all_as_left, all_kept}
 use Rattle.world3270.proofs.Worlds.{some_cells}
 use Rattle.world3270.proofs.Cleared.{Cleared, Follows, HostsAlike, Stage, but_belief, hearing_clear}
-use Rattle.world3270.proofs.ClearedDown.{Gone, gone_now, noted_cleared, painted_erasing, talked_cleared}
+use Rattle.world3270.proofs.ClearedDown.{Gone, gone_now, noted_cleared, painted_erasing, read_cleared, talked_cleared}
 use Rattle.world3270.proofs.ClearedHost.{acts_cleared, answers_cleared, hears_cleared, loses_cleared, notes_cleared, painting_waits, paints_so}
 use Rattle.world3270.proofs.ClearedKeys.{operates_cleared, operates_first}
 use Rattle.world3270.proofs.Repeating.{AfterPaint, Repeating, acts_repeating, agrees_there, answers_repeating, hears_repeating, loses_repeating, notes_repeating, operates_repeating, paint_ruined}
@@ -189,7 +189,7 @@ module _ (given : LowerLaws) (app : Application) (is : IsApplication app) (lu : 
   move_still Move.Lose t rules s = loses_still given app is lu t s
 
 -- A terminal that waits is beside it, wherever that is: Clear wasn't pressed in the wait, or was, or crossed a paint that is repeated.
-data IsBeside (app : Application) (lu : List ℕ) (t : LinkWithReport) : Type 0 where
+pub data IsBeside (app : Application) (lu : List ℕ) (t : LinkWithReport) : Type 0 where
   follows : Follows app lu t → IsBeside app lu t
   repeats : Repeating app lu t → IsBeside app lu t
 
@@ -198,23 +198,23 @@ module _ (given : LowerLaws) (app : Application) (is : IsApplication app) (lu : 
   up_cleared t c pool sound [] is_up = Follows.cleared c
   up_cleared t c pool sound (message ∷ rest) is_up = hears_cleared given app is lu t c pool sound message rest is_up
 
-  down_cleared : (t : LinkWithReport) → Cleared app lu t → (down : List ToTerminal) → t.link.down ≡ down → (t.cleared ≡ true → CrossesNoClear down) → IsBeside app lu (came_down down t)
-  down_cleared t c [] is_down crosses = IsBeside.follows (Follows.cleared c)
-  down_cleared t c (ToTerminal.TalksDown saying ∷ rest) is_down crosses = talked_cleared given app is lu t c saying rest is_down
-  down_cleared t c (ToTerminal.ReadBuffer number ∷ rest) is_down crosses = absurd (crosses (gone_now given app is lu t c (ToTerminal.ReadBuffer number) rest is_down).0)
-  down_cleared t c (ToTerminal.Note number command ∷ rest) is_down crosses = IsBeside.follows (Follows.cleared (noted_cleared given app is lu t c number command rest is_down))
-  down_cleared t c (ToTerminal.Paint number wanted over ∷ rest) is_down crosses = by_erase (is_erase (paint (cells_in wanted.size) over wanted).code) refl
+  down_cleared : (t : LinkWithReport) → Cleared app lu t → (down : List ToTerminal) → t.link.down ≡ down → IsBeside app lu (came_down down t)
+  down_cleared t c [] is_down = IsBeside.follows (Follows.cleared c)
+  down_cleared t c (ToTerminal.TalksDown saying ∷ rest) is_down = talked_cleared given app is lu t c saying rest is_down
+  down_cleared t c (ToTerminal.ReadBuffer number ∷ rest) is_down = IsBeside.follows (Follows.cleared (read_cleared given app is lu t c number rest is_down))
+  down_cleared t c (ToTerminal.Note number command ∷ rest) is_down = IsBeside.follows (Follows.cleared (noted_cleared given app is lu t c number command rest is_down))
+  down_cleared t c (ToTerminal.Paint number wanted over ∷ rest) is_down = by_erase (is_erase (paint (cells_in wanted.size) over wanted).code) refl
     where
       gone : Gone given app is lu t c
       gone = gone_now given app is lu t c (ToTerminal.Paint number wanted over) rest is_down
 
       by_erase : (erases : Bool) → is_erase (paint (cells_in wanted.size) over wanted).code ≡ erases → IsBeside app lu (came_down (ToTerminal.Paint number wanted over ∷ rest) t)
       by_erase true erases = IsBeside.follows (Follows.cleared (painted_erasing given app is lu t c number wanted over rest is_down erases))
-      by_erase false keeps = IsBeside.repeats (paint_ruined app is lu t c gone.0 gone.1 gone.2 gone.3 number wanted over rest is_down keeps)
+      by_erase false keeps = IsBeside.repeats (paint_ruined app is lu t c gone.0 gone.1 gone.3 number wanted over rest is_down keeps)
 
   move_cleared : (move : Move) (t : LinkWithReport) → IsByTheRules move t → Cleared app lu t → IsBeside app lu (moved app move t)
   move_cleared (Move.Up pool) t sound c = IsBeside.follows (up_cleared t c pool sound t.link.up refl)
-  move_cleared Move.Down t rules c = down_cleared t c t.link.down refl rules
+  move_cleared Move.Down t rules c = down_cleared t c t.link.down refl
   move_cleared Move.Act t rules c = IsBeside.follows (Follows.cleared (acts_cleared given app is lu t c))
   move_cleared (Move.Answer said) t rules c = IsBeside.follows (Follows.cleared (answers_cleared given app is lu t c said))
   move_cleared (Move.Note text) t rules c = IsBeside.follows (Follows.cleared (notes_cleared given app is lu t c text rules))
@@ -238,7 +238,7 @@ module _ (given : LowerLaws) (app : Application) (is : IsApplication app) (lu : 
   move_repeating (Move.Operate step) t rules r = IsBeside.repeats (operates_repeating app lu t r step rules.0)
   move_repeating Move.Lose t rules r = IsBeside.repeats (loses_repeating app lu t r)
 
-  move_follows : (move : Move) (t : LinkWithReport) → IsByTheRules move t → IsBeside app lu t → IsBeside app lu (moved app move t)
+  pub move_follows : (move : Move) (t : LinkWithReport) → IsByTheRules move t → IsBeside app lu t → IsBeside app lu (moved app move t)
   move_follows move t rules (IsBeside.repeats r) = move_repeating move t rules r
   move_follows move t rules (IsBeside.follows (Follows.cleared c)) = move_cleared move t rules c
   move_follows (Move.Operate step) t rules (IsBeside.follows (Follows.simulated s)) = IsBeside.follows (operates_first given app lu t step rules s)
@@ -529,7 +529,7 @@ right_cleared given written kept app is lu t c = by_painting (is_painting c.told
     same_host unpainted (HostsAlike.erasing is_erasing is_now any) = absurd (let wrong : false ≡ true = sym unpainted ∙ paints_so c.told.host.pending is_erasing in cc)
 
     held : Stage t c.told c.up.said → t.cleared ≡ false → (erased : Bool) × KeptByKeys erased c.told.term.display.screen.cells t.link.term.display.screen.cells
-    held (Stage.gone cleared locked no_pa fate) uncleared = absurd (let wrong : true ≡ false = sym cleared ∙ uncleared in cc)
+    held (Stage.gone cleared locked read fate) uncleared = absurd (let wrong : true ≡ false = sym cleared ∙ uncleared in cc)
     held (Stage.erased never erasing silent since) uncleared = (since.erased, since.held)
 
     by_painting : (paints : Bool) → is_painting c.told.host.pending ≡ paints → RightOf app lu t
@@ -592,11 +592,13 @@ right_repeating app lu t r = by_after r.after
 
 -- ---- the theorem
 
+-- wherever the terminal that waits is
+pub right_of_beside : LowerLaws → WrittenIsThere → KeptStaysThere → (app : Application) → IsApplication app → (lu : List ℕ) (t : LinkWithReport) → IsBeside app lu t → RightOf app lu t
+right_of_beside given written kept app is lu t (IsBeside.follows (Follows.simulated s)) = right_of given written kept app is lu t s
+right_of_beside given written kept app is lu t (IsBeside.follows (Follows.cleared c)) = right_cleared given written kept app is lu t c
+right_of_beside given written kept app is lu t (IsBeside.repeats r) = right_repeating app lu t r
+
 pub every_terminal : LowerLaws → WrittenIsThere → KeptStaysThere → EveryTerminal
 every_terminal given written kept app lu begin moves is begins rules =
-    by_case (moves_follow given app is lu moves begin rules (IsBeside.follows (Follows.simulated (begins_simulated given app is lu begin begins))))
-  where
-    by_case : IsBeside app lu (after_moves app moves begin) → RightOf app lu (after_moves app moves begin)
-    by_case (IsBeside.follows (Follows.simulated s)) = right_of given written kept app is lu (after_moves app moves begin) s
-    by_case (IsBeside.follows (Follows.cleared c)) = right_cleared given written kept app is lu (after_moves app moves begin) c
-    by_case (IsBeside.repeats r) = right_repeating app lu (after_moves app moves begin) r
+    right_of_beside given written kept app is lu (after_moves app moves begin)
+    (moves_follow given app is lu moves begin rules (IsBeside.follows (Follows.simulated (begins_simulated given app is lu begin begins))))

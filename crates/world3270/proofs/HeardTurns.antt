@@ -1,7 +1,7 @@
 -- Whose turn it is, and what is pending, once a message of a session was heard; the talk stays.
 use Rattle.std.proofs.Common.{◌≡◌, Bool, true, false, ℕ, Option, List, [], ◌∷◌, None, Result, Ok, Err, IsOkAnd, refl, ap, sym, subst, ◌∙◌}
 use Rattle.codes3270.specs.Size.{ScreenSize}
-use Rattle.codes3270.specs.declared.attention.Aid.TheVariants.{NoAid}
+use Rattle.codes3270.specs.declared.attention.Aid.TheVariants.{NoAid, Enter, Clear, Pf, Pa}
 use Rattle.datastream.specs.Grammar.{CommandParts}
 use Rattle.datastream.specs.InboundFields.{buffer_data}
 use Rattle.datastream.specs.InboundText.{InboundParts}
@@ -14,7 +14,7 @@ use Rattle.shadow.specs.declared.fault.HeardFault.{HeardFault}
 use Rattle.host_core.specs.Application.{Application}
 use Rattle.host_core.specs.Messages.{ToHost, Verdict}
 use Rattle.host_core.specs.Session.{Session, Pending, is_agreed}
-use Rattle.host_core.specs.Takes.{Answers, HostStep, believed, buffer_heard, hears, is_read_believed, once_read, only_read, quiet, took}
+use Rattle.host_core.specs.Takes.{Answers, HostStep, believed, buffer_heard, hears, is_read_believed, is_unread, once_read, only_read, quiet, took}
 use Rattle.host_core.specs.declared.turn.Turn.TheVariants as whose
 use Rattle.host_core.specs.declared.turn_reason.TurnReason.{TurnReason}
 use Rattle.host_core.specs.declared.turn_reason.TurnReason.TheVariants as turn_reasons
@@ -24,12 +24,12 @@ use Rattle.world3270.specs.refinement.Phases.{IsAt, Kind, LinkPhase, SessionPhas
 use Rattle.world3270.specs.refinement.Invariant.{Fact, ConnectionInvariant, Sizes, local_state_of}
 use Rattle.world3270.specs.refinement.View.{view_of}
 use Rattle.world3270.proofs.Queues.{front, nothing}
-use Rattle.world3270.proofs.SecondKeys.{pending_after, turn_after, unless_read}
+use Rattle.world3270.proofs.SecondKeys.{is_reading, pending_after, turn_after, unless_read}
 use Rattle.world3270.proofs.Up.{IsKeyTime, IsUncleared, buffer_counts, buffer_skipped, buffer_took, is_uncleared, key_took, response_took, unbroken_read}
 use Rattle.world3270.proofs.TalkStates.{agreed_there}
 
 -- whether the message is data
-abbrev is_data : ToHost → Bool
+abbrev pub is_data : ToHost → Bool
 is_data (ToHost.Data parts) = true
 is_data (ToHost.Response number verdict) = false
 is_data (ToHost.TalksUp saying) = false
@@ -47,6 +47,9 @@ pub record GoesOn (pool : Answers) (conn : Session) (message : ToHost) : Type 0 
   pub unheard : (took pool conn message).conn.unheard ≡ conn.unheard
   pub no_talk : is_talk message ≡ false
   pub pressed : is_data message ≡ true → (took pool conn message).conn.turn_reason ≡ turn_reasons.Agreement → ⊥
+  pub reason : is_data message ≡ false → (took pool conn message).conn.turn_reason ≡ conn.turn_reason
+  pub answers : is_data message ≡ false → is_reading conn.pending ≡ false
+  pub reads : is_data message ≡ true → conn.turn ≡ whose.Host → is_unread (took pool conn message).conn.turn_reason ≡ false
 
 -- what is believed leaves the turn to the host
 believed_turn : (P : Shadow → Type 0) (reason : TurnReason) (pending : Pending) (cursor : Option ℕ) (conn : Session) (r : Result Shadow HeardFault) → IsOkAnd r P
@@ -71,12 +74,19 @@ key_goes P pool conn parts agrees turns time form some ok =
       unheard = ap (λ (s : HostStep). s.conn.unheard) is ∙ then_this.4;
       no_talk = refl;
       pressed = λ of_data first. absurd (let both : turn_reasons.Key parts.aid false ≡ turn_reasons.Agreement = sym (ap (λ (s : HostStep). s.conn.turn_reason) is ∙ then_this.3) ∙ first in cc);
+      reason = λ no_data. absurd (cc);
+      answers = λ no_data. absurd (cc);
+      reads = λ of_data hosts. absurd (let wrong = sym turns ∙ hosts in cc);
     }
+
+not_reading : (kind : Kind) (number : ℕ) (command : CommandParts) → is_reading (awaiting kind number command) ≡ false
+not_reading Kind.APaint number command = refl
+not_reading Kind.ANote number command = refl
 
 response_goes : (pool : Answers) (conn : Session) (kind : Kind) (number : ℕ) (command : CommandParts) → is_agreed conn.talk.state ≡ true → conn.pending ≡ awaiting kind number command → IsUncleared kind conn.unheard → GoesOn pool conn (ToHost.Response number Verdict.Positive)
 response_goes pool conn kind number command agrees pends may =
     let is = response_took pool conn kind number command agrees pends may in
-    record { turn = ap (λ (s : HostStep). s.conn.turn) is; pending = ap (λ (s : HostStep). s.conn.pending) is; talk = ap (λ (s : HostStep). s.conn.talk) is; unheard = ap (λ (s : HostStep). s.conn.unheard) is; no_talk = refl; pressed = λ of_data. absurd (cc) }
+    record { turn = ap (λ (s : HostStep). s.conn.turn) is; pending = ap (λ (s : HostStep). s.conn.pending) is; talk = ap (λ (s : HostStep). s.conn.talk) is; unheard = ap (λ (s : HostStep). s.conn.unheard) is; no_talk = refl; pressed = λ of_data. absurd (cc); reason = λ no_data. ap (λ (s : HostStep). s.conn.turn_reason) is; answers = λ no_data. ap is_reading pends ∙ not_reading kind number command; reads = λ of_data. absurd (cc) }
 
 -- a screen is read after a key alone
 read_later : (reason : TurnReason) → (reason ≡ turn_reasons.Agreement → ⊥) → once_read reason ≡ turn_reasons.Agreement → ⊥
@@ -84,6 +94,16 @@ read_later turn_reasons.Agreement later first = later refl
 read_later (turn_reasons.Key aid buffered) later first = absurd (cc)
 read_later turn_reasons.Refusal later first = absurd (cc)
 read_later turn_reasons.Restoration later first = absurd (cc)
+
+read_by_then : (reason : TurnReason) → is_unread (once_read reason) ≡ false
+read_by_then turn_reasons.Agreement = refl
+read_by_then (turn_reasons.Key NoAid buffered) = refl
+read_by_then (turn_reasons.Key Enter buffered) = refl
+read_by_then (turn_reasons.Key Clear buffered) = refl
+read_by_then (turn_reasons.Key (Pf key) buffered) = refl
+read_by_then (turn_reasons.Key (Pa key) buffered) = refl
+read_by_then turn_reasons.Refusal = refl
+read_by_then turn_reasons.Restoration = refl
 
 buffer_goes : (P : Shadow → Type 0) (pool : Answers) (conn : Session) (size : ScreenSize) (screen : Screen) (number : ℕ) → is_agreed conn.talk.state ≡ true → conn.pending ≡ Pending.Reading number
     → rule_break conn.shadow screen.cells ≡ None → (conn.turn_reason ≡ turn_reasons.Agreement → ⊥) → IsOkAnd (hears (buffer_data size screen) conn) P → GoesOn pool conn (ToHost.Data (buffer_data size screen))
@@ -104,6 +124,9 @@ buffer_goes P pool conn size screen number agrees pends unbroken later ok = by_t
       unheard = ap (λ (s : HostStep). s.conn.unheard) (is ∙ heard_as) ∙ unheard;
       no_talk = refl;
       pressed = λ of_data first. read_later conn.turn_reason later (sym (ap (λ (s : HostStep). s.conn.turn_reason) (is ∙ heard_as) ∙ reason) ∙ first);
+      reason = λ no_data. absurd (cc);
+      answers = λ no_data. absurd (cc);
+      reads = λ of_data hosts. ap is_unread (ap (λ (s : HostStep). s.conn.turn_reason) (is ∙ heard_as) ∙ reason) ∙ read_by_then conn.turn_reason;
     }
 
     by_test : (b : Bool) → is_read_believed conn ≡ b → GoesOn pool conn (ToHost.Data read)

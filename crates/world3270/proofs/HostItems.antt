@@ -7,7 +7,7 @@ use Rattle.codes3270.specs.declared.attention.Aid.{Aid}
 use Rattle.codes3270.specs.declared.attention.Aid.TheVariants.{NoAid, Enter, Clear, Pf, Pa}
 use Rattle.datastream.specs.Escapes.{has_escapes, without_escapes}
 use Rattle.datastream.specs.Grammar.{set_buffer_address, start_field}
-use Rattle.datastream.specs.InboundText.{AreParts, InboundParts, IsCellPart, IsInbound, IsNoInbound, IsWhole, stands_alone}
+use Rattle.datastream.specs.InboundText.{AreParts, InboundParts, IsCellPart, IsInbound, IsNoInbound, IsWhole, is_text_char, stands_alone}
 use Rattle.datastream.specs.InboundText.IsInbound.{alone, long}
 use Rattle.datastream.specs.declared.inbound_part.Form.{Form}
 use Rattle.datastream.specs.declared.inbound_part.Form.TheVariants.{Buffer, Modified}
@@ -38,7 +38,7 @@ use Rattle.host_core.specs.declared.turn_reason.TurnReason.TheVariants as turn_r
 use Rattle.host_core.specs.declared.unheard.Unheard.TheVariants as unheards
 use Rattle.host_core.specs.Takes.{Answers, HostStep, believed, buffer_came, clear_came, closed_by, dropping, form_awaited, data_came, hears, is_unread, key_came, may_have_changed, out_of_turn, response_came, once_agreed, second_key, second_key_data, talked, took}
 use Rattle.world3270.specs.statement.Forms.{IsAwaitedBy}
-use Rattle.world3270.specs.refinement.Readings.{HasNoLeadingText, IsReadAs, IsSecondKeyIn, MayBeSent}
+use Rattle.world3270.specs.refinement.Readings.{IsReadAs, IsSecondKeyIn, MayBeSent, count_leading}
 use Rattle.world3270.specs.refinement.Represents.{OutcomeIs, RepresentsUp}
 use Rattle.world3270.specs.refinement.RepresentsEnds.{IsSaid}
 
@@ -87,37 +87,51 @@ first_of_cell (At address) front is = absurd is
 first_of_cell (Char char) front is = record { byte = char; more = []; is = is.1; no_address = λ same. not_stored (ap is_storable (sym same) ∙ is.0) }
 first_of_cell (Attr attr) front is = record { byte = start_field; more = is.0 ∷ []; is = is.2; no_address = other_order }
 
--- the fields of a screen that has fields begin with an address
-first_of_fields : (size : ℕ) (parts : List Part) (text : List ℕ) (byte : ℕ) (more : List ℕ) → HasNoLeadingText parts → AreParts size Modified parts text → text ≡ byte ∷ more → byte ≡ set_buffer_address
-first_of_fields size [] text byte more no_lead are is = let both : [] ≡ byte ∷ more = sym are ∙ is in absurd (cc)
-first_of_fields size (At address ∷ parts) text byte more no_lead are is =
-    heads byte set_buffer_address more (are.2.0 ∷ are.2.1 ∷ are.1) (sym is ∙ are.4 ∙ ap (λ (front : List ℕ). front ++ are.1) are.2.3)
-first_of_fields size (Char char ∷ parts) text byte more no_lead are is = absurd no_lead
-first_of_fields size (Attr attr ∷ parts) text byte more no_lead are is = absurd no_lead
+stored_no_order : is_text_char start_field ≡ true → ⊥
+stored_no_order e = cc
 
--- the data of a key on a screen with fields is no whole screen
-not_whole : (its size : ℕ) (parts cells : List Part) (text : List ℕ) → 0 < size → HasNoLeadingText parts → AreParts its Modified parts text → AreParts size Buffer cells text → length cells ≡ size → ⊥
-not_whole its size parts [] text some no_lead are whole sized = absurd (omega (arith, some, sized))
-not_whole its size parts (cell ∷ cells) text some no_lead are whole sized =
+behind : (x y : ℕ) (xs ys : List ℕ) → x ∷ xs ≡ y ∷ ys → xs ≡ ys
+behind x y xs ys e = cc
+
+-- the data of a key with fewer characters before its first address than a screen has is no whole screen
+not_whole : (its size : ℕ) (parts cells : List Part) (text : List ℕ) → count_leading parts < length cells → AreParts its Modified parts text → AreParts size Buffer cells text → ⊥
+not_whole its size parts [] text few are whole = absurd (omega (arith, few))
+not_whole its size [] (cell ∷ cells) text few are whole =
     let first = first_of_cell cell whole.0 whole.2 in
-    first.no_address (first_of_fields its parts text first.byte (first.more ++ whole.1) no_lead are (whole.4 ∙ ap (λ (front : List ℕ). front ++ whole.1) first.is))
+    let both : [] ≡ first.byte ∷ (first.more ++ whole.1) = sym are ∙ whole.4 ∙ ap (λ (front : List ℕ). front ++ whole.1) first.is in
+    absurd (cc)
+not_whole its size (At address ∷ parts) (cell ∷ cells) text few are whole =
+    let first = first_of_cell cell whole.0 whole.2 in
+    first.no_address
+    (heads first.byte set_buffer_address (first.more ++ whole.1) (are.2.0 ∷ are.2.1 ∷ are.1)
+    (sym (whole.4 ∙ ap (λ (front : List ℕ). front ++ whole.1) first.is) ∙ are.4 ∙ ap (λ (front : List ℕ). front ++ are.1) are.2.3))
+not_whole its size (Char char ∷ parts) (At address ∷ cells) text few are whole = absurd whole.2
+not_whole its size (Char char ∷ parts) (Char byte ∷ cells) text few are whole =
+    let both : char ∷ are.1 ≡ byte ∷ whole.1 =
+    sym (are.4 ∙ ap (λ (front : List ℕ). front ++ are.1) are.2.1) ∙ whole.4 ∙ ap (λ (front : List ℕ). front ++ whole.1) whole.2.1 in
+    not_whole its size parts cells whole.1 (omega (arith, few)) (subst (λ (t : List ℕ). AreParts its Modified parts t) (behind char byte are.1 whole.1 both) are.3) whole.3
+not_whole its size (Char char ∷ parts) (Attr attr ∷ cells) text few are whole =
+    let both : char ∷ are.1 ≡ start_field ∷ (whole.2.0 ∷ whole.1) =
+    sym (are.4 ∙ ap (λ (front : List ℕ). front ++ are.1) are.2.1) ∙ whole.4 ∙ ap (λ (front : List ℕ). front ++ whole.1) whole.2.2 in
+    stored_no_order (ap is_text_char (sym (heads char start_field are.1 (whole.2.0 ∷ whole.1) both)) ∙ are.2.0)
+not_whole its size (Attr attr ∷ parts) (cell ∷ cells) text few are whole = absurd are.2
 
-no_buffer : (size : ScreenSize) (parts buffer : InboundParts) (body : List ℕ) → 0 < cells_in size → parts.form ≡ Modified → HasNoLeadingText parts.parts → IsInbound parts body
+no_buffer : (size : ScreenSize) (parts buffer : InboundParts) (body : List ℕ) → count_leading parts.parts < cells_in size → parts.form ≡ Modified → IsInbound parts body
     → buffer.form ≡ Buffer → buffer.size ≡ size → IsInbound buffer body → ⊥
-no_buffer size parts buffer body some form no_lead (alone byte is_alone aid none nothing encoded) of_form of_size (alone other alone_too aid_too none_too nothing_too spelt_too) =
+no_buffer size parts buffer body few form (alone byte is_alone aid none nothing encoded) of_form of_size (alone other alone_too aid_too none_too nothing_too spelt_too) =
     let both : false ≡ true = sym (ap (λ (f : Form). stands_alone f buffer.aid) of_form) ∙ alone_too in absurd (cc)
-no_buffer size parts buffer body some form no_lead (long byte high low cursor text is_long aid at address are whole encoded) of_form of_size (alone other alone_too aid_too none_too nothing_too spelt_too) =
+no_buffer size parts buffer body few form (long byte high low cursor text is_long aid at address are whole encoded) of_form of_size (alone other alone_too aid_too none_too nothing_too spelt_too) =
     let both : false ≡ true = sym (ap (λ (f : Form). stands_alone f buffer.aid) of_form) ∙ alone_too in absurd (cc)
-no_buffer size parts buffer body some form no_lead (alone byte is_alone aid none nothing encoded) of_form of_size (long other high low cursor text is_long aid_too at address are whole spelt_too) =
+no_buffer size parts buffer body few form (alone byte is_alone aid none nothing encoded) of_form of_size (long other high low cursor text is_long aid_too at address are whole spelt_too) =
     let both : byte ∷ [] ≡ other ∷ high ∷ low ∷ text = sym encoded ∙ spelt_too in absurd (cc)
-no_buffer size parts buffer body some form no_lead (long byte high low cursor text is_long aid at address are whole encoded) of_form of_size (long other high' low' cursor' text' is_long' aid' at' address' are' whole' spelt') =
+no_buffer size parts buffer body few form (long byte high low cursor text is_long aid at address are whole encoded) of_form of_size (long other high' low' cursor' text' is_long' aid' at' address' are' whole' spelt') =
     let both : byte ∷ high ∷ low ∷ text ≡ other ∷ high' ∷ low' ∷ text' = sym encoded ∙ spelt' in
     let same : text ≡ text' = cc in
-    not_whole (cells_in parts.size) (cells_in size) parts.parts buffer.parts text' some no_lead
+    not_whole (cells_in parts.size) (cells_in size) parts.parts buffer.parts text'
+    (subst (λ (cells : ℕ). count_leading parts.parts < cells) (sym (subst (λ (f : Form). IsWhole (cells_in size) f buffer.parts) of_form (subst (λ (s : ScreenSize). IsWhole (cells_in s) buffer.form buffer.parts) of_size whole'))) few)
     (subst (λ (t : List ℕ). AreParts (cells_in parts.size) Modified parts.parts t) same
     (subst (λ (f : Form). AreParts (cells_in parts.size) f parts.parts text) form are))
     (subst (λ (f : Form). AreParts (cells_in size) f buffer.parts text') of_form (subst (λ (s : ScreenSize). AreParts (cells_in s) buffer.form buffer.parts text') of_size are'))
-    (subst (λ (f : Form). IsWhole (cells_in size) f buffer.parts) of_form (subst (λ (s : ScreenSize). IsWhole (cells_in s) buffer.form buffer.parts) of_size whole'))
 
 -- ---- a second key's data
 
@@ -221,7 +235,7 @@ heard_as_awaited : (conn : Session) (body : List ℕ) (parts read : InboundParts
     → read.form ≡ form_awaited conn.pending → read.size ≡ conn.size → IsInbound read body → read.form ≡ Modified
 heard_as_awaited conn body parts read (Pending.Reading number) pends second is form size is_read =
     let whole : form_awaited conn.pending ≡ Buffer = ap form_awaited pends in
-    absurd (no_buffer conn.size parts read body second.some second.form (second.no_lead whole) is (form ∙ whole) size is_read)
+    absurd (no_buffer conn.size parts read body (second.few whole) second.form is (form ∙ whole) size is_read)
 heard_as_awaited conn body parts read Pending.Nothing pends second is form size is_read = form ∙ ap form_awaited pends
 heard_as_awaited conn body parts read (Pending.Writing number command) pends second is form size is_read = form ∙ ap form_awaited pends
 heard_as_awaited conn body parts read (Pending.Noting number command) pends second is form size is_read = form ∙ ap form_awaited pends

@@ -440,7 +440,7 @@ module _ (given : LowerLaws) (panels : PanelsAreShown) (served : ServedIsMarked)
   represents = record {
     is_open = is_open_now (state_at number bytes.host) a.rest a.host a.is_open;
     stands = stands_moved number terminal bytes link stands a.there a.live (no_talk_under_way app link (good.links number) (has_agreed lu link.host.talk.state agreed)) (no_refusal_under_way app link (good.links number));
-    waits = refl;
+    pressed = record { waits_is = refl; first_is = λ waits. sym (ap (λ (d : Display). d.screen.aid) blank_is); cleared_is = refl };
     unnamed = refl;
     stored = record {
       sendable = subst (λ (d : Display). IsSendable d.screen) (sym blank_is) (blank_sendable (model_of now.device) app.begins is_app.begins);

@@ -53,6 +53,8 @@ pub mod Represents
 pub mod RepresentsLinks
 pub mod RepresentsScreens
 pub mod RepresentsSizes
+pub mod Executing
+pub mod ItemCodes
 pub mod RepresentsComing
 pub mod Places
 pub mod OtherTerminals
@@ -101,10 +103,11 @@ pub mod AnyTerminal
 pub mod AnyHost
 pub mod AnyHosts
 pub mod AnyBytes
-pub mod AnyReady
 pub mod AnySpelt
 pub mod AnyEvery
 pub mod AnyQueue
+pub mod WhileReading
+pub mod AnyBeside
 pub mod AnyLeads
 pub mod SaidUp
 pub mod UpCame

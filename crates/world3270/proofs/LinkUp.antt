@@ -29,7 +29,7 @@ pub talk_stands : (talk : List NegotiationMessage) → Pairwise RepresentsDown (
 talk_stands [] = tt
 talk_stands (saying ∷ talk) = (refl, talk_stands talk)
 
-saying_comes : (saying : NegotiationMessage) → IsSaid saying → CanCome record_limit (item_of saying)
+pub saying_comes : (saying : NegotiationMessage) → IsSaid saying → CanCome record_limit (item_of saying)
 saying_comes (NegotiationMessage.Opt verb code) is = tt
 saying_comes (NegotiationMessage.Sub sending) is = payload_fits sending is
 

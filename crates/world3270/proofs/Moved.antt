@@ -55,11 +55,11 @@ use Rattle.world3270.specs.refinement.View.{view_of}
 use Rattle.world3270.specs.statement.Always.{AlwaysOf}
 use Rattle.world3270.specs.statement.EveryTerminal.{EveryTerminal, FirstPaint, LinkWithReport, Move, after_moves, came_down, came_up, executed, is_shown, key_pressed, moved, paint_executed, told_if}
 use Rattle.world3270.specs.statement.EveryTerminalBytes.{Represents}
-use Rattle.world3270.specs.statement.Instances.{ConnectionsAreMoved, IsMoved, IsMovedOverBytes, IsTheSame, WorldsGoOnOverBytes, over_bytes}
+use Rattle.world3270.specs.statement.Instances.{ConnectionsAreMoved, IsMoved, IsMovedOverBytes, IsTheSame, WorldsGoOnOverBytes, over_bytes, pressed_in}
 use Rattle.world3270.specs.statement.RuleLaws.{KeepsTheRules}
 use Rattle.world3270.specs.statement.Rules.{Operates}
 use Rattle.world3270.proofs.Acting.{asking_parts, may_act_at, may_act_when}
-use Rattle.world3270.proofs.AnyTerminal.{more_moves, more_rules}
+use Rattle.world3270.proofs.AnyTerminal.{more_moves}
 use Rattle.world3270.proofs.ComesDown.{PaintComes, paint_comes}
 use Rattle.world3270.proofs.Down.{term_view}
 use Rattle.world3270.proofs.Everywhere.{Steps, everywhere}
@@ -76,7 +76,7 @@ use Rattle.world3270.proofs.AnyIgnored.{no_refusal_under_way, no_talk_under_way}
 use Rattle.world3270.proofs.Simulation.{has_agreed}
 use Rattle.world3270.proofs.SimulatedHost.{act_talk}
 use Rattle.world3270.proofs.Worlds.{GoodWorld, new_good, run_good}
-use Rattle.world3270.proofs.WithoutClear.{AreWithoutClear, IsWithoutClear, all_keep_rules, all_stay_uncleared}
+use Rattle.world3270.proofs.WithoutClear.{AreWithoutClear, IsWithoutClear, all_keep_rules, all_stay_uncleared, more_without}
 
 -- ---- a connection that was moved
 
@@ -108,7 +108,7 @@ module _ (app : Application) (link : Link) (m : WasMoved app link) where
     begin = m.begin;
     begins = m.begins;
     moves = m.moves ++ move ∷ [];
-    by_the_rules = more_rules app m.moves (move ∷ []) m.begin m.by_the_rules (rules, tt);
+    by_the_rules = more_without app m.moves (move ∷ []) m.begin m.by_the_rules (rules, tt);
     same = subst (IsTheSame new) (sym (more_moves app m.moves (move ∷ []) m.begin)) same;
   }
 
@@ -528,11 +528,11 @@ worlds_go_on known served every rules sending number terminal lu bytes is a =
       begins = goes.begins;
       moves = goes.moves;
       by_the_rules = goes.by_the_rules;
-      represents = subst (λ (l : Link). Represents number (record (over_bytes number terminal bytes) { waits = t.waits }) (record t { link = l })) (sym goes.same.link_is)
+      represents = subst (λ (l : Link). Represents number (record (over_bytes number terminal bytes) { pressed = pressed_in t }) (record t { link = l })) (sym goes.same.link_is)
           (record {
             is_open = is_open_now (state_at number bytes.host) a.rest a.host a.is_open;
             stands = stands_moved number terminal bytes link stands a.there a.live (no_talk_under_way app link kept_there (has_agreed lu link.host.talk.state agreed_there_now)) (no_refusal_under_way app link kept_there);
-            waits = refl;
+            pressed = record { waits_is = refl; first_is = λ waits. refl; cleared_is = refl };
             unnamed = refl;
             stored = subst (λ (p : Place). let display = display_at world p in CanBeSent display.size display.screen) place (world_facts.sendable terminal);
           });

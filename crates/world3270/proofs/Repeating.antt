@@ -40,14 +40,14 @@ use Rattle.world3270.specs.refinement.Invariant.{ConnectionInvariant}
 use Rattle.world3270.specs.refinement.LowerLaws.{LowerLaws}
 use Rattle.world3270.specs.refinement.Phases.{IsAt, IsInFlight, LinkPhase, SessionPhase}
 use Rattle.world3270.specs.refinement.View.{view_of}
-use Rattle.world3270.specs.statement.EveryTerminal.{LinkWithReport, is_clear, is_pa, operated, paint_executed, sends_clear, told_if}
+use Rattle.world3270.specs.statement.EveryTerminal.{LinkWithReport, is_clear, operated, paint_executed, sends_clear, told_if}
 use Rattle.world3270.specs.statement.Rules.{Operates, after_sending, data_by, edited, with_aid}
 use Rattle.world3270.specs.statement.Showing.{IsDecided}
 use Rattle.world3270.specs.statement.Shown.{is_painting}
 use Rattle.world3270.proofs.Acting.{loses, model_here}
-use Rattle.world3270.proofs.Cleared.{Cleared, HostsAlike, IsPlain, Stage, agrees_still, hearing_clear, may_change}
+use Rattle.world3270.proofs.Cleared.{Cleared, HasRead, HostsAlike, IsPlain, Stage, agrees_still, hearing_clear, may_change}
 use Rattle.world3270.proofs.ClearedHost.{IsClearOr, clear_or, key_unclear, no_act, no_answer, no_note, nothing_erases}
-use Rattle.world3270.proofs.ClearedQueue.{AddsKeys, clear_dropped, erases, is_any_key, other_key}
+use Rattle.world3270.proofs.ClearedQueue.{AddsKeys, AnswersAlike, answers_silent, clear_dropped, erases, is_any_key, other_key}
 use Rattle.world3270.proofs.ClearsDue.{Fate, clears_due, clears_in, is_clear_data, one_more}
 use Rattle.world3270.proofs.ClearedKeys.{any_key}
 use Rattle.world3270.proofs.ComesDown.{PaintComes, paint_comes}
@@ -55,7 +55,7 @@ use Rattle.world3270.proofs.OneOfMany.{same_number}
 use Rattle.world3270.proofs.Queues.{empty_queue, more, nothing_sent, still}
 use Rattle.world3270.proofs.Returning.{HostReturns}
 use Rattle.world3270.proofs.RuleKeys.{with_aid-aid}
-use Rattle.world3270.proofs.SecondKeys.{SaysAlike, alike_silent, is_dropping, second_key_dropped}
+use Rattle.world3270.proofs.SecondKeys.{SaysAlike, is_dropping, second_key_dropped}
 use Rattle.world3270.proofs.Sent.{key_aid, key_form}
 use Rattle.world3270.proofs.Simulation.{has_agreed, is_waiting}
 
@@ -137,7 +137,6 @@ pub record Repeating (app : Application) (lu : List ℕ) (t : LinkWithReport) : 
   pub marks : MarksInput app
   pub display : told.term.display ≡ record t.told { keyboard = told.term.display.keyboard }
   pub locked : told.term.display.keyboard.lock ≡ Wait
-  pub no_pa : is_pa t.told.screen.aid ≡ false
   pub bound : is_bound told.term ≡ true
   pub waits : t.waits ≡ true
   pub cleared : t.cleared ≡ true
@@ -170,7 +169,6 @@ changed app lu t r link host_here term_here lost down talk model after = record 
   marks = r.marks;
   display = r.display;
   locked = r.locked;
-  no_pa = r.no_pa;
   bound = r.bound;
   waits = r.waits;
   cleared = r.cleared;
@@ -191,7 +189,7 @@ changed app lu t r link host_here term_here lost down talk model after = record 
 
 -- ---- the paint is taken
 
-module _ (app : Application) (is : IsApplication app) (lu : List ℕ) (t : LinkWithReport) (c : Cleared app lu t) (cleared : t.cleared ≡ true) (locked : c.told.term.display.keyboard.lock ≡ Wait) (no_pa : is_pa t.told.screen.aid ≡ false) (fate : Fate c.told c.up.said t.link) where
+module _ (app : Application) (is : IsApplication app) (lu : List ℕ) (t : LinkWithReport) (c : Cleared app lu t) (cleared : t.cleared ≡ true) (locked : c.told.term.display.keyboard.lock ≡ Wait) (fate : Fate c.told c.up.said t.link) where
   abbrev end : Link
   end = c.told
 
@@ -227,7 +225,7 @@ module _ (app : Application) (is : IsApplication app) (lu : List ℕ) (t : LinkW
       exact_host none (HostsAlike.erasing is_erasing is_now any) = absurd (let wrong : false ≡ true = sym none ∙ is_erasing in cc)
 
       said_none : c.up.said ≡ []
-      said_none = alike_silent end.host end.up c.up.said silent c.up.alike
+      said_none = answers_silent end.host end.up c.up.said now.up silent c.up.alike
 
       keys : AreKeys now.up
       keys = all_keys c.clears t.cleared end now.up (subst (λ (said : List ToHost). AddsKeys c.clears t.cleared end.host.turn end.host.pending said now.up) said_none c.up.up)
@@ -254,7 +252,6 @@ module _ (app : Application) (is : IsApplication app) (lu : List ℕ) (t : LinkW
         marks = c.marks;
         display = c.display;
         locked = locked;
-        no_pa = no_pa;
         bound = c.bound;
         waits = c.waits ∙ ap is_waiting locked;
         cleared = cleared;
@@ -413,7 +410,6 @@ module _ (app : Application) (lu : List ℕ) (t : LinkWithReport) (r : Repeating
     marks = r.marks;
     display = r.display;
     locked = r.locked;
-    no_pa = r.no_pa;
     bound = r.bound;
     waits = refl;
     cleared = refl;
@@ -469,7 +465,6 @@ module _ (app : Application) (lu : List ℕ) (t : LinkWithReport) (r : Repeating
     marks = r.marks;
     display = r.display;
     locked = r.locked;
-    no_pa = r.no_pa;
     bound = r.bound;
     waits = r.waits;
     cleared = r.cleared;
@@ -629,8 +624,8 @@ module _ (given : LowerLaws) (app : Application) (is : IsApplication app) (lu : 
     down = ap (λ (lost : Bool). sent lost t.link.down (sending.message ∷ [])) r.lost ∙ ap (λ (down : List ToTerminal). sent old.lost down (sending.message ∷ [])) r.down;
     talk = r.talk;
     clears = true;
-    up = record { said = []; alike = SaysAlike.same (sym silent_up); up = keys_added t.cleared sending.conn.pending refl t.link.up keys };
-    stage = Stage.gone r.cleared r.locked r.no_pa (Fate.erases_next (nothing_erases Shadow.NothingKnown wants refl) silent_up);
+    up = record { said = []; alike = AnswersAlike.by_saying (SaysAlike.same (sym silent_up)); up = keys_added t.cleared sending.conn.pending refl t.link.up keys };
+    stage = Stage.gone r.cleared r.locked (HasRead.was_shown refl silent_up) (Fate.erases_next (nothing_erases Shadow.NothingKnown wants refl) silent_up);
     model = r.model;
     rest = λ shown. absurd (shown refl silent_up);
     plain = λ cleared. IsPlain.over_nothing refl refl silent_up;

@@ -1,6 +1,6 @@
 -- Bytes that stand for messages: each end makes of them what it makes of the messages.
-use Rattle.std.proofs.Common.{◌≡◌, ◌≤◌, ◌&&◌, ◌||◌, not, cond, if◌then◌else◌, ℕ, Bool, true, false, Option, None, List, [], ◌∷◌, ◌++◌, length, map, refl, ap, sym, subst, ◌∙◌, arith, Some, ◌==◌}
-use Rattle.world3270.proofs.RepresentsSizes.{read_as_written}
+use Rattle.std.proofs.Common.{◌≡◌, ◌≤◌, ◌&&◌, ◌||◌, not, cond, if◌then◌else◌, ℕ, Bool, true, false, Option, None, List, [], ◌∷◌, ◌++◌, length, map, refl, ap, sym, subst, ◌∙◌, arith}
+use Rattle.world3270.proofs.RepresentsSizes.{MayExecute, executes, paint_writes, read_as_written}
 use Rattle.shadow.specs.Sized.{MeetsIsOfSize}
 use Rattle.std.proofs.lemmas.Grind.{flat_map-append}
 use Rattle.std.proofs.lemmas.Bool.{and_parts, eqb-true}
@@ -27,9 +27,10 @@ use Rattle.keyboard.specs.State.{Keyboard, freed}
 use Rattle.keyboard.specs.declared.key.Pressed.{Pressed}
 use Rattle.keyboard.specs.declared.key.Pressed.TheVariants.{Done, Refused, Send}
 use Rattle.presentation.specs.Applied.{asked_by, asked_by_code}
-use Rattle.shadow.specs.Belief.{Shadow, Belief, cells_believed, cells_of_fields}
+use Rattle.shadow.specs.Belief.{Shadow}
 use Rattle.shadow.specs.Laws.{WantedIsPainted}
-use Rattle.shadow.specs.Paint.{paint, writes_over, is_base_size, erase_code, paint_code}
+use Rattle.shadow.specs.Paint.{paint}
+use Rattle.shadow.specs.Painted.{plainly_painted}
 use Rattle.shadow.specs.Pairs.{Pairwise}
 use Rattle.telnet_wire.specs.Items.{WireItem, Record, Opt as OptItem, item_tokens, CanCome, sent_bytes}
 use Rattle.telnet_wire.specs.Laws.{NothingIsRest, ReadingNothing, DeliveriesCompose, DeliveryGoesOn, ItemIsRead, ItemsAreRead}
@@ -59,9 +60,11 @@ use Rattle.term_core.specs.declared.outcome.Outcome.TheVariants.{DeviceEnd}
 use Rattle.host_core.specs.KeepAlive.{no_operation}
 use Rattle.host_core.specs.Messages.{ToTerminal, ToHost, Verdict}
 use Rattle.term_core.proofs.Lengths.{read_buffer_fits, read_modified_fits}
+use Rattle.world3270.proofs.Executing.{AnyTermTakes, ItemExecutes}
 use Rattle.world3270.proofs.RepresentsFits.{talk_comes}
 use Rattle.world3270.specs.refinement.Sendable.{CanBeSent}
 use Rattle.host_core.specs.Says.{command_header, read_buffer_command}
+use Rattle.world3270.specs.statement.EveryTerminal.{executed, paint_executed}
 use Rattle.world3270.specs.refinement.Represents.{BytesRepresent, IsPaint, IsRead, IsNoted, RepresentsDown, RepresentsUp, IsEnd, all_items, is_nop, without, without_nops, sized}
 use Rattle.world3270.specs.model.TrackedTerminals.{EndTakes, History, ByteEnd, ByteStep, restored_by}
 use Rattle.world3270.specs.refinement.RepresentsEnds.{PaintRepresents, IsSaid, NamesWanted, IsOpen, ItemComes, TermTakes, is_painted, IsUnmoved, NopHasNoEffect, WritesAreMarked, TermPresses, MayBePainted, MayTakeNote}
@@ -71,53 +74,27 @@ use Rattle.std.specs.Prelude.{is_some}
 
 -- ---- what is painted
 
--- a paint is a write that restores, with whichever of the three codes
-paint_writes : (size : ℕ) (believed : Shadow) (wanted : WantedScreen) → is_restoring_write (paint size believed wanted) ≡ true
-paint_writes size believed wanted = by_over (writes_over size believed)
-  where
-    restores : CommandCode → Bool
-    restores code = is_restoring_write (record (paint size believed wanted) { code = code })
-
-    by_base : (b : Bool) → restores (if b then EraseWrite else EraseWriteAlternate) ≡ true
-    by_base true = refl
-    by_base false = refl
-
-    by_over : (b : Bool) → restores (if b then Write else erase_code wanted.size) ≡ true
-    by_over true = refl
-    by_over false = by_base (is_base_size wanted.size)
-
--- a paint is a Write only if what is believed has the wanted size
-written_over : (n : ℕ) (believed : Shadow) (wanted : WantedScreen) → paint_code n believed wanted ≡ Write → cells_believed believed ≡ Some n
-written_over n believed wanted writes = by_belief believed writes
-  where
-    by_base : (b : Bool) → (if b then EraseWrite else EraseWriteAlternate) ≡ Write → ⊥
-    by_base true e = cc
-    by_base false e = cc
-
-    by_size : (beliefs : List Belief) (b : Bool) → (cells_of_fields beliefs == n) ≡ b → (if b then Write else erase_code wanted.size) ≡ Write → Some (cells_of_fields beliefs) ≡ Some n
-    by_size beliefs true e is = ap (λ (cells : ℕ). Some cells) (eqb-true (cells_of_fields beliefs) n e)
-    by_size beliefs false e is = absurd (by_base (is_base_size wanted.size) is)
-
-    by_belief : (shadow : Shadow) → paint_code n shadow wanted ≡ Write → cells_believed shadow ≡ Some n
-    by_belief Shadow.NothingKnown is = absurd (by_base (is_base_size wanted.size) is)
-    by_belief (Shadow.Unformatted known) is = absurd (by_base (is_base_size wanted.size) is)
-    by_belief (Shadow.Formatted beliefs) is = by_size beliefs (cells_of_fields beliefs == n) refl is
-
 pub paint_stands : WantedIsPainted → PaintRepresents
 paint_stands painted number wanted believed bytes body whole begins encoded fit = record {
   bytes = bytes;
   body = body;
-  command = paint (cells_in wanted.size) believed wanted;
   is_record = refl;
   begins = begins;
   encoded = encoded;
-  paints = record {
-    size = refl;
-    writes = paint_writes (cells_in wanted.size) believed wanted;
-    over = written_over (cells_in wanted.size) believed wanted;
-    paints = λ screen meets. painted believed wanted screen whole fit meets;
-  };
+  paints = λ screen meets. painted believed wanted screen whole fit meets;
 }
+
+-- a paint that leaves what is wanted is taken as one in a world
+pub drawn_alike : (number : ℕ) (wanted : WantedScreen) (over : Shadow) (end : TermEnd) → after_command (paint (cells_in wanted.size) over wanted) end.display.screen ≡ plainly_painted wanted end.display.screen
+    → paint_executed number wanted over end ≡ paint_came number wanted end
+drawn_alike number wanted over end is =
+    ap (λ (drawn : Screen). record {
+      end = record end {
+        display = record end.display { size = wanted.size; screen = drawn; keyboard = freed end.display.keyboard; last_restored = drawn; before_restored = end.display.screen; erased = false };
+      };
+      sends = ToHost.Response number Verdict.Positive ∷ [];
+      closes = None;
+    }) is
 
 -- ---- an end, but for its history
 
@@ -304,6 +281,16 @@ leaves (ToTerminal.Paint number wanted believed) end = leaves_painted (is_bound 
 leaves (ToTerminal.ReadBuffer number) end = leaves_read (is_bound end) end
 leaves (ToTerminal.Note number command) end = leaves_noted (is_bound end) number command end
 
+leaves_drawn : (bound : Bool) (number : ℕ) (wanted : WantedScreen) (over : Shadow) (end : TermEnd) → Leaves bound end.display (once_bound bound (paint_executed number wanted over end) end).end.display
+leaves_drawn true number wanted over end = record { last_restored = refl; before_restored = refl; erased = refl }
+leaves_drawn false number wanted over end = record { last_restored = refl; before_restored = refl; erased = refl }
+
+leaves_executed : (message : ToTerminal) (end : TermEnd) → Leaves (is_painted end message) end.display (executed end message).end.display
+leaves_executed (ToTerminal.Paint number wanted over) end = leaves_drawn (is_bound end) number wanted over end
+leaves_executed (ToTerminal.TalksDown saying) end = leaves (ToTerminal.TalksDown saying) end
+leaves_executed (ToTerminal.ReadBuffer number) end = leaves (ToTerminal.ReadBuffer number) end
+leaves_executed (ToTerminal.Note number command) end = leaves (ToTerminal.Note number command) end
+
 -- the history of the display
 record IsHistory (history : History) (display : Display) : Type 0 where
   last_restored : history.last_restored ≡ display.last_restored
@@ -374,19 +361,21 @@ module _ (sizes : MeetsIsOfSize) (one_header : OneHeader) (fault_or_header : Fau
   no_data ReadModifiedAll screen h = absurd (cc)
   no_data EraseAllUnprotected screen h = absurd (cc)
 
-  painted_same : (number : ℕ) (wanted : WantedScreen) (believed : Shadow) (talk next : Term) (old new : Station) (end : TermEnd) (sent : List WireItem) (closes : Option Cause)
-      (item : WireItem) (p : IsPaint item number wanted believed) → MayBePainted wanted believed end → CanBeSent end.display.size end.display.screen → IsSide talk old end
-      → TakesRecord old p.bytes sent closes new → next ≡ talk → SameItem next new sent closes true (paint_came number wanted end)
-  painted_same number wanted believed talk next old new end sent closes item p b r is taken same =
-      let encoded = spelt_for old end.display p.command p.body is.screen_is (read_as_written sizes number wanted believed item end p b r) in
-      let done = obeys old new p.bytes p.body sent closes (command_header always_response number) p.command refl p.begins encoded taken in
-      let parts = and_parts (is_write p.command.code) (asked_by p.command).restore p.paints.writes in
-      let silent = no_data p.command.code (after_command p.command old.screen.screen) parts.0 in
+  -- it leaves what its command leaves
+  executed_same : (number : ℕ) (wanted : WantedScreen) (believed : Shadow) (talk next : Term) (old new : Station) (end : TermEnd) (sent : List WireItem) (closes : Option Cause)
+      (item : WireItem) (p : IsPaint item number wanted believed) → MayExecute wanted believed end → CanBeSent end.display.size end.display.screen → IsSide talk old end
+      → TakesRecord old p.bytes sent closes new → next ≡ talk → SameItem next new sent closes true (paint_executed number wanted believed end)
+  executed_same number wanted believed talk next old new end sent closes item p may r is taken same =
+      let command : CommandParts = paint (cells_in wanted.size) believed wanted in
+      let encoded = spelt_for old end.display command p.body is.screen_is (read_as_written number wanted believed item end p may r) in
+      let done = obeys old new p.bytes p.body sent closes (command_header always_response number) command refl p.begins encoded taken in
+      let writes : is_restoring_write command ≡ true = paint_writes (cells_in wanted.size) believed wanted in
+      let parts = and_parts (is_write command.code) (asked_by command).restore writes in
+      let silent = no_data command.code (after_command command old.screen.screen) parts.0 in
       record {
         is_end = record {
           talk_is = same ∙ is.talk_is;
-          screen_is = ap (λ (s : Station). s.screen) done.becomes ∙ applied_so old end.display p.command wanted.size is.screen_is p.paints.size
-              ∙ ap (λ (s : Screen). record { model = end.display.model; size = wanted.size; screen = s }) (p.paints.paints end.display.screen b.meets);
+          screen_is = ap (λ (s : Station). s.screen) done.becomes ∙ applied_so old end.display command wanted.size is.screen_is refl;
           keyboard_is = ap (λ (s : Station). s.keyboard) done.becomes ∙ ap (λ (r : Bool). freed_if r old.keyboard) parts.1 ∙ ap freed is.keyboard_is;
         };
         said = subst (λ (items : List WireItem). Pairwise RepresentsUp items (ToHost.Response number Verdict.Positive ∷ []))
@@ -396,8 +385,16 @@ module _ (sizes : MeetsIsOfSize) (one_header : OneHeader) (fault_or_header : Fau
             (sym (done.said ∙ ap (λ (d : Option (List ℕ)). data_sent old.number d ++ done_response always_response number) silent))
             (omega arith, tt);
         closed = done.closed;
-        wrote = ap (λ (s : Station). s.took_write) done.becomes ∙ p.paints.writes;
+        wrote = ap (λ (s : Station). s.took_write) done.becomes ∙ writes;
       }
+
+  -- which is what is wanted, where the screen meets the belief
+  painted_same : (number : ℕ) (wanted : WantedScreen) (believed : Shadow) (talk next : Term) (old new : Station) (end : TermEnd) (sent : List WireItem) (closes : Option Cause)
+      (item : WireItem) (p : IsPaint item number wanted believed) → MayBePainted wanted believed end → CanBeSent end.display.size end.display.screen → IsSide talk old end
+      → TakesRecord old p.bytes sent closes new → next ≡ talk → SameItem next new sent closes true (paint_came number wanted end)
+  painted_same number wanted believed talk next old new end sent closes item p b r is taken same =
+      subst (λ (step : TermStep). SameItem next new sent closes true step) (drawn_alike number wanted believed end (p.paints end.display.screen b.meets))
+      (executed_same number wanted believed talk next old new end sent closes item p (executes sizes wanted believed end b) r is taken same)
 
   -- ---- a read
 
@@ -479,6 +476,47 @@ module _ (sizes : MeetsIsOfSize) (one_header : OneHeader) (fault_or_header : Fau
       comes.may.is_open (side_of old end comes.is_end) refl
       (noted_same number command old.talk step.end.talk (before_byte old.station) step.end.station end step.says step.closes item comes.stands comes.may (side_of old end comes.is_end))
       (subst (λ (i : WireItem). TakesItem old.talk (before_byte old.station) i step.says step.closes step.end.talk step.end.station) comes.stands.is_record comes.takes.takes))
+
+  -- at a terminal that executes what comes
+  any_item : SentIsRead → (message : ToTerminal) (item : WireItem) (old : ByteEnd) (end : TermEnd) (step : ByteStep) → ItemExecutes message item old end step
+      → SameItem step.end.talk step.end.station step.says step.closes (is_painted end message) (executed end message)
+  any_item reads (ToTerminal.Paint number wanted believed) item old end step comes =
+      subst (λ (b : Bool). SameItem step.end.talk step.end.station step.says step.closes b (once_bound (is_bound end) (paint_executed number wanted believed end) end)) (and_true (is_bound end))
+      (record_comes old.talk step.end.talk (before_byte old.station) step.end.station comes.stands.bytes end step.says step.closes (paint_executed number wanted believed end) true
+      comes.may.is_open (side_of old end comes.is_end) refl
+      (executed_same number wanted believed old.talk step.end.talk (before_byte old.station) step.end.station end step.says step.closes item comes.stands comes.may comes.sendable (side_of old end comes.is_end))
+      (subst (λ (i : WireItem). TakesItem old.talk (before_byte old.station) i step.says step.closes step.end.talk step.end.station) comes.stands.is_record comes.takes.takes))
+  any_item reads (ToTerminal.TalksDown saying) item old end step comes =
+      same_item reads (ToTerminal.TalksDown saying) item old end step (record { stands = comes.stands; may = comes.may; sendable = comes.sendable; is_end = comes.is_end; takes = comes.takes })
+  any_item reads (ToTerminal.ReadBuffer number) item old end step comes =
+      same_item reads (ToTerminal.ReadBuffer number) item old end step (record { stands = comes.stands; may = comes.may; sendable = comes.sendable; is_end = comes.is_end; takes = comes.takes })
+  any_item reads (ToTerminal.Note number command) item old end step comes =
+      same_item reads (ToTerminal.Note number command) item old end step (record { stands = comes.stands; may = comes.may; sendable = comes.sendable; is_end = comes.is_end; takes = comes.takes })
+
+  pub any_term_takes : SentIsRead → AnyTermTakes
+  any_term_takes reads message item old end step comes =
+      let same = any_item reads message item old end step comes in
+      let history : step.end.history ≡ restored_by (is_painted end message) old.station.screen.screen step.end.station.screen.screen old.history =
+      comes.takes.history ∙ ap (λ (w : Bool). restored_by w old.station.screen.screen step.end.station.screen.screen old.history) same.wrote in
+      let left = same_restored (is_painted end message) old.station step.end.station old.history end.display (executed end message).end.display
+      (record { last_restored = comes.is_end.last_restored_is; before_restored = comes.is_end.before_restored_is; erased = comes.is_end.erased_is })
+      (ap (λ (s : SizedScreen). s.screen) comes.is_end.screen_is) (ap (λ (s : SizedScreen). s.screen) same.is_end.screen_is) (leaves_executed message end) in
+      record {
+        same = record {
+          is_end = record {
+            talk_is = same.is_end.talk_is;
+            screen_is = same.is_end.screen_is;
+            keyboard_is = same.is_end.keyboard_is;
+            last_restored_is = ap (λ (h : History). h.last_restored) history ∙ left.last_restored;
+            before_restored_is = ap (λ (h : History). h.before_restored) history ∙ left.before_restored;
+            erased_is = ap (λ (h : History). h.erased) history ∙ left.erased;
+          };
+          said = same.said;
+          fit = same.fit;
+          closed = same.closed;
+        };
+        marked = same.wrote;
+      }
 
   pub writes_are_marked : SentIsRead → WritesAreMarked
   writes_are_marked reads message item old end step comes = (same_item reads message item old end step comes).wrote

@@ -4,6 +4,8 @@ use Rattle.std.proofs.lemmas.Grind.{flat_map-append}
 use Rattle.std.proofs.lemmas.List.{append-nil}
 use Rattle.std.specs.List.{AllByRecursion, list_any}
 use Rattle.world3270.specs.refinement.Sendable.{CanBeSent}
+use Rattle.datastream.specs.Wanted.{WantedScreen}
+use Rattle.shadow.specs.Belief.{Shadow}
 use Rattle.shadow.specs.Pairs.{Pairwise}
 use Rattle.telnet_wire.specs.Items.{WireItem, CanCome, item_tokens, sent_bytes}
 use Rattle.telnet_wire.specs.Laws.{WrongIsFinal}
@@ -26,8 +28,11 @@ use Rattle.world3270.specs.model.TrackedTerminals.{History, TrackedTerminal, mar
 use Rattle.world3270.specs.refinement.Representation.{with_out}
 use Rattle.world3270.specs.refinement.Represents.{RepresentsDown, RepresentsUp, BytesUp, BytesDown, BytesDownBy, ByteLink, IsEnd, Holds, BytesRepresent, HostRepresents, TermRepresents, TermRepresentsBy, LinkRepresents, LinkRepresentsBy, all_items, is_nop, without, without_nops}
 use Rattle.world3270.specs.refinement.RepresentsEnds.{IsOpen, TakesKeepSendable, TermTakes, is_painted, HaveNoEffect, NopHasNoEffect, WritesAreMarked, TermPresses}
-use Rattle.world3270.specs.refinement.RepresentsLinks.{RepresentsCompose, RepresentsGoOn, PressRepresents, MayComeAll, NoneCloses, took_down, fed, DownRepresents, DownIsNotRefused, any_painted, BytesAreMarked, HostSendsBy, ItemsAreSentBy, NopRepresentsBy, UpRepresentsBy, LossRepresents, HostLeaves, TermLeaves}
+use Rattle.world3270.specs.refinement.RepresentsLinks.{RepresentsCompose, RepresentsGoOn, TakesSome, PressRepresents, MayComeAll, NoneCloses, took_down, fed, DownRepresents, DownIsNotRefused, any_painted, BytesAreMarked, HostSendsBy, ItemsAreSentBy, NopRepresentsBy, UpRepresentsBy, LossRepresents, HostLeaves, TermLeaves}
 use Rattle.world3270.specs.model.Terminal.{TermEnd, TermStep, is_bound, note_came, once_bound, paint_came, read_came, took, key_came}
+use Rattle.world3270.specs.statement.EveryTerminal.{executed, paint_executed}
+use Rattle.world3270.specs.statement.EveryTerminalBytes.{item_completed}
+use Rattle.world3270.proofs.Executing.{AnyTermTakes, ExecutedStaysSendable, MayTake}
 use Rattle.world3270.proofs.Represents.{all_spoken, nop_is, pairs_more}
 
 -- ---- history
@@ -451,6 +456,117 @@ byte_came takes keeps no_effect goes_on final marks byte behind old new rest lin
   came = byte_comes takes keeps no_effect goes_on final byte [] behind old new new rest link (bytes_come takes keeps no_effect goes_on final [] behind new) holds down may none can taken.history taken.takes refl;
   marked = byte_marks takes keeps no_effect goes_on final marks byte behind old new rest link holds down may none can taken.history taken.takes;
 }
+
+-- ---- a terminal that executes what comes
+
+bound_refuses_nothing : (bound : Bool) (number : ℕ) (wanted : WantedScreen) (over : Shadow) (end : TermEnd) → list_any is_refusal (once_bound bound (paint_executed number wanted over end) end).sends ≡ false
+bound_refuses_nothing true number wanted over end = refl
+bound_refuses_nothing false number wanted over end = refl
+
+none_refused_there : (end : TermEnd) (message : ToTerminal) → list_any is_refusal (executed end message).sends ≡ false
+none_refused_there end (ToTerminal.Paint number wanted over) = bound_refuses_nothing (is_bound end) number wanted over end
+none_refused_there end (ToTerminal.TalksDown saying) = none_refused end (ToTerminal.TalksDown saying)
+none_refused_there end (ToTerminal.ReadBuffer number) = none_refused end (ToTerminal.ReadBuffer number)
+none_refused_there end (ToTerminal.Note number command) = none_refused end (ToTerminal.Note number command)
+
+-- an item that it ignores; or the first message, which it executes
+data ItemCame (ignored : WireItem → Bool) (link : Link) (item : WireItem) (old new : TrackedTerminal) (behind : List ℕ) : Type 0 where
+  is_ignored : new.terminal.station.took_write ≡ false → Ran ignored link link old new behind → ItemCame ignored link item old new behind
+  is_message : (message : ToTerminal) (others : List ToTerminal) → link.down ≡ message ∷ others → RepresentsDown item message → new.terminal.station.took_write ≡ is_painted link.term message
+      → Ran ignored link (stayed (executed link.term message) others link) old new behind → ItemCame ignored link item old new behind
+
+-- a byte completes no message; or the first one, which the terminal executes
+pub data OneCame (ignored : WireItem → Bool) (link : Link) (byte : ℕ) (old new : TrackedTerminal) (behind : List ℕ) (taken : TakesByte old.terminal byte new.terminal) : Type 0 where
+  no_message : new.terminal.station.took_write ≡ false → Ran ignored link link old new behind → OneCame ignored link byte old new behind taken
+  one_message : (message : ToTerminal) (others : List ToTerminal) (item : WireItem) → link.down ≡ message ∷ others → item_completed taken ≡ Some item → RepresentsDown item message
+      → new.terminal.station.took_write ≡ is_painted link.term message → Ran ignored link (stayed (executed link.term message) others link) old new behind → OneCame ignored link byte old new behind taken
+
+-- what comes next may be taken, and closes nothing
+pub record MayTakeNext (link : Link) : Type 0 where
+  pub is_open : IsOpen link.term.talk.talk.state
+  pub may : (message : ToTerminal) (others : List ToTerminal) → link.down ≡ message ∷ others → MayTake link.term message
+  pub none : (message : ToTerminal) (others : List ToTerminal) → link.down ≡ message ∷ others → (executed link.term message).closes ≡ None
+
+module _ (takes : AnyTermTakes) (keeps : ExecutedStaysSendable) {ignored : WireItem → Bool} (no_effect : HaveNoEffect ignored) (goes_on : RepresentsGoOn (without ignored) RepresentsDown) (final : WrongIsFinal) where
+  item_came : (ignores : Bool) (item : WireItem) (taken others : List ToTerminal) (link : Link) (talk after : Term) (old new : TrackedTerminal) (to : Rest) (behind : List ℕ) (says : List WireItem) (closes : Option Cause)
+      → ignored item ≡ ignores → link.down ≡ taken ++ others → Pairwise RepresentsDown (cond (not ignores) (item ∷ []) []) taken → BytesDownBy ignored to behind others
+      → MayTakeNext link → CanBeSent link.term.display.size link.term.display.screen → IsEnd (end_at talk old) link.term
+      → EndTakes (end_at talk old) item (record { end = end_at after new; says = says; closes = closes })
+      → new.terminal.link ≡ link_after to after closes → new.terminal.out ≡ old.terminal.out ++ sent_bytes says → ItemCame ignored link item old new behind
+  item_came true item [] others link talk after old new to behind says closes is_it whole each down next can is taken at out =
+      let step : ByteStep = record { end = end_at after new; says = says; closes = closes } in
+      let unmoved = no_effect item (end_at talk old) link.term step is_it next.is_open is taken in
+      let same_out : new.terminal.out ≡ old.terminal.out =
+      out ∙ ap (λ (s : List WireItem). old.terminal.out ++ sent_bytes s) (no_items RepresentsUp says unmoved.same.said) ∙ append-nil old.terminal.out in
+      ItemCame.is_ignored unmoved.unmarked
+      (ran_since link link old new new behind same_out
+      (ran_nothing link new new behind to (record { talk = after; attached = at ∙ ap (link_after to after) unmoved.same.closed; is_end = unmoved.same.is_end })
+      (subst (λ (m : List ToTerminal). BytesDownBy ignored to behind m) (sym whole) down) can refl))
+  item_came true item (message ∷ rest) others link talk after old new to behind says closes is_it whole each down next can is taken at out = absurd each
+  item_came false item [] others link talk after old new to behind says closes is_it whole each down next can is taken at out = absurd each
+  item_came false item (message ∷ []) others link talk after old new to behind says closes is_it whole each down next can is taken at out =
+      let step : ByteStep = record { end = end_at after new; says = says; closes = closes } in
+      let may = next.may message others whole in
+      let did = takes message item (end_at talk old) link.term step (record { stands = each.0; may = may; sendable = can; is_end = is; takes = taken }) in
+      let now : Link = stayed (executed link.term message) others link in
+      ItemCame.is_message message others whole each.0 did.marked
+      (one_more link now (executed link.term message) others old new new behind says did.same.said did.same.fit (none_refused_there link.term message) out
+      (ran_nothing now new new behind to
+      (record { talk = after; attached = at ∙ ap (link_after to after) (did.same.closed ∙ next.none message others whole); is_end = did.same.is_end })
+      down (keeps message item link.term each.0 may can) refl))
+  item_came false item (message ∷ other ∷ more) others link talk after old new to behind says closes is_it whole each down next can is taken at out = absurd each.1
+
+  any_byte : (byte : ℕ) (behind : List ℕ) (old new : TrackedTerminal) (rest : Rest) (link : Link) → Holds rest old link.term → BytesDownBy ignored rest (byte ∷ behind) link.down → MayTakeNext link
+      → CanBeSent link.term.display.size link.term.display.screen → new.history ≡ marked old.terminal.station new.terminal.station old.history → (taken : TakesByte old.terminal byte new.terminal)
+      → OneCame ignored link byte old new behind taken
+  any_byte byte behind old new rest link holds down next can history (TakesByte.goes_on rest' to talk' at' delivers is_new) =
+      let is = holds.is_end in
+      let parts = link_parts rest rest' holds.talk talk' (sym holds.attached ∙ at') in
+      let some = goes_on rest to (byte ∷ []) behind [] link.down down (subst (λ (r : Rest). Delivers record_limit r (byte ∷ []) [] to) (sym parts.0) delivers) in
+      let same : link.down ≡ some.others = some.whole ∙ ap (λ (m : List ToTerminal). m ++ some.others) (none_for_none RepresentsDown some.taken some.each) in
+      let stays : new.history ≡ old.history = history ∙ ap (λ (t : Terminal). marked old.terminal.station t.station old.history) is_new in
+      OneCame.no_message (ap (λ (t : Terminal). t.station.took_write) is_new)
+      (ran_since link link old new new behind (ap (λ (t : Terminal). t.out) is_new)
+      (ran_nothing link new new behind to
+      (record {
+        talk = holds.talk;
+        attached = ap (λ (t : Terminal). t.link) is_new ∙ ap (λ (t : Term). Attached to t) (sym parts.1);
+        is_end = record {
+          talk_is = is.talk_is;
+          screen_is = ap (λ (t : Terminal). t.station.screen) is_new ∙ is.screen_is;
+          keyboard_is = ap (λ (t : Terminal). t.station.keyboard) is_new ∙ is.keyboard_is;
+          last_restored_is = ap (λ (h : History). h.last_restored) stays ∙ is.last_restored_is;
+          before_restored_is = ap (λ (h : History). h.before_restored) stays ∙ is.before_restored_is;
+          erased_is = ap (λ (h : History). h.erased) stays ∙ is.erased_is;
+        };
+      })
+      (subst (λ (m : List ToTerminal). BytesDownBy ignored to behind m) (sym same) some.stands) can refl))
+  any_byte byte behind old new rest link holds down next can history (TakesByte.completes rest' to talk' after item says closes station at' delivers item_taken is_new) =
+      by_item (item_came (ignored item) item some.taken some.others link holds.talk after old new to behind says closes refl some.whole some.each some.stands next can holds.is_end
+      (record {
+        takes = subst (λ (s : Station). TakesItem holds.talk (before_byte old.terminal.station) item says closes after s) (ap (λ (t : Terminal). t.station) (sym is_new))
+            (subst (λ (t : Term). TakesItem t (before_byte old.terminal.station) item says closes after station) (sym parts.1) item_taken);
+        history = history;
+      })
+      (ap (λ (t : Terminal). t.link) is_new) (ap (λ (t : Terminal). t.out) is_new))
+    where
+      parts : (rest ≡ rest') × (holds.talk ≡ talk')
+      parts = link_parts rest rest' holds.talk talk' (sym holds.attached ∙ at')
+
+      some : TakesSome (without ignored) RepresentsDown to behind (item ∷ []) link.down
+      some = goes_on rest to (byte ∷ []) behind (item ∷ []) link.down down (subst (λ (r : Rest). Delivers record_limit r (byte ∷ []) (item ∷ []) to) (sym parts.0) delivers)
+
+      by_item : ItemCame ignored link item old new behind
+          → OneCame ignored link byte old new behind (TakesByte.completes rest' to talk' after item says closes station at' delivers item_taken is_new)
+      by_item (ItemCame.is_ignored unmarked ran) = OneCame.no_message unmarked ran
+      by_item (ItemCame.is_message message others whole stands marked ran) = OneCame.one_message message others item whole refl stands marked ran
+  any_byte byte behind old new rest link holds down next can history (TakesByte.breaks rest' talk' fault at' wrong is_new) =
+      let parts = link_parts rest rest' holds.talk talk' (sym holds.attached ∙ at') in
+      absurd (not_wrong final rest byte behind fault link.down down (subst (λ (r : Rest). GoesWrong record_limit r (byte ∷ []) fault) (sym parts.0) wrong))
+
+  pub any_byte_came : (byte : ℕ) (behind : List ℕ) (old new : TrackedTerminal) (rest : Rest) (link : Link) → Holds rest old link.term → BytesDownBy ignored rest (byte ∷ behind) link.down → MayTakeNext link
+      → CanBeSent link.term.display.size link.term.display.screen → (taken : TrackedTakesByte old byte new) → OneCame ignored link byte old new behind taken.takes
+  any_byte_came byte behind old new rest link holds down next can taken = any_byte byte behind old new rest link holds down next can taken.history taken.takes
 
 pub bytes_are_marked : TermTakes → TakesKeepSendable → NopHasNoEffect → RepresentsCompose all_items RepresentsUp → RepresentsGoOn without_nops RepresentsDown → WrongIsFinal → WritesAreMarked → BytesAreMarked
 bytes_are_marked takes keeps nop compose goes_on final marks bytes link byte behind new ready queue taken =

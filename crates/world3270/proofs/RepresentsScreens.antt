@@ -1,6 +1,8 @@
 -- A screen that can be sent stays one, whatever a command does to it.
 use Rattle.std.proofs.Common.{◌≡◌, ◌<◌, ◌≤◌, ◌+◌, ◌%◌, ℕ, Bool, true, false, Option, None, Some, List, [], ◌∷◌, length, arith, refl, ap, sym, subst, ◌∙◌, if◌then◌else◌, drop, map, position, replicate}
-use Rattle.world3270.proofs.RepresentsSizes.{cells_written_on, has_cells, has_few_cells, read_as_written}
+use Rattle.world3270.proofs.Executing.{ExecutedStaysSendable}
+use Rattle.world3270.proofs.RepresentsSizes.{MayExecute, executes, has_cells, has_few_cells, paint_writes, read_as_written, written_on}
+use Rattle.world3270.specs.statement.EveryTerminal.{paint_executed}
 use Rattle.shadow.specs.Sized.{MeetsIsOfSize}
 use Rattle.std.specs.List.{All, prefix_len}
 use Rattle.std.proofs.lemmas.List.Elements.{All-head, All-tail, All-replicate}
@@ -28,9 +30,10 @@ use Rattle.presentation.specs.Applied.{asked_by}
 use Rattle.std.proofs.lemmas.Bool.{and_parts}
 use Rattle.host_core.specs.Messages.{ToTerminal}
 use Rattle.shadow.specs.Belief.{Shadow}
+use Rattle.shadow.specs.Paint.{paint, paint_bytes}
 use Rattle.shadow.specs.Painted.{plainly_painted}
 use Rattle.telnet_wire.specs.Items.{WireItem}
-use Rattle.world3270.specs.refinement.Sendable.{CanBeSent}
+use Rattle.world3270.specs.refinement.Sendable.{CanBeSent, IsSpeltFor}
 use Rattle.world3270.specs.refinement.Represents.{IsPaint, IsNoted}
 use Rattle.world3270.specs.refinement.RepresentsEnds.{TakesKeepSendable, MayTakeNote, MayBePainted}
 use Rattle.world3270.specs.model.Terminal.{TermEnd, TermStep, is_bound, paint_came, note_came, read_came, once_bound}
@@ -160,16 +163,19 @@ command_keeps now alternate command body screen encoded writes some few is same 
 
 -- ---- a paint
 
+-- on a screen of any content
+executed_keeps : (number : ℕ) (wanted : WantedScreen) (believed : Shadow) (item : WireItem) (end : TermEnd) (p : IsPaint item number wanted believed)
+    → MayExecute wanted believed end → CanBeSent end.display.size end.display.screen → CanBeSent wanted.size (after_command (paint (cells_in wanted.size) believed wanted) end.display.screen)
+executed_keeps number wanted believed item end p may is =
+    let command = paint (cells_in wanted.size) believed wanted in
+    let writes = (and_parts (is_write command.code) (asked_by command).restore (paint_writes (cells_in wanted.size) believed wanted)).0 in
+    command_keeps end.display.size (alternate_of end.display.model) command p.body end.display.screen (read_as_written number wanted believed item end p may is) writes
+    (has_cells end.display.model wanted.size may.size) (has_few_cells end.display.model wanted.size may.size) is.sendable (λ over. sym (may.fits over))
+
 paint_keeps : MeetsIsOfSize → (number : ℕ) (wanted : WantedScreen) (believed : Shadow) (item : WireItem) (end : TermEnd) (p : IsPaint item number wanted believed)
     → MayBePainted wanted believed end → CanBeSent end.display.size end.display.screen → CanBeSent wanted.size (plainly_painted wanted end.display.screen)
 paint_keeps sized number wanted believed item end p b is =
-    let writes = (and_parts (is_write p.command.code) (asked_by p.command).restore p.paints.writes).0 in
-    let some : 0 < cells_in p.command.size = subst (λ (s : ScreenSize). 0 < cells_in s) (sym p.paints.size) (has_cells end.display.model wanted.size b.size) in
-    let few : cells_in p.command.size ≤ most_cells = subst (λ (s : ScreenSize). cells_in s ≤ most_cells) (sym p.paints.size) (has_few_cells end.display.model wanted.size b.size) in
-    subst (λ (s : Screen). CanBeSent wanted.size s) (p.paints.paints end.display.screen b.meets)
-    (subst (λ (size : ScreenSize). CanBeSent size (after_command p.command end.display.screen)) p.paints.size
-    (command_keeps end.display.size (alternate_of end.display.model) p.command p.body end.display.screen (read_as_written sized number wanted believed item end p b is) writes some few is.sendable
-    (cells_written_on sized number wanted believed item end p b is)))
+    subst (λ (s : Screen). CanBeSent wanted.size s) (p.paints end.display.screen b.meets) (executed_keeps number wanted believed item end p (executes sized wanted believed end b) is)
 
 -- a note on a screen of its size
 note_keeps : (command : CommandParts) (number : ℕ) (item : WireItem) (end : TermEnd) (p : IsNoted item number command) → MayTakeNote command end
@@ -197,3 +203,20 @@ takes_keep_sendable sized (ToTerminal.Paint number wanted believed) item end sta
 takes_keep_sendable sized (ToTerminal.ReadBuffer number) item end stands may is = bound_keeps (is_bound end) (read_came end) end is is
 takes_keep_sendable sized (ToTerminal.Note number command) item end stands may is =
     bound_keeps (is_bound end) (note_came number command end) end (note_keeps command number item end stands may is) is
+
+pub executed_stays_sendable : MeetsIsOfSize → ExecutedStaysSendable
+executed_stays_sendable sized (ToTerminal.Paint number wanted believed) item end stands may is =
+    bound_keeps (is_bound end) (paint_executed number wanted believed end) end (executed_keeps number wanted believed item end stands may is) is
+executed_stays_sendable sized (ToTerminal.TalksDown saying) item end stands may is = is
+executed_stays_sendable sized (ToTerminal.ReadBuffer number) item end stands may is = takes_keep_sendable sized (ToTerminal.ReadBuffer number) item end stands may is
+executed_stays_sendable sized (ToTerminal.Note number command) item end stands may is = takes_keep_sendable sized (ToTerminal.Note number command) item end stands may is
+
+-- a paint leaves a screen that can be sent wherever it may be executed
+pub spelt_keeps : (wanted : WantedScreen) (over : Shadow) (end : TermEnd) → MayExecute wanted over end → IsSpeltFor wanted (paint (cells_in wanted.size) over wanted) (paint_bytes (cells_in wanted.size) over wanted)
+    → CanBeSent end.display.size end.display.screen → CanBeSent wanted.size (after_command (paint (cells_in wanted.size) over wanted) end.display.screen)
+spelt_keeps wanted over end may spelt is =
+    let command = paint (cells_in wanted.size) over wanted in
+    let writes = (and_parts (is_write command.code) (asked_by command).restore (paint_writes (cells_in wanted.size) over wanted)).0 in
+    command_keeps end.display.size (alternate_of end.display.model) command (paint_bytes (cells_in wanted.size) over wanted) end.display.screen
+    (spelt end.display.size (alternate_of end.display.model) may.size (written_on wanted over end may is)) writes
+    (has_cells end.display.model wanted.size may.size) (has_few_cells end.display.model wanted.size may.size) is.sendable (λ over_it. sym (may.fits over_it))

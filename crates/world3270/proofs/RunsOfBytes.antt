@@ -186,7 +186,7 @@ represents known panels = record {
       down = nothing_stands (without is_ignored_by_terminal) RepresentsDown refl known.links.no_bytes known.links.start;
     };
   };
-  waits = refl;
+  pressed = record { waits_is = refl; first_is = λ waits. refl; cleared_is = refl };
   unnamed = refl;
   stored = record {
     sendable = blank_sendable M2 model_2 (panels one_panel sound_panels.otherwise sound_panels.laid_out sound_panels.apart).begins;

@@ -14,10 +14,10 @@ use Rattle.keyboard.specs.Places.{onward, backward}
 use Rattle.lu_pool.specs.HolderLaws.{IsSound}
 use Rattle.tn3270e_msg.specs.Device.{device_for}
 use Rattle.host_core.specs.Laws.{MarksInput}
-use Rattle.host_core.specs.declared.terminals.Terminals.TheVariants.{Any, Waiting}
+use Rattle.host_core.specs.declared.terminals.Terminals.TheVariants.{Any, Verified, Waiting}
 use Rattle.world3270.specs.statement.EveryTerminal.{AreByTheRules, FirstPaint, RightOf, LinkWithReport, after_moves, told_link}
 use Rattle.world3270.specs.examples.ExampleApplication.{example_pool, greeting, l1, l2, sign_on, tall_greeting}
-use Rattle.world3270.specs.examples.ExampleRules.{BrokenRules, CheckingRun, ClearedRun, KeptRules, ToldRun, WaitingRun, acts, after, agreed_with, answered_behind, clears_before_paint, clears_in_the_wait, example_for, decides_behind, does, enters, enters_twice, entered, goes_up, ignores, kept_moves, left_behind, pasted_behind, presses, relabels, renamed_seen, required_seen, sends_what_was_left, shown_by, shown_once_more, signs_on, small_greeting, still_asked, told_the_newest, types_in_the_wait}
+use Rattle.world3270.specs.examples.ExampleRules.{BrokenRules, CheckingRun, ClearedRun, KeptRules, ToldRun, WaitingRun, acts, after, agreed_with, answered_behind, answered_behind_read, clears_after_read, clears_before_paint, clears_before_read, clears_in_the_wait, example_for, decides_behind, does, enters, enters_twice, entered, goes_up, ignores, kept_moves, left_behind, name_asked, pasted_behind, presses, relabels, renamed_seen, required_seen, sends_what_was_left, shown_by, shown_once_more, signs_on, small_greeting, still_asked, told_the_newest, types_in_the_wait}
 use Rattle.keyboard.specs.declared.key.Key.TheVariants as key
 use Rattle.world3270.specs.statement.Headline.{IsHostsTurn}
 use Rattle.world3270.proofs.ExampleGiven.{is_application, is_pool}
@@ -96,8 +96,34 @@ was_cleared : (after Any clears_in_the_wait).cleared ≡ true
 unfolding onward backward
 was_cleared = refl
 
+asks_behind_read : name_asked (after Verified clears_before_read) ≡ Some (0xC1 ∷ [])
+unfolding onward backward
+asks_behind_read = refl
+
+erased_behind_read : shown_by (after Verified answered_behind_read) ≡ small_greeting renamed_seen
+unfolding onward backward
+erased_behind_read = refl
+
+told_by_read : slice_get (after Any clears_after_read).told.screen.cells 6 ≡ Some (Char 0xC1)
+unfolding onward backward
+told_by_read = refl
+
+nulled_behind : slice_get (shown_by (after Any clears_after_read)).cells 6 ≡ Some (Char 0)
+unfolding onward backward
+nulled_behind = refl
+
 pub cleared_run : ClearedRun
-cleared_run = record { cleared = was_cleared; asked = still_asks; erased = erased_is_right; crossed = crossed_is_wrong; repeated = repeated_is_right }
+cleared_run = record {
+  cleared = was_cleared;
+  asked = still_asks;
+  erased = erased_is_right;
+  crossed = crossed_is_wrong;
+  repeated = repeated_is_right;
+  read = asks_behind_read;
+  read_erased = erased_behind_read;
+  told = told_by_read;
+  nulled = nulled_behind;
+}
 
 -- ---- a rule is broken
 
@@ -189,7 +215,7 @@ pastes_by_the_rules =
 
 keeps_the_rules : AreByTheRules (example_for Any) kept_moves (agreed_with Any l1)
 unfolding onward backward pastes_by_the_rules
-keeps_the_rules = (tt, (λ cleared. absurd (unlike (sym cleared)), (sound, ((enters_by_the_rules, λ waits. absurd (unlike (sym waits))), ((pastes_by_the_rules, λ waits clear. absurd (no_clear clear)), tt)))))
+keeps_the_rules = (tt, (tt, (sound, ((enters_by_the_rules, λ waits. absurd (unlike (sym waits))), ((pastes_by_the_rules, λ waits uncleared clear. absurd (no_clear clear)), tt)))))
 
 changes_in_the_wait : shown_by (after_moves (example_for Any) kept_moves (agreed_with Any l1)) ≡ (after_moves (example_for Any) kept_moves (agreed_with Any l1)).told.screen → ⊥
 unfolding onward backward

@@ -40,6 +40,12 @@ turn_after (ToHost.Data parts) turn = whose.Host
 turn_after (ToHost.Response number verdict) turn = turn
 turn_after (ToHost.TalksUp saying) turn = turn
 
+abbrev pub is_reading : Pending → Bool
+is_reading (Pending.Reading number) = true
+is_reading Pending.Nothing = false
+is_reading (Pending.Writing number command) = false
+is_reading (Pending.Noting number command) = false
+
 abbrev pub unless_read : Pending → Pending
 unless_read (Pending.Reading number) = Pending.Nothing
 unless_read Pending.Nothing = Pending.Nothing

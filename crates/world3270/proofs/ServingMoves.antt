@@ -27,7 +27,7 @@ use Rattle.host_core.specs.declared.serving.Served.{Served}
 use Rattle.host_core.specs.declared.serving.Served.TheVariants as served
 use Rattle.host_core.proofs.OneNumber.{serves_changes}
 use Rattle.world3270.specs.model.TrackedTerminals.{TrackedTerminal}
-use Rattle.world3270.specs.statement.EveryTerminalBytes.{BeginsOverBytes, EveryTerminalOverBytes, LeadTo, Moves, OverBytes}
+use Rattle.world3270.specs.statement.EveryTerminalBytes.{BeginsOverBytes, EveryTerminalOverBytes, LeadTo, Moves, OverBytes, Pressed}
 use Rattle.world3270.specs.statement.Serving.{AreQueues, ServedState, EveryTerminalServed, Happen, Happens, IsAfterMoves, IsTurn, TurnsAreElsewhere, TurnsAreMoves, over_queues, over_served}
 use Rattle.world3270.proofs.AnyHosts.{lead_on, lead_panels}
 
@@ -137,8 +137,8 @@ module _ (granted : StaysSoundGranted) (back : StaysSoundBack) where
 -- ---- the moves
 
 -- these bytes are under way
-abbrev pub at_host : Host → (down up : List ℕ) → TrackedTerminal → Bool → OverBytes
-at_host host down up tracked waits = record { host = host; down = down; up = up; tracked = tracked; waits = waits }
+abbrev pub at_host : Host → (down up : List ℕ) → TrackedTerminal → Pressed → OverBytes
+at_host host down up tracked pressed = record { host = host; down = down; up = up; tracked = tracked; pressed = pressed }
 
 -- the host is fed bytes, and changes nowhere else
 pub record FedSo (number : ℕ) (old : Host) (bytes : List ℕ) (fed : Fed) (new : Host) : Type 0 where
@@ -159,33 +159,33 @@ responds_so number old bytes sound new (Responds.unfed fed feeds memory short) =
 responds_so number old bytes sound new (Responds.idle fed mid feeds more acts short) = RespondsSo.is_idle fed mid (fed_so number old bytes fed mid feeds) acts short
 responds_so number old bytes sound new (Responds.acts fed mid done did feeds more acts able asked whole) = RespondsSo.is_acting fed mid done did (fed_so number old bytes fed mid feeds) more acts asked
 
-module _ (app : Application) (number : ℕ) (tracked : TrackedTerminal) (waits : Bool) where
+module _ (app : Application) (number : ℕ) (tracked : TrackedTerminal) (pressed : Pressed) where
   -- moves that the host's response is, and what it leaves unread
   record Responded (old new : Host) (bytes down behind : List ℕ) (sound : Bool) : Type 0 where
     unread : List ℕ
     states : List OverBytes
-    lead : LeadTo app number states (at_host old down (bytes ++ behind) tracked waits) (at_host new down (unread ++ behind) tracked waits)
+    lead : LeadTo app number states (at_host old down (bytes ++ behind) tracked pressed) (at_host new down (unread ++ behind) tracked pressed)
     all_read : sound ≡ true → IsOpen (state_at number new) → unread ≡ []
 
   feeds_move : (old : Host) (bytes : List ℕ) (fed : Fed) (new : Host) (down behind : List ℕ) → FedSo number old bytes fed new
-      → Moves app number (at_host old down (bytes ++ behind) tracked waits) (at_host new down (drop fed.taken bytes ++ behind) tracked waits)
+      → Moves app number (at_host old down (bytes ++ behind) tracked pressed) (at_host new down (drop fed.taken bytes ++ behind) tracked pressed)
   feeds_move old bytes fed new down behind feeds =
-      Moves.feeds bytes behind fed (connection_and_pool_at number new) refl feeds.feeds (ap (λ (h : Host). at_host h down (drop fed.taken bytes ++ behind) tracked waits) feeds.others)
+      Moves.feeds bytes behind fed (connection_and_pool_at number new) refl feeds.feeds (ap (λ (h : Host). at_host h down (drop fed.taken bytes ++ behind) tracked pressed) feeds.others)
 
   acts_move : (old : Host) (did : Acted) (new : Host) (down up : List ℕ) → application_of old.panels ≡ app → ActsHost number old did new
-      → Moves app number (at_host old down up tracked waits) (at_host new down up tracked waits)
+      → Moves app number (at_host old down up tracked pressed) (at_host new down up tracked pressed)
   acts_move old did new down up same acts =
       Moves.acts did (connection_at number new) (subst (λ (a : Application). Does (acted_by a (state_at number old)) (connection_at number old) did (connection_at number new)) same acts.does)
-      (ap (λ (h : Host). at_host h down up tracked waits) acts.others)
+      (ap (λ (h : Host). at_host h down up tracked pressed) acts.others)
 
-  asks_move : (old new : Host) (down up : List ℕ) → new ≡ with_asked number old → Moves app number (at_host old down up tracked waits) (at_host new down up tracked waits)
+  asks_move : (old new : Host) (down up : List ℕ) → new ≡ with_asked number old → Moves app number (at_host old down up tracked pressed) (at_host new down up tracked pressed)
   asks_move old new down up is =
-      Moves.reports (with_question (asks (application_of old.panels) (state_at number old)) (reports_at number old)) (ap (λ (h : Host). at_host h down up tracked waits) is)
+      Moves.reports (with_question (asks (application_of old.panels) (state_at number old)) (reports_at number old)) (ap (λ (h : Host). at_host h down up tracked pressed) is)
 
   responds_moves : (old : Host) (bytes : List ℕ) (sound : Bool) (new : Host) (down behind : List ℕ) → application_of old.panels ≡ app → RespondsSo number old bytes sound new → Responded old new bytes down behind sound
   responds_moves old bytes sound new down behind same (RespondsSo.is_unfed fed feeds short) = record {
     unread = drop fed.taken bytes;
-    states = at_host new down (drop fed.taken bytes ++ behind) tracked waits ∷ [];
+    states = at_host new down (drop fed.taken bytes ++ behind) tracked pressed ∷ [];
     lead = (feeds_move old bytes fed new down behind feeds, refl);
     all_read = λ whole. absurd (let both = sym whole ∙ short in cc);
   }
@@ -194,7 +194,7 @@ module _ (app : Application) (number : ℕ) (tracked : TrackedTerminal) (waits :
       let panels : application_of mid.panels ≡ app = ap (λ (h : Host). application_of h.panels) feeds.others ∙ same in
       record {
         unread = drop fed.taken bytes;
-        states = at_host mid down up tracked waits ∷ at_host new down up tracked waits ∷ [];
+        states = at_host mid down up tracked pressed ∷ at_host new down up tracked pressed ∷ [];
         lead = (feeds_move old bytes fed mid down behind feeds, (acts_move mid _ new down up panels acts, refl));
         all_read = λ whole. absurd (let both = sym whole ∙ short in cc);
       }
@@ -203,7 +203,7 @@ module _ (app : Application) (number : ℕ) (tracked : TrackedTerminal) (waits :
       let panels : application_of mid.panels ≡ app = ap (λ (h : Host). application_of h.panels) feeds.others ∙ same in
       record {
         unread = drop fed.taken bytes;
-        states = at_host mid down up tracked waits ∷ at_host done down up tracked waits ∷ at_host new down up tracked waits ∷ [];
+        states = at_host mid down up tracked pressed ∷ at_host done down up tracked pressed ∷ at_host new down up tracked pressed ∷ [];
         lead = (feeds_move old bytes fed mid down behind feeds, (acts_move mid did done down up panels acts, (asks_move done new down up asked, refl)));
         all_read = λ is_sound here.
             let done_open : IsOpen (state_at number done) =
@@ -213,29 +213,29 @@ module _ (app : Application) (number : ℕ) (tracked : TrackedTerminal) (waits :
       }
 
 module _ {L : Type 0} (gave : L → ℕ → ℕ → List ℕ → LinkRead → L → Type 0) (took : L → ℕ → List ℕ → LinkWrite → L → Type 0)
-    (number : ℕ) (up down : L → List ℕ) (queues : AreQueues gave took number up down) (tracked : TrackedTerminal) (waits : Bool) where
+    (number : ℕ) (up down : L → List ℕ) (queues : AreQueues gave took number up down) (tracked : TrackedTerminal) (pressed : Pressed) where
   -- what is handed over
   record IsSent (app : Application) (old new : Host) (links left : L) (unread : List ℕ) : Type 0 where
     states : List OverBytes
-    lead : LeadTo app number states (at_host old (down links) (unread ++ up links) tracked waits) (at_host new (down left) (unread ++ up left) tracked waits)
+    lead : LeadTo app number states (at_host old (down links) (unread ++ up links) tracked pressed) (at_host new (down left) (unread ++ up left) tracked pressed)
     still : IsOpen (state_at number new) → IsOpen (state_at number old)
 
   sends_moves : (app : Application) (old : Host) (links : L) (new : Host) (left : L) (unread : List ℕ) → SendsOut gave took number old links new left → IsSent app old new links left unread
   sends_moves app old links new left unread (SendsOut.nothing none same stay) = record {
     states = [];
-    lead = ap (λ (h : Host). at_host h (down left) (unread ++ up left) tracked waits) same ∙ ap (λ (l : L). at_host old (down l) (unread ++ up l) tracked waits) stay;
+    lead = ap (λ (h : Host). at_host h (down left) (unread ++ up left) tracked pressed) same ∙ ap (λ (l : L). at_host old (down l) (unread ++ up l) tracked pressed) stay;
     still = λ here. subst (λ (h : Host). IsOpen (state_at number h)) same here;
   }
   sends_moves app old links new left unread (SendsOut.handed wrote some takes is) =
       let line : Connection = connection_at number old in
       let wrote_so = queues.writes links left line.out wrote takes in
       record {
-        states = at_host new (down left) (unread ++ up left) tracked waits ∷ [];
+        states = at_host new (down left) (unread ++ up left) tracked pressed ∷ [];
         lead = (
           Moves.hands_over (taken_by wrote)
-              (ap (λ (h : Host). at_host h (down left) (unread ++ up left) tracked waits) is
-              ∙ ap (λ (d : List ℕ). at_host (sent_from number (taken_by wrote) old) d (unread ++ up left) tracked waits) wrote_so.0
-              ∙ ap (λ (u : List ℕ). at_host (sent_from number (taken_by wrote) old) (down links ++ take (taken_by wrote) line.out) (unread ++ u) tracked waits) wrote_so.1),
+              (ap (λ (h : Host). at_host h (down left) (unread ++ up left) tracked pressed) is
+              ∙ ap (λ (d : List ℕ). at_host (sent_from number (taken_by wrote) old) d (unread ++ up left) tracked pressed) wrote_so.0
+              ∙ ap (λ (u : List ℕ). at_host (sent_from number (taken_by wrote) old) (down links ++ take (taken_by wrote) line.out) (unread ++ u) tracked pressed) wrote_so.1),
           refl,
         );
         still = λ here. subst IsOpen (ap (state_at number) is ∙ same_service old.connections number _ refl) here;
@@ -243,57 +243,57 @@ module _ {L : Type 0} (gave : L → ℕ → ℕ → List ℕ → LinkRead → L 
 
   -- what a turn does once it has read these bytes
   pub starved_from : (old : Host) (links : L) (bytes : List ℕ) (answer : Served) (new : Host) (left : L) → RespondsSo number old bytes false new → down left ≡ down links → answer ≡ served.Memory
-      → IsTurn number (at_host old (down links) (bytes ++ up left) tracked waits) (over_queues gave took up down new left tracked waits) answer
+      → IsTurn number (at_host old (down links) (bytes ++ up left) tracked pressed) (over_queues gave took up down new left tracked pressed) answer
   starved_from old links bytes answer new left responds same memory =
       let app : Application = application_of old.panels in
-      let one = responds_moves app number tracked waits old bytes false new (down links) (up left) refl responds in
+      let one = responds_moves app number tracked pressed old bytes false new (down links) (up left) refl responds in
       record {
         unread = one.unread;
         states = one.states;
-        lead = subst (λ (d : List ℕ). LeadTo app number one.states (at_host old (down links) (bytes ++ up left) tracked waits) (at_host new d (one.unread ++ up left) tracked waits)) (sym same) one.lead;
+        lead = subst (λ (d : List ℕ). LeadTo app number one.states (at_host old (down links) (bytes ++ up left) tracked pressed) (at_host new d (one.unread ++ up left) tracked pressed)) (sym same) one.lead;
         all_read = λ here able. absurd (able memory);
       }
 
   pub served_from : (old : Host) (links : L) (bytes : List ℕ) (mid : Host) (between : L) (answer : Served) (new : Host) (left : L) → RespondsSo number old bytes true mid → down between ≡ down links
-      → SendsOut gave took number mid between new left → IsTurn number (at_host old (down links) (bytes ++ up between) tracked waits) (over_queues gave took up down new left tracked waits) answer
+      → SendsOut gave took number mid between new left → IsTurn number (at_host old (down links) (bytes ++ up between) tracked pressed) (over_queues gave took up down new left tracked pressed) answer
   served_from old links bytes mid between answer new left responds same sends =
       let app : Application = application_of old.panels in
-      let one = responds_moves app number tracked waits old bytes true mid (down links) (up between) refl responds in
+      let one = responds_moves app number tracked pressed old bytes true mid (down links) (up between) refl responds in
       let out = sends_moves app mid between new left one.unread sends in
-      let first : LeadTo app number one.states (at_host old (down links) (bytes ++ up between) tracked waits) (at_host mid (down between) (one.unread ++ up between) tracked waits) =
-      subst (λ (d : List ℕ). LeadTo app number one.states (at_host old (down links) (bytes ++ up between) tracked waits) (at_host mid d (one.unread ++ up between) tracked waits)) (sym same) one.lead in
+      let first : LeadTo app number one.states (at_host old (down links) (bytes ++ up between) tracked pressed) (at_host mid (down between) (one.unread ++ up between) tracked pressed) =
+      subst (λ (d : List ℕ). LeadTo app number one.states (at_host old (down links) (bytes ++ up between) tracked pressed) (at_host mid d (one.unread ++ up between) tracked pressed)) (sym same) one.lead in
       record {
         unread = one.unread;
         states = one.states ++ out.states;
-        lead = lead_on app number one.states out.states (at_host old (down links) (bytes ++ up between) tracked waits) (at_host mid (down between) (one.unread ++ up between) tracked waits)
-            (at_host new (down left) (one.unread ++ up left) tracked waits) first out.lead;
+        lead = lead_on app number one.states out.states (at_host old (down links) (bytes ++ up between) tracked pressed) (at_host mid (down between) (one.unread ++ up between) tracked pressed)
+            (at_host new (down left) (one.unread ++ up left) tracked pressed) first out.lead;
         all_read = λ here able. one.all_read refl (out.still here);
       }
 
   turn_is_moves : (old : Host) (links : L) (answer : Served) (new : Host) (left : L) → Serves gave took number old links answer new left
-      → IsTurn number (over_queues gave took up down old links tracked waits) (over_queues gave took up down new left tracked waits) answer
+      → IsTurn number (over_queues gave took up down old links tracked pressed) (over_queues gave took up down new left tracked pressed) answer
   turn_is_moves old links answer new left (Serves.over got gives goes same lost) =
       let read = queues.reads links left _ [] got gives in
       record {
         unread = [];
         states = [];
-        lead = ap (λ (h : Host). at_host h (down left) (up left) tracked waits) same
-            ∙ ap (λ (d : List ℕ). at_host old d (up left) tracked waits) read.1
-            ∙ ap (λ (u : List ℕ). at_host old (down links) u tracked waits) (sym read.0);
+        lead = ap (λ (h : Host). at_host h (down left) (up left) tracked pressed) same
+            ∙ ap (λ (d : List ℕ). at_host old d (up left) tracked pressed) read.1
+            ∙ ap (λ (u : List ℕ). at_host old (down links) u tracked pressed) (sym read.0);
         all_read = λ here able. refl;
       }
   turn_is_moves old links answer new left (Serves.starved got bytes gives goes responds memory) =
       let read = queues.reads links left _ bytes got gives in
-      subst (λ (u : List ℕ). IsTurn number (at_host old (down links) u tracked waits) (over_queues gave took up down new left tracked waits) answer) (sym read.0)
+      subst (λ (u : List ℕ). IsTurn number (at_host old (down links) u tracked pressed) (over_queues gave took up down new left tracked pressed) answer) (sym read.0)
       (starved_from old links bytes answer new left (responds_so number old bytes false new responds) read.1 memory)
   turn_is_moves old links answer new left (Serves.served got bytes mid between gives goes responds sends other) =
       let read = queues.reads links between _ bytes got gives in
-      subst (λ (u : List ℕ). IsTurn number (at_host old (down links) u tracked waits) (over_queues gave took up down new left tracked waits) answer) (sym read.0)
+      subst (λ (u : List ℕ). IsTurn number (at_host old (down links) u tracked pressed) (over_queues gave took up down new left tracked pressed) answer) (sym read.0)
       (served_from old links bytes mid between answer new left (responds_so number old bytes true mid responds) read.1 sends)
 
 pub turns_are_moves : {L : Type 0} (gave : L → ℕ → ℕ → List ℕ → LinkRead → L → Type 0) (took : L → ℕ → List ℕ → LinkWrite → L → Type 0) → TurnsAreMoves gave took
-turns_are_moves gave took number up down queues old links answer new left serves tracked waits =
-    turn_is_moves gave took number up down queues tracked waits old links answer new left serves
+turns_are_moves gave took number up down queues old links answer new left serves tracked pressed =
+    turn_is_moves gave took number up down queues tracked pressed old links answer new left serves
 
 -- ---- many turns
 
@@ -315,21 +315,21 @@ module _ {L : Type 0} (gave : L → ℕ → ℕ → List ℕ → LinkRead → L 
   same_app now led = ap application_of (lead_panels app number led.states begin (over now) led.lead)
 
   one_turn : (now next : ServedState gave took) (answer : Served) → Led now → (answer ≢ served.Memory) → Serves gave took number now.host now.links answer next.host next.links
-      → next.tracked ≡ now.tracked → next.waits ≡ now.waits → Led next
-  one_turn now next answer led able serves tracked waits =
-      let turn = turn_is_moves gave took number up down queues now.tracked now.waits now.host now.links answer next.host next.links serves in
-      let unread : OverBytes = record (over_queues gave took up down next.host next.links now.tracked now.waits) { up = turn.unread ++ up next.links } in
+      → next.tracked ≡ now.tracked → next.pressed ≡ now.pressed → Led next
+  one_turn now next answer led able serves tracked pressed =
+      let turn = turn_is_moves gave took number up down queues now.tracked now.pressed now.host now.links answer next.host next.links serves in
+      let unread : OverBytes = record (over_queues gave took up down next.host next.links now.tracked now.pressed) { up = turn.unread ++ up next.links } in
       let more : LeadTo app number turn.states (over now) unread = subst (λ (a : Application). LeadTo a number turn.states (over now) unread) (same_app now led) turn.lead in
       let lead = lead_on app number led.states turn.states begin (over now) unread led.lead more in
       let here = (every number lu begin unread (led.states ++ turn.states) sound begins lead).represents.is_open in
       let is_next : unread ≡ over next =
       ap (λ (bytes : List ℕ). record unread { up = bytes ++ up next.links }) (turn.all_read here able)
-      ∙ ap (λ (t : TrackedTerminal). over_queues gave took up down next.host next.links t now.waits) (sym tracked)
-      ∙ ap (λ (w : Bool). over_queues gave took up down next.host next.links next.tracked w) (sym waits) in
+      ∙ ap (λ (t : TrackedTerminal). over_queues gave took up down next.host next.links t now.pressed) (sym tracked)
+      ∙ ap (λ (w : Pressed). over_queues gave took up down next.host next.links next.tracked w) (sym pressed) in
       record { states = led.states ++ turn.states; lead = subst (λ (b : OverBytes). LeadTo app number (led.states ++ turn.states) begin b) is_next lead }
 
   one_happens : (now next : ServedState gave took) → Led now → Happens gave took number up down now next → Led next
-  one_happens now next led (Happens.turns answer able serves tracked waits) = one_turn now next answer led able serves tracked waits
+  one_happens now next led (Happens.turns answer able serves tracked pressed) = one_turn now next answer led able serves tracked pressed
   one_happens now next led (Happens.moves move) = record {
     states = led.states ++ over next ∷ [];
     lead = lead_on app number led.states (over next ∷ []) begin (over now) (over next) led.lead

@@ -133,7 +133,7 @@ both_say end now says lost up = subst (λ (l : Bool). Says end.host (sent end.lo
 pub heads : (one other : ToHost) (rest more : List ToHost) → one ∷ rest ≡ other ∷ more → one ≡ other
 heads one other rest more is = cc
 
-tails : (one other : ToHost) (rest more : List ToHost) → one ∷ rest ≡ other ∷ more → rest ≡ more
+pub tails : (one other : ToHost) (rest more : List ToHost) → one ∷ rest ≡ other ∷ more → rest ≡ more
 tails one other rest more is = cc
 
 -- what the waiting terminal says first, of which the host makes the same as of this message

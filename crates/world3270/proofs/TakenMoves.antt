@@ -1,7 +1,7 @@
 -- Bytes that the terminal of a world takes are moves over bytes, and its keyboard stays locked while a 3278's would be.
-use Rattle.std.proofs.Common.{◌≡◌, ◌||◌, ℕ, Bool, true, false, Option, None, Some, List, [], ◌∷◌, ◌++◌, refl, ap, sym, subst, ◌∙◌, if◌then◌else◌}
+use Rattle.std.proofs.Common.{◌≡◌, ◌||◌, ℕ, Bool, true, false, Option, None, Some, List, [], ◌∷◌, ◌++◌, refl, ap, sym, subst, ◌∙◌}
 use Rattle.keyboard.specs.State.{Keyboard}
-use Rattle.keyboard.specs.declared.key.Lock.TheVariants.{Wait}
+use Rattle.telnet_wire.specs.Items.{WireItem}
 use Rattle.telnet_wire.specs.Reading.{Rest}
 use Rattle.tn3270e_msg.specs.declared.cause.Cause.{Cause}
 use Rattle.host_core.specs.Application.{Application}
@@ -15,7 +15,7 @@ use Rattle.world3270.specs.refinement.Represents.{BytesDown, Holds}
 use Rattle.world3270.specs.refinement.RepresentsEnds.{is_painted}
 use Rattle.world3270.specs.refinement.RepresentsLinks.{MayComeAll, NoneCloses, any_painted, took_down}
 use Rattle.world3270.specs.refinement.Sendable.{CanBeSent}
-use Rattle.world3270.specs.statement.EveryTerminalBytes.{LeadTo, Moves, OverBytes, Takes}
+use Rattle.world3270.specs.statement.EveryTerminalBytes.{LeadTo, Moves, OverBytes, Pressed, Takes, ended_if, ends_wait, item_completed}
 use Rattle.world3270.specs.statement.WorldMoves.{IsLockedIf}
 use Rattle.world3270.proofs.AnyTerminal.{TakesLaws}
 use Rattle.world3270.proofs.ByteDown.{quiet_byte}
@@ -25,16 +25,21 @@ use Rattle.world3270.proofs.RepresentsLinks.{byte_came, stayed, nops_have_none}
 -- ---- a terminal takes a byte
 
 -- the connection of this host and this terminal, with these bytes handed over; what the terminal has to send is under way
-abbrev pub joined : Host → List ℕ → TrackedTerminal → (waits : Bool) → OverBytes
-joined host down tracked waits = record { host = host; down = down; up = tracked.terminal.out; tracked = with_out [] tracked; waits = waits }
+abbrev pub joined : Host → List ℕ → TrackedTerminal → Pressed → OverBytes
+joined host down tracked pressed = record { host = host; down = down; up = tracked.terminal.out; tracked = with_out [] tracked; pressed = pressed }
 
--- whether a 3278 would wait behind a byte
-abbrev waits_behind : TrackedTerminal → Bool → Bool
-waits_behind tracked waits = if tracked.terminal.station.took_write then false else waits
+-- what was pressed in the wait, behind a byte
+abbrev pressed_behind : TrackedTerminal → Pressed → Pressed
+pressed_behind tracked pressed = ended_if tracked.terminal.station.took_write pressed
 
-takes_one : (host : Host) (byte : ℕ) (behind : List ℕ) (old new : TrackedTerminal) (waits : Bool) → TrackedTakesByte old byte new
-    → Takes (joined host (byte ∷ behind) old waits) (joined host behind new (waits_behind new waits))
-takes_one host byte behind old new waits taken =
+-- where Clear wasn't pressed, each write that restores the keyboard ends the wait
+ends_any : (pressed : Pressed) (writes : Bool) (item : Option WireItem) → pressed.cleared ≡ false → ended_if (ends_wait pressed.cleared writes item) pressed ≡ ended_if writes pressed
+ends_any pressed writes item uncleared =
+    ap (λ (cleared : Bool). ended_if (ends_wait cleared writes item) pressed) uncleared
+
+takes_one : (host : Host) (byte : ℕ) (behind : List ℕ) (old new : TrackedTerminal) (pressed : Pressed) → pressed.cleared ≡ false → TrackedTakesByte old byte new
+    → Takes (joined host (byte ∷ behind) old pressed) (joined host behind new (pressed_behind new pressed))
+takes_one host byte behind old new pressed uncleared taken =
     let quiet = quiet_byte old.terminal byte new.terminal taken.takes in
     record {
       byte = byte;
@@ -44,7 +49,8 @@ takes_one host byte behind old new waits taken =
       takes = record { takes = quiet.takes []; history = taken.history };
       bytes = quiet.said;
       alike = λ messages read. read;
-      leaves = ap (λ (up : List ℕ). record (joined host behind new (waits_behind new waits)) { up = up }) quiet.out_is;
+      leaves = ap (λ (up : List ℕ). record (joined host behind new (pressed_behind new pressed)) { up = up }) quiet.out_is
+          ∙ ap (λ (p : Pressed). record (joined host behind new p) { up = old.terminal.out ++ quiet.said }) (sym (ends_any pressed new.terminal.station.took_write (item_completed (quiet.takes [])) uncleared));
     }
 
 -- ---- messages come down
@@ -101,28 +107,28 @@ behind_them (message ∷ taken) others link may none =
 
 -- ---- bytes come, one after another
 
-held_behind : (waits took_write : Bool) (old new : Keyboard) → (waits ≡ true → old.lock ≡ Wait) → (took_write ≡ false → new ≡ old) → (if took_write then false else waits) ≡ true → new.lock ≡ Wait
-held_behind waits true old new held same is = absurd (cc)
-held_behind waits false old new held same is = ap (λ (k : Keyboard). k.lock) (same refl) ∙ held is
+held_behind : (pressed : Pressed) (took_write : Bool) (old new : TrackedTerminal) → IsLockedIf pressed old → (took_write ≡ false → new.terminal.station.keyboard ≡ old.terminal.station.keyboard) → IsLockedIf (ended_if took_write pressed) new
+held_behind pressed true old new held same = record { locked = λ is. absurd (cc); uncleared = refl }
+held_behind pressed false old new held same = record { locked = λ is. ap (λ (k : Keyboard). k.lock) (same refl) ∙ held.locked is; uncleared = held.uncleared }
 
 -- moves that take the bytes
-pub record AreTaken (app : Application) (number : ℕ) (host : Host) (bytes : List ℕ) (old new : TrackedTerminal) (waits : Bool) : Type 0 where
-  pub later : Bool
+pub record AreTaken (app : Application) (number : ℕ) (host : Host) (bytes : List ℕ) (old new : TrackedTerminal) (pressed : Pressed) : Type 0 where
+  pub later : Pressed
   pub states : List OverBytes
-  pub lead : LeadTo app number states (joined host bytes old waits) (joined host [] new later)
+  pub lead : LeadTo app number states (joined host bytes old pressed) (joined host [] new later)
   pub held : IsLockedIf later new
 
 module _ (laws : TakesLaws) (app : Application) (number : ℕ) (host : Host) where
-  pub all_taken : (bytes behind : List ℕ) (old new : TrackedTerminal) (rest : Rest) (link : Link) (waits : Bool) → Holds rest old link.term → BytesDown rest (bytes ++ behind) link.down
-      → MayComeAll link.term link.down → NoneCloses link.term link.down → CanBeSent link.term.display.size link.term.display.screen → IsLockedIf waits old → TrackedTakes old bytes new
-      → AreTaken app number host bytes old new waits
-  all_taken [] behind old new rest link waits holds down may none can held same = record {
-    later = waits;
+  pub all_taken : (bytes behind : List ℕ) (old new : TrackedTerminal) (rest : Rest) (link : Link) (pressed : Pressed) → Holds rest old link.term → BytesDown rest (bytes ++ behind) link.down
+      → MayComeAll link.term link.down → NoneCloses link.term link.down → CanBeSent link.term.display.size link.term.display.screen → IsLockedIf pressed old → TrackedTakes old bytes new
+      → AreTaken app number host bytes old new pressed
+  all_taken [] behind old new rest link pressed holds down may none can held same = record {
+    later = pressed;
     states = [];
-    lead = ap (λ (t : TrackedTerminal). joined host [] t waits) same;
-    held = subst (λ (t : TrackedTerminal). IsLockedIf waits t) (sym same) held;
+    lead = ap (λ (t : TrackedTerminal). joined host [] t pressed) same;
+    held = subst (λ (t : TrackedTerminal). IsLockedIf pressed t) (sym same) held;
   }
-  all_taken (byte ∷ bytes) behind old new rest link waits holds down may none can held taken =
+  all_taken (byte ∷ bytes) behind old new rest link pressed holds down may none can held taken =
       let mid : TrackedTerminal = taken.0 in
       let one = byte_came laws.takes laws.keeps (nops_have_none laws.nop) laws.down laws.final laws.marks byte (bytes ++ behind) old mid rest link holds down may none can taken.1 in
       let came = one.came in
@@ -131,15 +137,15 @@ module _ (laws : TakesLaws) (app : Application) (number : ℕ) (host : Host) whe
       let after_them = behind_them came.taken came.others link (subst (λ (m : List ToTerminal). MayComeAll link.term m) came.whole may)
       (subst (λ (m : List ToTerminal). NoneCloses link.term m) came.whole none) in
       let others : now.down ≡ came.others = left_down came.taken came.others link came.whole in
-      let held_now : IsLockedIf (waits_behind mid waits) mid =
-      held_behind waits mid.terminal.station.took_write old.terminal.station.keyboard mid.terminal.station.keyboard held
+      let held_now : IsLockedIf (pressed_behind mid pressed) mid =
+      held_behind pressed mid.terminal.station.took_write old mid held
       (λ unwritten. ran.holds.is_end.keyboard_is ∙ after_them.keyboard (sym one.marked ∙ unwritten) ∙ sym holds.is_end.keyboard_is) in
-      let more = all_taken bytes behind mid new ran.rest now (waits_behind mid waits) ran.holds ran.down
+      let more = all_taken bytes behind mid new ran.rest now (pressed_behind mid pressed) ran.holds ran.down
       (subst (λ (m : List ToTerminal). MayComeAll now.term m) (sym others) after_them.may)
       (subst (λ (m : List ToTerminal). NoneCloses now.term m) (sym others) after_them.none) ran.can held_now taken.2 in
       record {
         later = more.later;
-        states = joined host bytes mid (waits_behind mid waits) ∷ more.states;
-        lead = (Moves.takes (takes_one host byte bytes old mid waits taken.1), more.lead);
+        states = joined host bytes mid (pressed_behind mid pressed) ∷ more.states;
+        lead = (Moves.takes (takes_one host byte bytes old mid pressed held.uncleared taken.1), more.lead);
         held = more.held;
       }

@@ -1,5 +1,5 @@
 -- Moves that keep the rules, none of which is Clear in the wait: then nothing is cleared.
-use Rattle.std.proofs.Common.{◌≡◌, ◌||◌, ◌&&◌, Bool, true, false, List, [], ◌∷◌, refl, ap, sym, ◌∙◌, if◌then◌else◌}
+use Rattle.std.proofs.Common.{◌≡◌, ◌||◌, ◌&&◌, Bool, true, false, List, [], ◌∷◌, ◌++◌, refl, ap, ◌∙◌, if◌then◌else◌}
 use Rattle.std.specs.Prelude.{◌≢◌, ⊤}
 use Rattle.codes3270.specs.declared.attention.Aid.{Aid}
 use Rattle.codes3270.specs.declared.attention.Aid.TheVariants.{NoAid, Enter, Clear, Pf, Pa}
@@ -27,6 +27,10 @@ abbrev pub AreWithoutClear : Application → List Move → LinkWithReport → Ty
 AreWithoutClear app [] t = ⊤
 AreWithoutClear app (move ∷ moves) t = IsWithoutClear move t × AreWithoutClear app moves (moved app move t)
 
+pub more_without : (app : Application) (one others : List Move) (t : LinkWithReport) → AreWithoutClear app one t → AreWithoutClear app others (after_moves app one t) → AreWithoutClear app (one ++ others) t
+more_without app [] others t are behind = behind
+more_without app (move ∷ one) others t are behind = (are.0, more_without app one others (moved app move t) are.1 behind)
+
 -- ---- Clear isn't sent
 
 other_key : (aid : Aid) → (aid ≡ Clear → ⊥) → is_clear aid ≡ false
@@ -50,9 +54,9 @@ sends_no_clear end step (Operates.sends keyboard aid some is) unclear =
 
 pub keeps_rules : (move : Move) (t : LinkWithReport) → t.cleared ≡ false → IsWithoutClear move t → IsByTheRules move t
 keeps_rules (Move.Up pool) t never rules = rules
-keeps_rules (Move.Operate step) t never rules = (rules.0, λ waits clear. absurd (rules.1 waits clear))
+keeps_rules (Move.Operate step) t never rules = (rules.0, λ waits uncleared clear. absurd (rules.1 waits clear))
 keeps_rules (Move.Note text) t never rules = rules
-keeps_rules Move.Down t never rules = λ cleared. absurd (let wrong : false ≡ true = sym never ∙ cleared in cc)
+keeps_rules Move.Down t never rules = tt
 keeps_rules Move.Act t never rules = tt
 keeps_rules (Move.Answer said) t never rules = tt
 keeps_rules Move.Lose t never rules = tt
@@ -64,12 +68,15 @@ still_none true (ToTerminal.Note number command) t link never = never
 still_none true (ToTerminal.TalksDown saying) t link never = never
 still_none false message t link never = never
 
-pub operated_none : (t : LinkWithReport) (step : TermStep) (does : Operates t.link.term step) → t.cleared ≡ false → (t.waits ≡ true → key_pressed does ≡ Clear → ⊥) → (t.cleared || (t.waits && sends_clear step)) ≡ false
-operated_none t step does never unclear = ap (λ (b : Bool). b || (t.waits && sends_clear step)) never ∙ by_waits t.waits refl
+pub operated_uncleared : (end : TermEnd) (step : TermStep) (does : Operates end step) (cleared waits : Bool) → cleared ≡ false → (waits ≡ true → key_pressed does ≡ Clear → ⊥) → (cleared || (waits && sends_clear step)) ≡ false
+operated_uncleared end step does cleared waits never unclear = ap (λ (b : Bool). b || (waits && sends_clear step)) never ∙ by_waits waits refl
   where
-    by_waits : (b : Bool) → t.waits ≡ b → (b && sends_clear step) ≡ false
+    by_waits : (b : Bool) → waits ≡ b → (b && sends_clear step) ≡ false
     by_waits false is = refl
-    by_waits true is = sends_no_clear t.link.term step does (unclear is)
+    by_waits true is = sends_no_clear end step does (unclear is)
+
+pub operated_none : (t : LinkWithReport) (step : TermStep) (does : Operates t.link.term step) → t.cleared ≡ false → (t.waits ≡ true → key_pressed does ≡ Clear → ⊥) → (t.cleared || (t.waits && sends_clear step)) ≡ false
+operated_none t step does never unclear = operated_uncleared t.link.term step does t.cleared t.waits never unclear
 
 pub stays_uncleared : (app : Application) (move : Move) (t : LinkWithReport) → t.cleared ≡ false → IsWithoutClear move t → (moved app move t).cleared ≡ false
 stays_uncleared app (Move.Up pool) t never rules = by_queue t.link.up

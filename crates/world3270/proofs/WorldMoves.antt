@@ -3,7 +3,7 @@ use Rattle.std.proofs.Common.{◌≡◌, ◌≢◌, ◌⊎◌, inl, inr, ◌<◌
 use Rattle.std.specs.List.{AllByRecursion}
 use Rattle.std.proofs.lemmas.Bool.{and_parts, eqb-true}
 use Rattle.std.proofs.lemmas.List.{take-append-drop}
-use Rattle.codes3270.specs.declared.attention.Aid.TheVariants.{Clear}
+use Rattle.codes3270.specs.declared.attention.Aid.TheVariants.{NoAid, Clear}
 use Rattle.keyboard.specs.Sending.{SendingWaits}
 use Rattle.keyboard.specs.declared.key.Key.{Key}
 use Rattle.keyboard.specs.declared.key.Lock.TheVariants.{Wait}
@@ -42,7 +42,7 @@ use Rattle.world3270.specs.refinement.Ignored.{without_ignored}
 use Rattle.world3270.specs.refinement.RepresentsEnds.{SameKey, TermPresses}
 use Rattle.world3270.specs.refinement.Sendable.{CanBeSent}
 use Rattle.world3270.specs.statement.EveryTerminal.{key_pressed}
-use Rattle.world3270.specs.statement.EveryTerminalBytes.{BeginsOverBytes, EveryTerminalOverBytes, IsHost, LeadTo, Moves, OverBytes, end_of}
+use Rattle.world3270.specs.statement.EveryTerminalBytes.{BeginsOverBytes, EveryTerminalOverBytes, IsHost, LeadTo, Moves, OverBytes, Pressed, end_of, pressed_by}
 use Rattle.world3270.specs.statement.Instances.{over_bytes}
 use Rattle.world3270.specs.statement.RuleLaws.{KeepsTheRules}
 use Rattle.world3270.specs.statement.Rules.{Operates}
@@ -55,6 +55,7 @@ use Rattle.world3270.proofs.Frames.{at_place, found_sits, found_within, is_withi
 use Rattle.world3270.proofs.HostItems.{stands_read}
 use Rattle.world3270.proofs.Instances.{begin_locked, live_bytes, worlds_begin}
 use Rattle.world3270.proofs.Joinings.{get_or_equal}
+use Rattle.world3270.proofs.WithoutClear.{operated_uncleared}
 use Rattle.world3270.proofs.Keys.{waits as key_waits}
 use Rattle.world3270.proofs.Known.{Facts, facts_now, is_application}
 use Rattle.world3270.proofs.Moved.{edits_in_wait, queued_waits}
@@ -168,14 +169,14 @@ module _ (known : MessageLaws) (bytes : ByteWorld) (is : IsReached bytes) where
         down_is : down_of number bytes ≡ host_out number bytes
         down_is = live_bytes (transits_at number bytes).down (host_out number bytes) live
 
-        over_is : (waits : Bool) → over_bytes_if waits number terminal bytes ≡ joined bytes.host [] slot.tracked waits
-        over_is waits = ap (λ (up : List ℕ). record (joined bytes.host [] slot.tracked waits) { up = up }) up_is
+        over_is : (wait : Pressed) → over_bytes_if wait number terminal bytes ≡ joined bytes.host [] slot.tracked wait
+        over_is wait = ap (λ (up : List ℕ). record (joined bytes.host [] slot.tracked wait) { up = up }) up_is
 
 -- ---- one event
 
 module _ (known : MessageLaws) (takes : TakesLaws) (presses : TermPresses) (rules : KeepsTheRules key_came) (sending : SendingWaits)
-    (number terminal : ℕ) (waits : Bool) (old new : ByteWorld) (is : IsReached old) (found : terminal_at number old.slots ≡ Some terminal) (live : is_lost number old ≡ false)
-    (locked : IsLockedIf waits (slot_at terminal old).tracked) (is_then : IsReached new) (is_host : IsHost new.host) (live_then : is_lost number new ≡ false) where
+    (number terminal : ℕ) (wait : Pressed) (old new : ByteWorld) (is : IsReached old) (found : terminal_at number old.slots ≡ Some terminal) (live : is_lost number old ≡ false)
+    (locked : IsLockedIf wait (slot_at terminal old).tracked) (is_then : IsReached new) (is_host : IsHost new.host) (live_then : is_lost number new ≡ false) where
   abbrev app : Application
   app = application_of old.host.panels
 
@@ -199,24 +200,24 @@ module _ (known : MessageLaws) (takes : TakesLaws) (presses : TermPresses) (rule
 
   -- moves lead on
   record Goes : Type 0 where
-    later : Bool
+    later : Pressed
     states : List OverBytes
-    lead : LeadTo app number states (joined old.host [] tracked waits) (joined new.host [] (slot_at terminal new).tracked later)
+    lead : LeadTo app number states (joined old.host [] tracked wait) (joined new.host [] (slot_at terminal new).tracked later)
     held : IsLockedIf later (slot_at terminal new).tracked
     at : (slot_at terminal new).at ≡ Some number
 
   nothing_happens : new ≡ old → Goes
   nothing_happens same = record {
-    later = waits;
+    later = wait;
     states = [];
-    lead = ap (λ (w : ByteWorld). joined w.host [] (slot_at terminal w).tracked waits) same;
-    held = subst (λ (w : ByteWorld). IsLockedIf waits (slot_at terminal w).tracked) (sym same) locked;
+    lead = ap (λ (w : ByteWorld). joined w.host [] (slot_at terminal w).tracked wait) same;
+    held = subst (λ (w : ByteWorld). IsLockedIf wait (slot_at terminal w).tracked) (sym same) locked;
     at = ap (λ (w : ByteWorld). (slot_at terminal w).at) same ∙ sits;
   }
 
   -- by one move
-  one_move : (host : Host) (ours : TrackedTerminal) (later : Bool) → new.host ≡ host → slot_at terminal new ≡ record its_slot { tracked = ours } → IsLockedIf later ours
-      → Moves app number (joined old.host [] tracked waits) (joined host [] ours later) → Goes
+  one_move : (host : Host) (ours : TrackedTerminal) (later : Pressed) → new.host ≡ host → slot_at terminal new ≡ record its_slot { tracked = ours } → IsLockedIf later ours
+      → Moves app number (joined old.host [] tracked wait) (joined host [] ours later) → Goes
   one_move host ours later host_is slot_is held move = record {
     later = later;
     states = joined host [] ours later ∷ [];
@@ -231,13 +232,13 @@ module _ (known : MessageLaws) (takes : TakesLaws) (presses : TermPresses) (rule
   -- of the host on its other connections
   elsewhere : StaysAt number terminal old new → Goes
   elsewhere stays =
-      one_move new.host tracked waits refl stays.slot locked
+      one_move new.host tracked wait refl stays.slot locked
       (Moves.elsewhere new.host (record { panels = stays.panels; stays = stays.connection; pool = pool_is_sound known new is_then; is_host = is_host }) refl)
 
   -- of the host on this connection
   on_it : (connection : Connection) → new ≡ with_host (with_connection number connection old.host) old
-      → Moves app number (joined old.host [] tracked waits) (joined (with_connection number connection old.host) [] tracked waits) → Goes
-  on_it connection same move = one_move (with_connection number connection old.host) tracked waits (ap (λ (w : ByteWorld). w.host) same) (ap (slot_at terminal) same) locked move
+      → Moves app number (joined old.host [] tracked wait) (joined (with_connection number connection old.host) [] tracked wait) → Goes
+  on_it connection same move = one_move (with_connection number connection old.host) tracked wait (ap (λ (w : ByteWorld). w.host) same) (ap (slot_at terminal) same) locked move
 
   -- ---- no event loses the connection
 
@@ -275,12 +276,12 @@ module _ (known : MessageLaws) (takes : TakesLaws) (presses : TermPresses) (rule
     up_goes same =
         let sends : up_of number old ≡ tracked.terminal.out = up_is known old is number terminal found live in
         let few = subst (λ (b : List ℕ). comes.fed.taken ≤ length (take count b)) sends comes.feeds.few in
-        one_move host_up sent.tracked waits (ap (λ (w : ByteWorld). w.host) same)
-        (ap (slot_at terminal) same ∙ slot_same terminal sent (with_host host_up old) (found_within number terminal old found)) locked
+        one_move host_up sent.tracked wait (ap (λ (w : ByteWorld). w.host) same)
+        (ap (slot_at terminal) same ∙ slot_same terminal sent (with_host host_up old) (found_within number terminal old found)) (record { locked = locked.locked; uncleared = locked.uncleared })
         (Moves.feeds (take count tracked.terminal.out) (drop count tracked.terminal.out) comes.fed comes.counter
         (sym (take-append-drop count tracked.terminal.out))
         (subst (λ (b : List ℕ). Feeds number (connection_and_pool_at number old.host) (take count b) comes.fed comes.counter) sends comes.feeds)
-        (ap (λ (up : List ℕ). record (joined host_up [] sent.tracked waits) { up = up }) (sym (others_left comes.fed.taken count tracked.terminal.out few))))
+        (ap (λ (up : List ℕ). record (joined host_up [] sent.tracked wait) { up = up }) (sym (others_left comes.fed.taken count tracked.terminal.out few))))
 
     up_here : Goes
     up_here = by_stop comes.fed.stop (comes.leaves ∙ ap (host_gone_if comes.fed.stop number) up_made)
@@ -325,16 +326,16 @@ module _ (known : MessageLaws) (takes : TakesLaws) (presses : TermPresses) (rule
         subst (λ (b : List ℕ). TrackedTakes tracked b comes.tracked) (ap (λ (b : List ℕ). take taken (take count b)) under ∙ first_taken taken count out few) comes.feeds.takes in
         let host_is : new.host ≡ host_down = ap (λ (w : ByteWorld). w.host) same in
         let slot_is : slot_at terminal new ≡ took = ap (slot_at terminal) same ∙ slot_same terminal took old (found_within number terminal old found) in
-        let all = all_taken takes app number host_down (take taken out) (drop taken out) tracked comes.tracked its_term.rest its_link waits
+        let all = all_taken takes app number host_down (take taken out) (drop taken out) tracked comes.tracked its_term.rest its_link wait
         (record { talk = its_term.holds.talk; attached = its_term.holds.attached; is_end = its_term.holds.is_end })
         (subst (λ (b : List ℕ). BytesDown its_term.rest b its_link.down) (under ∙ sym (take-append-drop taken out)) its_term.down)
         (its_facts.may number).0 (its_facts.may number).1 (sendable known old is number terminal found) locked takes_them in
         record {
           later = all.later;
-          states = joined host_down (take taken out) tracked waits ∷ all.states;
+          states = joined host_down (take taken out) tracked wait ∷ all.states;
           lead = (
             Moves.hands_over taken refl,
-            subst (λ (b : OverBytes). LeadTo app number all.states (joined host_down (take taken out) tracked waits) b)
+            subst (λ (b : OverBytes). LeadTo app number all.states (joined host_down (take taken out) tracked wait) b)
                 (sym (ap (λ (h : Host). joined h [] (slot_at terminal new).tracked all.later) host_is ∙ ap (λ (s : TerminalSlot). joined host_down [] s.tracked all.later) slot_is))
                 all.lead,
           );
@@ -379,8 +380,8 @@ module _ (known : MessageLaws) (takes : TakesLaws) (presses : TermPresses) (rule
     abbrev says : List ℕ
     says = sent_bytes (says_of_key key (is_bound (phase_of tracked.terminal.link)) tracked.terminal.station)
 
-    abbrev later_then : Bool
-    later_then = waits || is_queued step.sends
+    abbrev later_then : Pressed
+    later_then = pressed_by step wait
 
     -- the screen after it can be sent
     can_then : CanBeSent step.end.display.size step.end.display.screen
@@ -406,19 +407,19 @@ module _ (known : MessageLaws) (takes : TakesLaws) (presses : TermPresses) (rule
         (subst (λ (items : List WireItem). Pairwise IsReadAs items step.sends) (sym (all_heard same_key.items step.sends no_talk same_key.said))
         (pairs_become RepresentsUp IsReadAs stands_read same_key.items step.sends same_key.said)))
 
-    by_rules : (does : Operates end step) × (waits ≡ true → key_pressed does ≢ Clear)
-    by_rules = by_waits waits locked
+    by_rules : (does : Operates end step) × (wait.waits ≡ true → key_pressed does ≡ Clear → ⊥)
+    by_rules = by_waits wait.waits locked.locked
       where
-        by_waits : (b : Bool) → IsLockedIf b tracked → (does : Operates end step) × (b ≡ true → key_pressed does ≢ Clear)
+        by_waits : (b : Bool) → (b ≡ true → tracked.terminal.station.keyboard.lock ≡ Wait) → (does : Operates end step) × (b ≡ true → key_pressed does ≡ Clear → ⊥)
         by_waits true holds =
             let does = edits_in_wait known.worlds.given.keys.at_first key end (holds refl) (can_be_sent known old is number terminal found).sendable.cursor in
             (does.0, λ still. does.1)
         by_waits false holds = (rules key end (can_be_sent known old is number terminal found).sendable.cursor, λ still. absurd (cc))
 
     locked_then : IsLockedIf later_then pressed
-    locked_then = by_waits waits locked
+    locked_then = record { locked = by_waits wait.waits locked.locked; uncleared = operated_uncleared end step by_rules.0 wait.cleared wait.waits locked.uncleared by_rules.1 }
       where
-        by_waits : (b : Bool) → IsLockedIf b tracked → (b || is_queued step.sends) ≡ true → step.end.display.keyboard.lock ≡ Wait
+        by_waits : (b : Bool) → (b ≡ true → tracked.terminal.station.keyboard.lock ≡ Wait) → (b || is_queued step.sends) ≡ true → step.end.display.keyboard.lock ≡ Wait
         by_waits true holds either = (key_waits tracked.terminal.station.screen.size.columns key tracked.terminal.station.keyboard tracked.terminal.station.screen.screen (holds refl)).lock
         by_waits false holds queued = queued_waits sending key end queued
 
@@ -429,7 +430,8 @@ module _ (known : MessageLaws) (takes : TakesLaws) (presses : TermPresses) (rule
           talk = talk;
           attached = its_term.holds.attached;
           does = by_rules.0;
-          not_clear = by_rules.1;
+          not_after_pa = λ waits clear. absurd (by_rules.1 waits clear);
+          not_full = λ cleared. absurd (let wrong : false ≡ true = sym locked.uncleared ∙ cleared in cc);
           stored = can_then;
           bytes = says;
           encoded = read_so;
@@ -583,40 +585,40 @@ module _ (known : MessageLaws) (go : StepsAreSimulated) (takes : TakesLaws) (pre
       record { begin = is.begin; is_begin = is.is_begin; events = is.events ++ goes_on.more; reached = goes_on.reached }
 
   pub events_are_moves : EventsAreMoves
-  events_are_moves number terminal waits event old answer new is found live locked valid steps is_host live_then =
+  events_are_moves number terminal wait event old answer new is found live locked valid steps is_host live_then =
       let app : Application = application_of old.host.panels in
       let is_then : IsReached new = is_next event old answer new is valid steps in
-      let went = goes known takes presses rules sending number terminal waits old new is found live locked is_then is_host live_then event answer valid steps in
+      let went = goes known takes presses rules sending number terminal wait old new is found live locked is_then is_host live_then event answer valid steps in
       let there = found_there known new is_then number terminal went.at in
       record {
         later = went.later;
         states = went.states;
-        lead = subst (λ (b : OverBytes). LeadTo app number went.states b (over_bytes_if went.later number terminal new)) (sym (over_is known old is number terminal found live waits))
-            (subst (λ (b : OverBytes). LeadTo app number went.states (joined old.host [] (slot_at terminal old).tracked waits) b) (sym (over_is known new is_then number terminal there live_then went.later)) went.lead);
+        lead = subst (λ (b : OverBytes). LeadTo app number went.states b (over_bytes_if went.later number terminal new)) (sym (over_is known old is number terminal found live wait))
+            (subst (λ (b : OverBytes). LeadTo app number went.states (joined old.host [] (slot_at terminal old).tracked wait) b) (sym (over_is known new is_then number terminal there live_then went.later)) went.lead);
         locked = went.held;
         there = there;
       }
 
-  all_are_moves : (number terminal : ℕ) (waits : Bool) (events : List Event) (old new : ByteWorld) → IsReached old → terminal_at number old.slots ≡ Some terminal → is_lost number old ≡ false
-      → IsLockedIf waits (slot_at terminal old).tracked → GoOnAt number events old new → IsMovedTo number terminal waits old new
+  all_are_moves : (number terminal : ℕ) (wait : Pressed) (events : List Event) (old new : ByteWorld) → IsReached old → terminal_at number old.slots ≡ Some terminal → is_lost number old ≡ false
+      → IsLockedIf wait (slot_at terminal old).tracked → GoOnAt number events old new → IsMovedTo number terminal wait old new
   unfolding is_next
-  all_are_moves number terminal waits [] old new is found live locked same = record {
-    later = waits;
+  all_are_moves number terminal wait [] old new is found live locked same = record {
+    later = wait;
     states = [];
-    lead = ap (over_bytes_if waits number terminal) same;
-    locked = subst (λ (w : ByteWorld). IsLockedIf waits (slot_at terminal w).tracked) (sym same) locked;
+    lead = ap (over_bytes_if wait number terminal) same;
+    locked = subst (λ (w : ByteWorld). IsLockedIf wait (slot_at terminal w).tracked) (sym same) locked;
     there = ap (λ (w : ByteWorld). terminal_at number w.slots) same ∙ found;
   }
-  all_are_moves number terminal waits (event ∷ events) old new is found live locked on =
+  all_are_moves number terminal wait (event ∷ events) old new is found live locked on =
       let answer : Stepped = on.0 in
       let next : ByteWorld = on.1 in
       let is_then : IsReached next = is_next event old answer next is on.2 on.3 in
-      let one = events_are_moves number terminal waits event old answer next is found live locked on.2 on.3 on.4 on.5 in
+      let one = events_are_moves number terminal wait event old answer next is found live locked on.2 on.3 on.4 on.5 in
       let more = all_are_moves number terminal one.later events next new is_then one.there on.5 one.locked on.6 in
       record {
         later = more.later;
         states = one.states ++ more.states;
-        lead = lead_on (application_of old.host.panels) number one.states more.states (over_bytes_if waits number terminal old) (over_bytes_if one.later number terminal next)
+        lead = lead_on (application_of old.host.panels) number one.states more.states (over_bytes_if wait number terminal old) (over_bytes_if one.later number terminal next)
             (over_bytes_if more.later number terminal new) one.lead
             (subst (λ (p : Panels). LeadTo (application_of p) number more.states (over_bytes_if one.later number terminal next) (over_bytes_if more.later number terminal new))
             (is_then.reached.panels ∙ sym is.reached.panels) more.lead);
@@ -629,10 +631,11 @@ module _ (known : MessageLaws) (go : StepsAreSimulated) (takes : TakesLaws) (pre
   pub worlds_move : LowerLaws → PanelsAreShown → ServedIsMarked → EveryTerminalOverBytes → WorldsMoveOverBytes
   worlds_move given panels served every number terminal lu events old new is is_host a on =
       let begins : BeginsOverBytes (application_of old.host.panels) number lu (over_bytes number terminal old) = worlds_begin given panels served number terminal lu old is is_host a in
-      let moved = all_are_moves number terminal true events old new is a.there a.live (λ waits. begin_locked given panels served number terminal lu old is a) on in
+      let moved = all_are_moves number terminal (record { waits = true; first = NoAid; cleared = false }) events old new is a.there a.live
+      (record { locked = λ waits. begin_locked given panels served number terminal lu old is a; uncleared = refl }) on in
       record {
         begins = begins;
-        waits = moved.later;
+        pressed = moved.later;
         states = moved.states;
         lead = moved.lead;
         right = every number lu (over_bytes number terminal old) (over_bytes_if moved.later number terminal new) moved.states

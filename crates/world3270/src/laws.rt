@@ -441,11 +441,13 @@ pub fn every_terminal()
 /// terminal takes each byte as RFC 1647 and GA23-0059 say, and may spell what it sends in any way that the
 /// host reads alike. It may also send what the host ignores, or answers by refusing an option: commands,
 /// options but WONT TN3270E, subnegotiations of other options, and records of other types. The bytes
-/// represent a connection over messages after moves that keep the rules, for which `every_terminal` holds.
+/// represent a connection over messages after moves that keep the rules, for which `every_terminal` holds. Clear may be
+/// pressed in the wait, but not after PA; after that, no key sends as many characters in the wait as the screen has cells.
 pub fn every_terminal_over_bytes()
     ensures { EveryTerminalOverBytes }
 {
     what_is_known();
+    what_is_believed_has_a_size();
     bytes_stand_for_messages();
     sent_is_read();
     painted_fields_are_there();
@@ -493,6 +495,8 @@ pub fn worlds_begin_so()
     ensures runs { WorldsMoveOverBytes }
 {
     what_is_known();
+    what_is_believed_has_a_size();
+    sent_is_read();
     what_is_given();
     panels_are_shown();
     what_is_served_is_marked();

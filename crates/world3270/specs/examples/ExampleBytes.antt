@@ -16,6 +16,7 @@ use Rattle.tn3270e_msg.specs.Talk.{start_at}
 use Rattle.tn3270e_msg.specs.TermTable.{Term}
 use Rattle.tn3270e_msg.specs.declared.host_talk.HostState.TheVariants.{Agreed as HostAgreed}
 use Rattle.tn3270e_msg.specs.declared.term_talk.TermState.TheVariants.{Agreed}
+use Rattle.codes3270.specs.declared.attention.Aid.TheVariants.{NoAid}
 use Rattle.host_core.specs.Application.{application_of}
 use Rattle.host_core.specs.Reports.{no_reports}
 use Rattle.host_core.specs.Session.{Session, agreed_lu, new_conn}
@@ -89,7 +90,13 @@ bound_terminal = record {
 
 -- nothing is under way
 abbrev pub agreed_bytes : OverBytes
-agreed_bytes = record { host = agreed_host; down = []; up = []; tracked = bound_terminal; waits = true }
+agreed_bytes = record {
+  host = agreed_host;
+  down = [];
+  up = [];
+  tracked = bound_terminal;
+  pressed = record { waits = true; first = NoAid; cleared = false };
+}
 
 -- The client offers NAWS (option 31, RFC 1073), and sends a subnegotiation of TERMINAL-TYPE (24, RFC 1091) and a record of
 -- NVT-DATA.

@@ -200,14 +200,35 @@ shown_once_more = clears_before_paint ++ acts ∷ goes_down ∷ goes_up ∷ []
 abbrev pub required_seen : Screen
 required_seen = sign_on_seen (typed_into true (0 ∷ 0 ∷ 0 ∷ [])) (typed_into true (0xE8 ∷ [])) required_name
 
+-- `A` and PF6; the host verifies, so it reads the screen. Clear crosses the Read Buffer, so that the answer has the
+-- cleared screen.
+abbrev pub clears_before_read : List Deed
+clears_before_read =
+    signs_on ++ presses (key.Char 0x41) ∷ presses (key.Pf 6) ∷ goes_up ∷ acts ∷ presses key.Reset ∷ presses key.Clear
+    ∷ goes_down ∷ goes_up ∷ goes_up ∷ []
+
+abbrev pub answered_behind_read : List Deed
+answered_behind_read = clears_before_read ++ answers renamed ∷ goes_down ∷ goes_up ∷ []
+
+-- `A` and PA1, after which the host reads the screen; then Clear. The host hears of it once it has the answer.
+abbrev pub clears_after_read : List Deed
+clears_after_read =
+    signs_on ++ presses (key.Char 0x41) ∷ presses (key.Pa 1) ∷ goes_up ∷ acts ∷ goes_down ∷ presses key.Reset
+    ∷ presses key.Clear ∷ goes_up ∷ goes_up ∷ []
+
 -- The host drops Clear, and still asks what PF6 sent. Whether it heard of Clear before it sent a panel or after, the
--- panel is on the screen in the end.
+-- panel is on the screen in the end. A Clear that crosses a Read Buffer is dropped, too, and one that comes after the
+-- answer: the host was told what was on the screen before.
 pub record ClearedRun : Type 0 where
   pub cleared : (after Any clears_in_the_wait).cleared ≡ true
   pub asked : still_asked (after Any clears_in_the_wait) ≡ Some (0xC1 ∷ [])
   pub erased : shown_by (after Any answered_behind) ≡ small_greeting renamed_seen
   pub crossed : shown_by (after Any clears_before_paint) ≢ required_seen
   pub repeated : shown_by (after Any shown_once_more) ≡ required_seen
+  pub read : name_asked (after Verified clears_before_read) ≡ Some (0xC1 ∷ [])
+  pub read_erased : shown_by (after Verified answered_behind_read) ≡ small_greeting renamed_seen
+  pub told : slice_get (after Any clears_after_read).told.screen.cells 6 ≡ Some (Char 0xC1)
+  pub nulled : slice_get (shown_by (after Any clears_after_read)).cells 6 ≡ Some (Char 0)
 
 -- ---- a rule is broken
 

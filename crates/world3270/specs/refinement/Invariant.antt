@@ -30,7 +30,7 @@ use Rattle.host_core.specs.Application.{Application, IsSizeOf, message_place}
 use Rattle.host_core.specs.Session.{Session}
 use Rattle.host_core.specs.Laws.{IsPaintable}
 use Rattle.host_core.specs.NoteLaws.{HasMessageRow, HasNoFields, TakesNotes, IsNoteOf}
-use Rattle.host_core.specs.Takes.{is_after_pa, may_be_read, may_have_changed}
+use Rattle.host_core.specs.Takes.{is_after_pa, is_unread, may_be_read, may_have_changed}
 use Rattle.host_core.specs.declared.turn_reason.TurnReason.{TurnReason}
 use Rattle.host_core.specs.declared.turn_reason.TurnReason.TheVariants as turn_reasons
 use Rattle.host_core.specs.declared.unheard.Unheard.{Unheard}
@@ -185,11 +185,13 @@ pub record Decides (s : LocalState) (shadow : Shadow) : Type 0 where
   pub closed : IfRelies s.unheard (IsOpenFor s.turn_reason shadow)
   pub sees : Sees s.unheard s.size s.screen shadow
 
--- Holds while the screen is read before the host decides. It is never read after Clear, nor before a panel was shown.
+-- Holds while the screen is read before the host decides. It is never read after Clear, nor before a panel was shown,
+-- nor twice after PA.
 pub record IsRead (s : LocalState) : Type 0 where
   pub decides : Decides s s.shadow
   pub not_cleared : s.screen.aid ≡ Clear → ⊥
   pub not_first : s.turn_reason ≡ turn_reasons.Agreement → ⊥
+  pub unread : is_after_pa s.turn_reason ≡ true → is_unread s.turn_reason ≡ true
 
 -- whether the answer to Read Buffer counts (`is_read_believed`)
 abbrev pub counts : LocalState → Bool

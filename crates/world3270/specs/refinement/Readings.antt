@@ -1,6 +1,6 @@
 -- Which items a host reads as which messages (RFC 1647, sections 8.1 and 10.4; that it reads no more of a record is our
 -- profile), and what may come to it next.
-use Rattle.std.specs.Prelude.{◌≡◌, ◌⊎◌, ◌<◌, ◌≤◌, ⊤, ℕ, true, List, [], ◌∷◌}
+use Rattle.std.specs.Prelude.{◌≡◌, ◌⊎◌, ◌<◌, ◌≤◌, ⊤, ℕ, suc, true, List, [], ◌∷◌}
 use Rattle.codes3270.specs.Size.{cells_in}
 use Rattle.datastream.specs.InboundText.{InboundParts, IsInbound}
 use Rattle.datastream.specs.declared.inbound_part.Form.TheVariants.{Buffer, Modified}
@@ -57,21 +57,20 @@ AreReadAs bytes messages = BytesRepresent without_ignored IsReadAs nothing bytes
 
 -- ---- what may come next
 
--- Holds if no character or attribute precedes the first address, as in data from a formatted screen.
-abbrev pub HasNoLeadingText : List Part → Type 0
-HasNoLeadingText [] = ⊤
-HasNoLeadingText (At address ∷ parts) = ⊤
-HasNoLeadingText (Char char ∷ parts) = ⊥
-HasNoLeadingText (Attr attr ∷ parts) = ⊥
+-- how many characters precede the first address; none in data from a formatted screen
+abbrev pub count_leading : List Part → ℕ
+count_leading [] = 0
+count_leading (At address ∷ parts) = 0
+count_leading (Char char ∷ parts) = suc (count_leading parts)
+count_leading (Attr attr ∷ parts) = 0
 
 -- Holds if the data may be a second key's, while a paint or a Read Buffer is pending: it fits the screen by whose size
--- the host reads it, and can't be mistaken for the answer to the Read Buffer.
+-- the host reads it, and can't be mistaken for the answer to the Read Buffer, which has as many characters as the screen.
 pub record IsSecondKeyIn (conn : Session) (parts : InboundParts) : Type 0 where
   pub may_be : may_be_second_key conn ≡ true
   pub form : parts.form ≡ Modified
   pub size : cells_in parts.size ≤ cells_in (second_key_size conn conn.pending)
-  pub some : 0 < cells_in conn.size
-  pub no_lead : form_awaited conn.pending ≡ Buffer → HasNoLeadingText parts.parts
+  pub few : form_awaited conn.pending ≡ Buffer → count_leading parts.parts < cells_in conn.size
 
 -- Holds if the host may be sent this message now: LUs are named; data is as it awaits it, or is a second key's.
 abbrev pub MayBeSent : Session → ToHost → Type 0

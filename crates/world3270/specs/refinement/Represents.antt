@@ -2,7 +2,6 @@
 -- for each, apart from those that the receiver ignores, as NOP (RFC 854; RFC 1647, sections 8.1 and
 -- 10.4; what is sent when is our profile).
 use Rattle.std.specs.Prelude.{◌≡◌, ◌≢◌, ◌<◌, ◌^◌, ◌==◌, not, ℕ, Bool, true, false, List, [], filter, Option, Some}
-use Rattle.datastream.specs.declared.command_code.CommandCode.TheVariants.{Write}
 use Rattle.presentation.specs.Sizes.{SizedScreen}
 use Rattle.world3270.specs.refinement.Sendable.{IsSpeltFor}
 use Rattle.codes3270.specs.Size.{ScreenSize, cells_in}
@@ -11,15 +10,15 @@ use Rattle.datastream.specs.InboundText.{IsInbound}
 use Rattle.datastream.specs.Meaning.{after_command}
 use Rattle.datastream.specs.Screen.{Screen}
 use Rattle.datastream.specs.Wanted.{WantedScreen}
-use Rattle.shadow.specs.Belief.{Shadow, cells_believed}
+use Rattle.shadow.specs.Belief.{Shadow}
 use Rattle.shadow.specs.Meets.{Meets}
+use Rattle.shadow.specs.Paint.{paint}
 use Rattle.shadow.specs.Painted.{plainly_painted}
 use Rattle.shadow.specs.Pairs.{Pairwise}
 use Rattle.telnet_wire.specs.Items.{WireItem, Record, Opt, Sub, Other}
 use Rattle.telnet_wire.specs.Reading.{Rest, IsRest, nothing, Delivers}
 use Rattle.tn3270e_msg.specs.Header.{Begins, record_limit, error_response, always_response}
 use Rattle.tn3270e_msg.specs.TermTable.{Term}
-use Rattle.term_core.specs.Records.{is_restoring_write}
 use Rattle.term_core.specs.Says.{response, data_record}
 use Rattle.term_core.specs.State.{Attached}
 use Rattle.term_core.specs.declared.outcome.Outcome.{Outcome}
@@ -34,24 +33,17 @@ use Rattle.world3270.specs.model.Terminal.{TermEnd, Display}
 
 -- ---- one item down
 
--- Holds if the command is a write that restores the keyboard and turns every screen that meets the belief into the
--- wanted screen. It is an Erase/Write or Erase/Write Alternate unless the believed screen has the wanted size.
-pub record Paints (command : CommandParts) (wanted : WantedScreen) (believed : Shadow) : Type 0 where
-  pub writes : is_restoring_write command ≡ true
-  pub size : command.size ≡ wanted.size
-  pub over : command.code ≡ Write → cells_believed believed ≡ Some (cells_in wanted.size)
-  pub paints : (screen : Screen) → Meets believed screen
-      → after_command command screen ≡ plainly_painted wanted screen
-
--- Holds if the item is a record with ALWAYS-RESPONSE (RFC 1647, section 8.1) and a command that paints the screen.
+-- Holds if the item is a record with ALWAYS-RESPONSE (RFC 1647, section 8.1) and the very command that paints the wanted
+-- screen over the believed one. On every screen it leaves what that command leaves; on each one that meets the belief,
+-- the wanted screen.
 pub record IsPaint (item : WireItem) (number : ℕ) (wanted : WantedScreen) (believed : Shadow) : Type 0 where
   pub bytes : List ℕ
   pub body : List ℕ
-  pub command : CommandParts
   pub is_record : item ≡ Record bytes
   pub begins : Begins bytes (command_header always_response number) body
-  pub encoded : IsSpeltFor wanted command body
-  pub paints : Paints command wanted believed
+  pub encoded : IsSpeltFor wanted (paint (cells_in wanted.size) believed wanted) body
+  pub paints : (screen : Screen) → Meets believed screen
+      → after_command (paint (cells_in wanted.size) believed wanted) screen ≡ plainly_painted wanted screen
 
 -- Holds if the item is a record with ERROR-RESPONSE and Read Buffer.
 pub record IsRead (item : WireItem) (number : ℕ) : Type 0 where

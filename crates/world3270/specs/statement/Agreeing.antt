@@ -1,6 +1,6 @@
 -- The host's half of a begin of `EveryTerminalOverBytes`: until the host has agreed on an LU it does nothing but
 -- negotiate; and it agrees within a turn of serving, of which the rest is moves (RFC 1647, section 7; our profile).
-use Rattle.std.specs.Prelude.{◌≡◌, ◌<◌, ◌++◌, ℕ, Bool, false, List, None, Some, length}
+use Rattle.std.specs.Prelude.{◌≡◌, ◌<◌, ◌++◌, ℕ, false, List, None, Some, length}
 use Rattle.telnet_wire.specs.Reading.{Rest}
 use Rattle.host_core.specs.Acts.{acted}
 use Rattle.host_core.specs.Application.{Application, application_of}
@@ -18,7 +18,7 @@ use Rattle.host_core.specs.declared.question.Ticket.{Ticket}
 use Rattle.host_core.specs.declared.serving.Served.{Served}
 use Rattle.host_core.specs.declared.terminals.Terminals.{Terminals}
 use Rattle.world3270.specs.model.TrackedTerminals.{TrackedTerminal}
-use Rattle.world3270.specs.statement.EveryTerminalBytes.{OverBytes}
+use Rattle.world3270.specs.statement.EveryTerminalBytes.{OverBytes, Pressed}
 use Rattle.world3270.specs.statement.Serving.{AreQueues, IsTurn, over_queues}
 
 -- Holds if the session is as at the begin of its connection, but for the negotiation.
@@ -101,6 +101,6 @@ module _ {L : Type 0} (gave : L → ℕ → ℕ → List ℕ → LinkRead → L 
       → number < length old.connections → state_at number old ≡ Service.Open rest conn
       → is_agreed conn.talk.state ≡ false → IsFresh (application_of old.panels) serves conn
       → Serves gave took number old links answer new left → state_at number new ≡ Service.Open to now
-      → (tracked : TrackedTerminal) (waits : Bool)
-      → TurnNegotiates (application_of old.panels) serves number (over_queues gave took up down old links tracked waits)
-      (over_queues gave took up down new left tracked waits) answer now
+      → (tracked : TrackedTerminal) (pressed : Pressed)
+      → TurnNegotiates (application_of old.panels) serves number (over_queues gave took up down old links tracked pressed)
+      (over_queues gave took up down new left tracked pressed) answer now

@@ -25,12 +25,14 @@ use Rattle.host_core.specs.Laws.{MarksInput}
 use Rattle.host_core.specs.Messages.{ToTerminal, ToHost, Verdict}
 use Rattle.host_core.specs.Notes.{IsNoteText, noted}
 use Rattle.host_core.specs.Questions.{answered_on, question_in}
-use Rattle.host_core.specs.Session.{Session, agreed_lu, model_in, new_conn, unheard_of}
-use Rattle.host_core.specs.Takes.{took as host_took}
+use Rattle.host_core.specs.Session.{Pending, Session, agreed_lu, model_in, new_conn, unheard_of}
+use Rattle.host_core.specs.Takes.{is_unread, took as host_took}
 use Rattle.host_core.specs.declared.question.Answer.{Answer as ApplicationAnswer}
 use Rattle.host_core.specs.declared.question.Question.{Question}
 use Rattle.host_core.specs.declared.terminals.Terminals.{Terminals}
+use Rattle.host_core.specs.declared.turn.Turn.{Turn}
 use Rattle.host_core.specs.declared.turn.Turn.TheVariants as whose
+use Rattle.host_core.specs.declared.turn_reason.TurnReason.{TurnReason}
 use Rattle.host_core.specs.declared.turn_reason.TurnReason.TheVariants.{Refusal}
 use Rattle.host_core.specs.declared.unheard.Unheard.TheVariants.{Input}
 use Rattle.world3270.specs.statement.Asked.{AreFieldsAsked, IsKeyAsked, IsPanelAsked, IsSeen, ShowsItsFields, panel_with_keys}
@@ -188,24 +190,32 @@ abbrev pub key_pressed : {end : TermEnd} {step : TermStep} → Operates end step
 key_pressed (Operates.edits keyboard cells cursor erases held on is) = NoAid
 key_pressed (Operates.sends keyboard aid some is) = aid
 
--- Holds if no Read Buffer is next for the terminal: after Clear in the wait it would have crossed it. Paints and notes
--- may.
-abbrev pub CrossesNoClear : List ToTerminal → Type 0
-CrossesNoClear [] = ⊤
-CrossesNoClear (ToTerminal.Paint number wanted over ∷ rest) = ⊤
-CrossesNoClear (ToTerminal.ReadBuffer number ∷ rest) = ⊥
-CrossesNoClear (ToTerminal.Note number command ∷ rest) = ⊤
-CrossesNoClear (ToTerminal.TalksDown saying ∷ rest) = ⊤
+-- Whether the terminal has answered the Read Buffer that the host sends after PA, by where the host is: in its turn, it
+-- has the answer, or it awaits it and the Read Buffer isn't under way any more; after that, the paint is under way.
+abbrev pub is_answered : Turn → Pending → TurnReason → List ToTerminal → Bool
+is_answered whose.Host (Pending.Reading number) reason down = not (is_queued down)
+is_answered whose.Host Pending.Nothing reason down = not (is_unread reason)
+is_answered whose.Host (Pending.Writing number command) reason down = not (is_unread reason)
+is_answered whose.Host (Pending.Noting number command) reason down = not (is_unread reason)
+is_answered whose.Terminal (Pending.Writing number command) reason down = is_queued down
+is_answered whose.Terminal (Pending.Reading number) reason down = false
+is_answered whose.Terminal Pending.Nothing reason down = false
+is_answered whose.Terminal (Pending.Noting number command) reason down = false
+
+-- Holds if the first key since the last paint wasn't PA, or the terminal has answered the Read Buffer since.
+abbrev pub HasAnswered : LinkWithReport → Type 0
+HasAnswered t = is_pa t.told.screen.aid ≡ true
+    → is_answered t.link.host.turn t.link.host.pending t.link.host.turn_reason t.link.down ≡ true
 
 -- Holds if a move keeps the rules: the pool is sound, the operator does what `Operates` allows, and a note has a note's
--- text. Clear may be pressed in the wait, but not after PA, whose screen the host reads; what it may cross,
--- `CrossesNoClear` says.
+-- text. Clear may be pressed in the wait; but if the first Clear there follows PA, the terminal has answered the Read
+-- Buffer before.
 abbrev pub IsByTheRules : Move → LinkWithReport → Type 0
 IsByTheRules (Move.Up pool) t = IsSound pool
 IsByTheRules (Move.Operate step) t = (does : Operates t.link.term step)
-    × (t.waits ≡ true → key_pressed does ≡ Clear → is_pa t.told.screen.aid ≡ false)
+    × (t.waits ≡ true → t.cleared ≡ false → key_pressed does ≡ Clear → HasAnswered t)
 IsByTheRules (Move.Note text) t = IsNoteText text
-IsByTheRules Move.Down t = t.cleared ≡ true → CrossesNoClear t.link.down
+IsByTheRules Move.Down t = ⊤
 IsByTheRules Move.Act t = ⊤
 IsByTheRules (Move.Answer said) t = ⊤
 IsByTheRules Move.Lose t = ⊤

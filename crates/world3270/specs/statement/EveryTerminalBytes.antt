@@ -1,14 +1,25 @@
 -- One connection over bytes between a host that serves any terminal and a terminal that keeps the rules, from the
 -- host's agreement on an LU on (our profile): what may happen on it, in terms of the calls of `Host`, and what holds
 -- then. Other clients may do anything.
-use Rattle.std.specs.Prelude.{◌≡◌, ◌≢◌, ◌<◌, ◌||◌, ℕ, Bool, true, false, List, [], ◌∷◌, ◌++◌, Some, ⊤, All, drop, take, if◌then◌else◌}
-use Rattle.codes3270.specs.declared.attention.Aid.TheVariants.{Clear}
+use Rattle.std.specs.Prelude.{◌≡◌, ◌<◌, ◌==◌, ◌||◌, ◌&&◌, not, ℕ, Bool, true, false, List, [], ◌∷◌, ◌++◌, Option, Some, None, ⊤, All, drop, take, if◌then◌else◌}
+use Rattle.codes3270.specs.declared.attention.Aid.{Aid}
+use Rattle.codes3270.specs.declared.attention.Aid.TheVariants.{NoAid, Clear}
+use Rattle.codes3270.specs.declared.attribute.Cell.{Cell}
+use Rattle.codes3270.specs.declared.attribute.Cell.TheVariants.{Char, Attr}
+use Rattle.datastream.specs.Grammar.{codes_of}
+use Rattle.datastream.specs.InboundText.{stands_alone}
+use Rattle.datastream.specs.declared.command_code.CommandCode.{CommandCode}
+use Rattle.datastream.specs.declared.command_code.CommandCode.TheVariants.{EraseWrite, EraseWriteAlternate}
+use Rattle.datastream.specs.declared.inbound_part.Form.TheVariants.{Modified}
 use Rattle.lu_pool.specs.HolderLaws.{IsSound as IsSoundPool}
 use Rattle.panels.specs.Panel.{AreSound}
+use Rattle.telnet_wire.specs.Items.{WireItem, Record}
 use Rattle.telnet_wire.specs.Reading.{Rest}
+use Rattle.tn3270e_msg.specs.Header.{header_length}
 use Rattle.tn3270e_msg.specs.TermTable.{Term}
 use Rattle.tn3270e_msg.specs.declared.cause.Fed.{Fed}
-use Rattle.term_core.specs.State.{Attached}
+use Rattle.term_core.specs.Bytes.{TakesByte}
+use Rattle.term_core.specs.State.{Attached, Terminal}
 use Rattle.host_core.specs.Application.{Application, AreTexts, application_of}
 use Rattle.host_core.specs.Bytes.{ConnectionAndPool}
 use Rattle.host_core.specs.Does.{Does as HostDoes, DoesAnswer, acted_by, noted_by}
@@ -25,7 +36,7 @@ use Rattle.host_core.specs.declared.acted.Acted.TheVariants as acted_as
 use Rattle.host_core.specs.declared.question.Answer.{Answer as ApplicationAnswer}
 use Rattle.host_core.specs.declared.question.Ticket.{Ticket}
 use Rattle.world3270.specs.model.ByteWorld.{is_there}
-use Rattle.world3270.specs.statement.EveryTerminal.{AreByTheRules, FirstPaint, Move, RightOf, LinkWithReport, after_moves, key_pressed}
+use Rattle.world3270.specs.statement.EveryTerminal.{AreByTheRules, FirstPaint, Move, RightOf, LinkWithReport, after_moves, is_pa, key_pressed, sends_clear}
 use Rattle.world3270.specs.model.Enabled.{is_queued}
 use Rattle.world3270.specs.refinement.Readings.{AreReadAs, IsReadAs}
 use Rattle.world3270.specs.statement.Rules.{Operates}
@@ -38,17 +49,25 @@ use Rattle.world3270.specs.model.TrackedTerminals.{TrackedTerminal, TrackedTakes
 
 -- ---- the connection
 
+-- What was pressed in the wait. `waits`: a key that sent data was pressed since the last write that restored the
+-- keyboard, so that a 3278's keyboard would be locked, or there was no such write yet. `first`: the AID of that key.
+-- `cleared`: Clear was pressed since, too. Then a write that doesn't erase doesn't end the wait: the host writes its
+-- panel again.
+pub record Pressed : Type 0 where
+  pub waits : Bool
+  pub first : Aid
+  pub cleared : Bool
+
 -- The host with all its connections; the bytes under way to the terminal, which the host has handed over, and to the
--- host; and the terminal with the history of its screen. The terminal's output counts as under way. `waits`: a key that
--- sent data was pressed since the last write that restored the keyboard, so that a 3278's keyboard would be locked. A
--- loss needs no move: no move has to happen, so after a loss, in one direction or both, nothing more is taken or fed
--- there. Closing the connection at the host ends what is said here.
+-- host; and the terminal with the history of its screen. The terminal's output counts as under way. No step of either
+-- end reads `pressed`. A loss needs no move: no move has to happen, so after a loss, in one direction or both, nothing
+-- more is taken or fed there. Closing the connection at the host ends what is said here.
 pub record OverBytes : Type 0 where
   pub host : Host
   pub down : List ℕ
   pub up : List ℕ
   pub tracked : TrackedTerminal
-  pub waits : Bool
+  pub pressed : Pressed
 
 -- ---- the terminal
 
@@ -79,6 +98,33 @@ displaying display number tracked = record {
   };
 }
 
+-- the item that a byte completes, if it does
+abbrev pub item_completed : {old new : Terminal} {byte : ℕ} → TakesByte old byte new → Option WireItem
+item_completed (TakesByte.goes_on rest to talk held delivers is) = None
+item_completed (TakesByte.completes rest to talk after item says closes station held delivers takes is) = Some item
+item_completed (TakesByte.breaks rest talk fault held wrong is) = None
+
+-- whether the first byte is one of the command's two codes (GA23-0059-07, "Commands")
+abbrev pub is_code : CommandCode → List ℕ → Bool
+is_code code [] = false
+is_code code (byte ∷ rest) = byte == (codes_of code).0 || byte == (codes_of code).1
+
+-- whether the item is a record with this command after its header (RFC 1647, section 8.1)
+abbrev pub has_code : CommandCode → Option WireItem → Bool
+has_code code (Some (Record bytes)) = is_code code (drop header_length bytes)
+has_code code _ = false
+
+-- Whether a byte ends the wait: it completes a write that restores the keyboard, and one that erases if Clear was
+-- pressed in the wait.
+abbrev pub ends_wait : (cleared writes : Bool) → Option WireItem → Bool
+ends_wait cleared writes item =
+    (not cleared || (has_code EraseWrite item || has_code EraseWriteAlternate item)) && writes
+
+-- what was pressed in the wait, once the wait has ended if it ends
+abbrev pub ended_if : Bool → Pressed → Pressed
+ended_if true pressed = record { waits = false; first = NoAid; cleared = false }
+ended_if false pressed = pressed
+
 -- The terminal takes the next byte, as RFC 1647 and GA23-0059-07 say and as ours does. It may send any bytes that the
 -- host reads as the messages that ours sends.
 pub record Takes (old new : OverBytes) : Type 0 where
@@ -94,18 +140,42 @@ pub record Takes (old new : OverBytes) : Type 0 where
     down = behind;
     up = old.up ++ bytes;
     tracked = with_out [] ours;
-    waits = if ours.terminal.station.took_write then false else old.waits;
+    pressed = ended_if
+        (ends_wait old.pressed.cleared ours.terminal.station.took_write (item_completed takes.takes)) old.pressed;
   }
 
+-- what was pressed in the wait, after a step of the operator
+abbrev pub pressed_by : TermStep → Pressed → Pressed
+pressed_by step old = record {
+  waits = old.waits || is_queued step.sends;
+  first = if old.waits then old.first else step.end.display.screen.aid;
+  cleared = old.cleared || (old.waits && sends_clear step);
+}
+
+-- whether each cell has a character: no attribute, so that the screen has no fields, and no null
+abbrev pub is_full : List Cell → Bool
+is_full [] = true
+is_full (Char byte ∷ cells) = not (byte == 0) && is_full cells
+is_full (Attr attribute ∷ cells) = false
+
+-- whether a step of the operator sends the characters of such a screen; Clear and PA send none
+abbrev pub sends_full : TermStep → Bool
+sends_full step = let screen = step.end.display.screen in
+    is_queued step.sends && (not (stands_alone Modified screen.aid) && is_full screen.cells)
+
 -- The operator does something by the rules, on a connection that the terminal hasn't closed, and leaves characters that
--- a terminal can store. Clear isn't pressed during the wait. The terminal may spell what it sends in any way that the
--- host reads alike, and number its records of data as it likes.
+-- a terminal can store. The terminal may spell what it sends in any way that the host reads alike, and number its
+-- records of data as it likes.
+-- Clear may be pressed in the wait, but not after PA, whose screen the host reads (`not_after_pa`). After Clear in the
+-- wait no key sends a whole screen of characters: its data would have the bytes of an answer to Read Buffer
+-- (`not_full`). That excludes an operator who fills the cleared screen, to the last cell, before the wait ends.
 pub record IsOperated (step : TermStep) (old new : OverBytes) : Type 0 where
   pub rest : Rest
   pub talk : Term
   pub attached : old.tracked.terminal.link ≡ Attached rest talk
   pub does : Operates (end_of talk old.tracked) step
-  pub not_clear : old.waits ≡ true → key_pressed does ≢ Clear
+  pub not_after_pa : old.pressed.waits ≡ true → key_pressed does ≡ Clear → is_pa old.pressed.first ≡ false
+  pub not_full : old.pressed.cleared ≡ true → sends_full step ≡ false
   pub stored : CanBeSent step.end.display.size step.end.display.screen
   pub bytes : List ℕ
   pub encoded : AreReadAs bytes step.sends
@@ -113,7 +183,7 @@ pub record IsOperated (step : TermStep) (old new : OverBytes) : Type 0 where
   pub leaves : new ≡ record old {
     up = old.up ++ bytes;
     tracked = displaying step.end.display number old.tracked;
-    waits = old.waits || is_queued step.sends;
+    pressed = pressed_by step old.pressed;
   }
 
 -- ---- what may happen
@@ -241,12 +311,18 @@ link_over number bytes = record {
   tracked = bytes.tracked;
 }
 
+-- Holds if this was pressed in the wait over messages, where `first` is the AID of what the host was told.
+pub record WasPressed (pressed : Pressed) (waits : Bool) (first : Aid) (cleared : Bool) : Type 0 where
+  pub waits_is : pressed.waits ≡ waits
+  pub first_is : waits ≡ true → pressed.first ≡ first
+  pub cleared_is : pressed.cleared ≡ cleared
+
 -- Holds if the bytes represent the connection over messages: the ends are equal, and the bytes spell its messages, apart
 -- from what each end ignores.
 pub record Represents (number : ℕ) (bytes : OverBytes) (told : LinkWithReport) : Type 0 where
   pub is_open : IsOpen (state_at number bytes.host)
   pub stands : LinkRepresentsBy without_ignored IsReadAs is_ignored_by_terminal (link_over number bytes) told.link
-  pub waits : bytes.waits ≡ told.waits
+  pub pressed : WasPressed bytes.pressed told.waits told.told.screen.aid told.cleared
   pub unnamed : told.link.term.waits ≡ false
   pub stored : CanBeSent told.link.term.display.size told.link.term.display.screen
 

@@ -1,5 +1,6 @@
 -- The connections of worlds are such as `EveryTerminal` and `EveryTerminalOverBytes` speak of (our profile).
 use Rattle.std.specs.Prelude.{◌≡◌, ℕ, true, false, List, [], Some}
+use Rattle.codes3270.specs.declared.attention.Aid.TheVariants.{NoAid}
 use Rattle.keyboard.specs.declared.key.Lock.TheVariants.{Wait}
 use Rattle.telnet_wire.specs.Reading.{Rest}
 use Rattle.host_core.specs.Application.{Application, application_of}
@@ -17,17 +18,17 @@ use Rattle.world3270.specs.model.World.{World}
 use Rattle.world3270.specs.refinement.Refines.{IsReached}
 use Rattle.world3270.specs.refinement.Representation.{with_out}
 use Rattle.world3270.specs.statement.EveryTerminal.{AreByTheRules, FirstPaint, LinkWithReport, Move, RightOf, after_moves}
-use Rattle.world3270.specs.statement.EveryTerminalBytes.{BeginsOverBytes, IsHost, OverBytes, Represents}
+use Rattle.world3270.specs.statement.EveryTerminalBytes.{BeginsOverBytes, IsHost, OverBytes, Pressed, Represents}
 
 -- Connection `number` of a world, at whose end this terminal is: what the host has to send is under way. No panel was
--- sent yet (`waits`).
+-- sent yet, and nothing pressed.
 abbrev pub over_bytes : (number terminal : ℕ) → ByteWorld → OverBytes
 over_bytes number terminal world = record {
   host = world.host;
   down = [];
   up = up_of number world;
   tracked = with_out [] (slot_at terminal world).tracked;
-  waits = true;
+  pressed = record { waits = true; first = NoAid; cleared = false };
 }
 
 -- Holds just after the host has agreed on this LU on a connection that isn't lost, with this terminal at its other end;
@@ -87,14 +88,19 @@ pub record HasAgreedOn (number terminal : ℕ) (lu : List ℕ) (world : ByteWorl
   pub there : terminal_at number world.slots ≡ Some terminal
   pub live : is_lost number world ≡ false
 
+-- what was pressed in the wait
+abbrev pub pressed_in : LinkWithReport → Pressed
+pressed_in t = record { waits = t.waits; first = t.told.screen.aid; cleared = t.cleared }
+
 -- Holds if from a begin of `EveryTerminal` on moves that keep the rules lead to a connection that these bytes represent,
--- as `EveryTerminalOverBytes` has it of its bytes, whatever their `waits`; so `RightOf` holds of it.
+-- as `EveryTerminalOverBytes` has it of its bytes, whatever their `pressed`; so `RightOf` holds of it.
 pub record IsMovedOverBytes (app : Application) (number : ℕ) (lu : List ℕ) (bytes : OverBytes) : Type 0 where
   pub begin : LinkWithReport
   pub begins : FirstPaint app lu begin
   pub moves : List Move
   pub by_the_rules : AreByTheRules app moves begin
-  pub represents : let now = after_moves app moves begin in Represents number (record bytes { waits = now.waits }) now
+  pub represents : let now = after_moves app moves begin in
+      Represents number (record bytes { pressed = pressed_in now }) now
   pub right : RightOf app lu (after_moves app moves begin)
 
 -- In each world whose bytes represent a world over messages, such a connection is so: as long as it isn't lost, whatever

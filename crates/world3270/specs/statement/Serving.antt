@@ -1,7 +1,7 @@
 -- A turn of serving a connection, as `serve_turn` of host_core promises it (`Serves`), is moves of
 -- `EveryTerminalOverBytes` on that connection, and happens elsewhere for each other one; so that theorem holds at a host
 -- that serves (our profile).
-use Rattle.std.specs.Prelude.{◌≡◌, ◌≢◌, ◌∷◌, ◌++◌, ℕ, Bool, List, [], take}
+use Rattle.std.specs.Prelude.{◌≡◌, ◌≢◌, ◌∷◌, ◌++◌, ℕ, List, [], take}
 use Rattle.lu_pool.specs.HolderLaws.{IsSound as IsSoundPool}
 use Rattle.panels.specs.Panel.{AreSound}
 use Rattle.host_core.specs.Application.{application_of}
@@ -14,7 +14,7 @@ use Rattle.host_core.specs.declared.serving.Served.{Served}
 use Rattle.host_core.specs.declared.serving.Served.TheVariants.{Memory}
 use Rattle.world3270.specs.model.TrackedTerminals.{TrackedTerminal}
 use Rattle.world3270.specs.statement.EveryTerminal.{LinkWithReport}
-use Rattle.world3270.specs.statement.EveryTerminalBytes.{BeginsOverBytes, IsElsewhere, IsHost, LeadTo, Moves, OverBytes, RightOverBytes}
+use Rattle.world3270.specs.statement.EveryTerminalBytes.{BeginsOverBytes, IsElsewhere, IsHost, LeadTo, Moves, OverBytes, Pressed, RightOverBytes}
 
 -- Holds if moves lead from the connection before a turn to the one after it. `unread`: bytes that the turn's read got
 -- and the host didn't take. There are none unless the connection closed or memory was refused; nothing more is fed then.
@@ -41,17 +41,18 @@ module _ {L : Type 0} (gave : L → ℕ → ℕ → List ℕ → LinkRead → L 
         → (down new ≡ down old ++ take (taken_by wrote) bytes) × (up new ≡ up old)
 
   -- the connection, with these queues under way
-  abbrev pub over_queues : (up down : L → List ℕ) (host : Host) (links : L) (tracked : TrackedTerminal) (waits : Bool)
-      → OverBytes
-  over_queues up down host links tracked waits =
-      record { host = host; down = down links; up = up links; tracked = tracked; waits = waits }
+  abbrev pub over_queues : (up down : L → List ℕ) (host : Host) (links : L) (tracked : TrackedTerminal)
+      (pressed : Pressed) → OverBytes
+  over_queues up down host links tracked pressed =
+      record { host = host; down = down links; up = up links; tracked = tracked; pressed = pressed }
 
   -- A turn of serving is moves on the connection that it serves.
   abbrev pub TurnsAreMoves : Type 0
   TurnsAreMoves = (number : ℕ) (up down : L → List ℕ) → AreQueues number up down
       → (old : Host) (links : L) (answer : Served) (new : Host) (left : L)
-      → Serves gave took number old links answer new left → (tracked : TrackedTerminal) (waits : Bool)
-      → IsTurn number (over_queues up down old links tracked waits) (over_queues up down new left tracked waits) answer
+      → Serves gave took number old links answer new left → (tracked : TrackedTerminal) (pressed : Pressed)
+      → IsTurn number (over_queues up down old links tracked pressed) (over_queues up down new left tracked pressed)
+      answer
 
   -- For each other connection it happens elsewhere.
   abbrev pub TurnsAreElsewhere : Type 0
@@ -61,20 +62,20 @@ module _ {L : Type 0} (gave : L → ℕ → ℕ → List ℕ → LinkRead → L 
 
   -- ---- many turns
 
-  -- the host, with the sockets of its connections; the terminal on this one; and `waits`, as in `OverBytes`
+  -- the host, with the sockets of its connections; the terminal on this one; and `pressed`, as in `OverBytes`
   pub record ServedState : Type 0 where
     pub host : Host
     pub links : L
     pub tracked : TrackedTerminal
-    pub waits : Bool
+    pub pressed : Pressed
 
   abbrev pub over_served : (up down : L → List ℕ) → ServedState → OverBytes
-  over_served up down state = over_queues up down state.host state.links state.tracked state.waits
+  over_served up down state = over_queues up down state.host state.links state.tracked state.pressed
 
   -- One step: a turn of serving for this connection, to which memory isn't refused; or any move.
   pub data Happens (number : ℕ) (up down : L → List ℕ) (old new : ServedState) : Type 0 where
     turns : (answer : Served) → answer ≢ Memory → Serves gave took number old.host old.links answer new.host new.links
-        → new.tracked ≡ old.tracked → new.waits ≡ old.waits → Happens number up down old new
+        → new.tracked ≡ old.tracked → new.pressed ≡ old.pressed → Happens number up down old new
     moves : Moves (application_of old.host.panels) number (over_served up down old) (over_served up down new)
         → Happens number up down old new
 

@@ -25,12 +25,12 @@ pub returns-clause-events : goal.returns-clause-events
 returns-clause-events c =
     let stands = c.bytes_stand_for_messages.ensures in
     events_are_moves c.what_is_known.ensures c.bytes_follow_messages.ensures.steps
-    (takes_laws c.what_is_known.ensures stands.takes stands.sendable stands.nop stands.marks stands.down_taken c.one_reading.ensures.written) stands.presses
+    (takes_laws c.what_is_known.ensures c.what_is_believed_has_a_size.ensures.meets c.sent_is_read.ensures stands.takes stands.sendable stands.nop stands.marks stands.down_taken c.one_reading.ensures.written) stands.presses
     c.terminals_keep_the_rules.ensures.ours c.sent_keys_wait.ensures.sends
 
 pub returns-clause-runs : goal.returns-clause-runs
 returns-clause-runs c =
     let stands = c.bytes_stand_for_messages.ensures in
     worlds_move c.what_is_known.ensures c.bytes_follow_messages.ensures.steps
-    (takes_laws c.what_is_known.ensures stands.takes stands.sendable stands.nop stands.marks stands.down_taken c.one_reading.ensures.written) stands.presses
+    (takes_laws c.what_is_known.ensures c.what_is_believed_has_a_size.ensures.meets c.sent_is_read.ensures stands.takes stands.sendable stands.nop stands.marks stands.down_taken c.one_reading.ensures.written) stands.presses
     c.terminals_keep_the_rules.ensures.ours c.sent_keys_wait.ensures.sends c.what_is_given.ensures c.panels_are_shown.ensures.application c.what_is_served_is_marked.ensures c.every_terminal_over_bytes.ensures
