@@ -1,7 +1,7 @@
 -- The runs of the example with terminals that don't wait, and with terminals that break a rule, computed.
 use Rattle.std.proofs.Common.{◌≡◌, ◌==◌, Bool, ℕ, zero, suc, true, false, List, [], ◌∷◌, ◌++◌, Some, refl, ap, sym, subst, lit≤, lit<}
 use Rattle.std.specs.Prelude.{⊤, slice_get, slice_index_or}
-use Rattle.codes3270.specs.declared.attention.Aid.TheVariants.{Clear, Enter, NoAid}
+use Rattle.codes3270.specs.declared.attention.Aid.TheVariants.{Clear, Enter, NoAid, Pa}
 use Rattle.codes3270.specs.declared.attribute.Attr.{Attr as Attribute}
 use Rattle.codes3270.specs.declared.attribute.Cell.{Cell}
 use Rattle.codes3270.specs.declared.attribute.Cell.TheVariants.{Char, Attr}
@@ -17,8 +17,9 @@ use Rattle.host_core.specs.Laws.{MarksInput}
 use Rattle.host_core.specs.declared.terminals.Terminals.TheVariants.{Any, Verified, Waiting}
 use Rattle.world3270.specs.statement.EveryTerminal.{AreByTheRules, FirstPaint, RightOf, LinkWithReport, after_moves, told_link}
 use Rattle.world3270.specs.examples.ExampleApplication.{example_pool, greeting, l1, l2, sign_on, tall_greeting}
-use Rattle.world3270.specs.examples.ExampleRules.{BrokenRules, CheckingRun, ClearedRun, KeptRules, ToldRun, WaitingRun, acts, after, agreed_with, answered_behind, answered_behind_read, clears_after_read, clears_before_paint, clears_before_read, clears_in_the_wait, example_for, decides_behind, does, enters, enters_twice, entered, goes_up, ignores, kept_moves, left_behind, name_asked, pasted_behind, presses, relabels, renamed_seen, required_seen, sends_what_was_left, shown_by, shown_once_more, signs_on, small_greeting, still_asked, told_the_newest, types_in_the_wait}
+use Rattle.world3270.specs.examples.ExampleRules.{BrokenRules, CheckingRun, ClearedRun, KeptRules, ToldRun, WaitingRun, acts, after, agreed_with, answered_behind, answered_behind_read, clears_after_read, cleared_moves, clears, clears_before_paint, clears_before_read, clears_in_the_wait, example_for, decides_behind, does, enters, enters_twice, entered, goes_down, goes_up, ignores, kept_moves, left_behind, name_asked, paged, pasted_behind, presses, relabels, renamed_seen, required_seen, sends_what_was_left, shown_by, shown_once_more, signs_on, small_greeting, still_asked, told_the_newest, types_in_the_wait}
 use Rattle.keyboard.specs.declared.key.Key.TheVariants as key
+use Rattle.world3270.specs.model.Terminal.{TermEnd}
 use Rattle.world3270.specs.statement.Headline.{IsHostsTurn}
 use Rattle.world3270.proofs.ExampleGiven.{is_application, is_pool}
 use Rattle.world3270.specs.statement.Rules.{Binds, Operates}
@@ -100,6 +101,13 @@ asks_behind_read : name_asked (after Verified clears_before_read) ≡ Some (0xC1
 unfolding onward backward
 asks_behind_read = refl
 
+answer_is_wrong : RightOf (example_for Verified) l1 (told_the_newest (after Verified clears_before_read)) → ⊥
+unfolding onward backward
+answer_is_wrong right =
+    let t : LinkWithReport = told_the_newest (after Verified clears_before_read) in
+    let turn : IsHostsTurn (seen_link (told_link t)) = record { host = conn_seen t.link.host; host_is = refl; terminal = end_seen 0 (told_link t).term; terminal_is = refl; turn = refl; answered = refl } in
+    (right.agrees (λ repeats. absurd (let wrong = repeats.refusal in cc)) turn).sees.meets.0 refl
+
 erased_behind_read : shown_by (after Verified answered_behind_read) ≡ small_greeting renamed_seen
 unfolding onward backward
 erased_behind_read = refl
@@ -120,6 +128,7 @@ cleared_run = record {
   crossed = crossed_is_wrong;
   repeated = repeated_is_right;
   read = asks_behind_read;
+  unread = answer_is_wrong;
   read_erased = erased_behind_read;
   told = told_by_read;
   nulled = nulled_behind;
@@ -217,6 +226,18 @@ keeps_the_rules : AreByTheRules (example_for Any) kept_moves (agreed_with Any l1
 unfolding onward backward pastes_by_the_rules
 keeps_the_rules = (tt, (tt, (sound, ((enters_by_the_rules, λ waits. absurd (unlike (sym waits))), ((pastes_by_the_rules, λ waits uncleared clear. absurd (no_clear clear)), tt)))))
 
+pages_by_the_rules : Operates (after Any signs_on).link.term paged
+pages_by_the_rules = Operates.sends paged.end.display.keyboard (Pa 1) (λ none. absurd (cc)) refl
+
+clears_by_the_rules : (end : TermEnd) → Operates end (clears end)
+clears_by_the_rules end = Operates.sends end.display.keyboard Clear (λ none. absurd (cc)) refl
+
+clears_in_a_run : AreByTheRules (example_for Any) cleared_moves (agreed_with Any l1)
+unfolding onward backward
+clears_in_a_run =
+    let end : TermEnd = (after Any (signs_on ++ presses (key.Pa 1) ∷ goes_up ∷ acts ∷ goes_down ∷ [])).link.term in
+    (tt, (tt, (sound, ((pages_by_the_rules, λ waits. absurd (unlike (sym waits))), (sound, (tt, (tt, ((clears_by_the_rules end, λ waits uncleared clear pa. refl), tt))))))))
+
 changes_in_the_wait : shown_by (after_moves (example_for Any) kept_moves (agreed_with Any l1)) ≡ (after_moves (example_for Any) kept_moves (agreed_with Any l1)).told.screen → ⊥
 unfolding onward backward
 changes_in_the_wait same = unlike (ap (λ (screen : Screen). byte_at 6 screen == 0xC1) same)
@@ -229,4 +250,4 @@ changes_in_the_wait same = unlike (ap (λ (screen : Screen). byte_at 6 screen ==
     byte_at place screen = byte_of (slice_index_or screen.cells place (Char 0))
 
 pub kept_rules : KeptRules
-kept_rules = record { application = is_application true; begins = begins; kept = keeps_the_rules; changed = changes_in_the_wait }
+kept_rules = record { application = is_application true; begins = begins; kept = keeps_the_rules; cleared = clears_in_a_run; changed = changes_in_the_wait }

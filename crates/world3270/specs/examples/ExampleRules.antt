@@ -2,7 +2,7 @@
 -- with terminals that break one rule each. Readers and proofs need them, and nothing rests on them (our profile). The
 -- terminals are of model 2.
 use Rattle.std.specs.Prelude.{◌≡◌, ◌≢◌, ◌∷◌, ◌++◌, ℕ, true, false, List, [], replicate, slice_get, slice_set, Option, Some, None, option_and_then}
-use Rattle.codes3270.specs.declared.attention.Aid.TheVariants.{Enter, NoAid}
+use Rattle.codes3270.specs.declared.attention.Aid.TheVariants.{Clear, Enter, NoAid}
 use Rattle.codes3270.specs.declared.attribute.Cell.TheVariants.{Char}
 use Rattle.codes3270.specs.declared.size.Model.TheVariants.{M2}
 use Rattle.datastream.specs.InboundFields.{modified_data}
@@ -29,7 +29,7 @@ use Rattle.world3270.specs.examples.ExampleQuestions.{renamed}
 use Rattle.world3270.specs.examples.ExampleScreens.{message_seen, no_message, required_name, sign_on_seen, skipped, typed_into}
 use Rattle.world3270.specs.model.Link.{term_stepped}
 use Rattle.world3270.specs.statement.RuleLaws.{impatient_key, pasted}
-use Rattle.world3270.specs.statement.Rules.{after_sending, shows}
+use Rattle.world3270.specs.statement.Rules.{after_sending, data_by, shows}
 use Rattle.world3270.specs.model.Terminal.{TermEnd, TermStep, new_display}
 
 -- ---- what happens
@@ -218,7 +218,7 @@ clears_after_read =
 
 -- The host drops Clear, and still asks what PF6 sent. Whether it heard of Clear before it sent a panel or after, the
 -- panel is on the screen in the end. A Clear that crosses a Read Buffer is dropped, too, and one that comes after the
--- answer: the host was told what was on the screen before.
+-- answer: the host was told what was on the screen before. `RightOf` doesn't hold with what the answer has as `told`.
 pub record ClearedRun : Type 0 where
   pub cleared : (after Any clears_in_the_wait).cleared ≡ true
   pub asked : still_asked (after Any clears_in_the_wait) ≡ Some (0xC1 ∷ [])
@@ -226,6 +226,7 @@ pub record ClearedRun : Type 0 where
   pub crossed : shown_by (after Any clears_before_paint) ≢ required_seen
   pub repeated : shown_by (after Any shown_once_more) ≡ required_seen
   pub read : name_asked (after Verified clears_before_read) ≡ Some (0xC1 ∷ [])
+  pub unread : RightOf (example_for Verified) l1 (told_the_newest (after Verified clears_before_read)) → ⊥
   pub read_erased : shown_by (after Verified answered_behind_read) ≡ small_greeting renamed_seen
   pub told : slice_get (after Any clears_after_read).told.screen.cells 6 ≡ Some (Char 0xC1)
   pub nulled : slice_get (shown_by (after Any clears_after_read)).cells 6 ≡ Some (Char 0)
@@ -289,10 +290,26 @@ pasted_behind = pasted (0xC1 ∷ []) entered.end
 abbrev pub kept_moves : List Move
 kept_moves = Move.Act ∷ Move.Down ∷ Move.Up example_pool ∷ Move.Operate entered ∷ Move.Operate pasted_behind ∷ []
 
--- The theorem's premises can be met, and a terminal that meets them need not wait.
+-- Clear, whether or not the keyboard is locked
+abbrev pub clears : TermEnd → TermStep
+clears end = shows end.display.keyboard (after_sending Clear end.display) (data_by Clear end) end
+
+-- PA1, and Clear once the Read Buffer is answered
+abbrev pub paged : TermStep
+paged = impatient_key (key.Pa 1) (after Any signs_on).link.term
+
+abbrev pub cleared_behind : TermStep
+cleared_behind = clears (after Any (signs_on ++ presses (key.Pa 1) ∷ goes_up ∷ acts ∷ goes_down ∷ [])).link.term
+
+abbrev pub cleared_moves : List Move
+cleared_moves = Move.Act ∷ Move.Down ∷ Move.Up example_pool ∷ Move.Operate paged ∷ Move.Up example_pool ∷ Move.Act
+    ∷ Move.Down ∷ Move.Operate cleared_behind ∷ []
+
+-- The theorem's premises can be met, also by Clear in the wait, and a terminal that meets them need not wait.
 pub record KeptRules : Type 0 where
   pub application : IsApplication (example_for Any)
   pub begins : FirstPaint (example_for Any) l1 (agreed_with Any l1)
   pub kept : AreByTheRules (example_for Any) kept_moves (agreed_with Any l1)
+  pub cleared : AreByTheRules (example_for Any) cleared_moves (agreed_with Any l1)
   pub changed : let now = after_moves (example_for Any) kept_moves (agreed_with Any l1) in
       shown_by now ≢ now.told.screen

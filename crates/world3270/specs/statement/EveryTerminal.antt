@@ -194,13 +194,9 @@ key_pressed (Operates.sends keyboard aid some is) = aid
 -- has the answer, or it awaits it and the Read Buffer isn't under way any more; after that, the paint is under way.
 abbrev pub is_answered : Turn → Pending → TurnReason → List ToTerminal → Bool
 is_answered whose.Host (Pending.Reading number) reason down = not (is_queued down)
-is_answered whose.Host Pending.Nothing reason down = not (is_unread reason)
-is_answered whose.Host (Pending.Writing number command) reason down = not (is_unread reason)
-is_answered whose.Host (Pending.Noting number command) reason down = not (is_unread reason)
+is_answered whose.Host _ reason down = not (is_unread reason)
 is_answered whose.Terminal (Pending.Writing number command) reason down = is_queued down
-is_answered whose.Terminal (Pending.Reading number) reason down = false
-is_answered whose.Terminal Pending.Nothing reason down = false
-is_answered whose.Terminal (Pending.Noting number command) reason down = false
+is_answered whose.Terminal _ reason down = false
 
 -- Holds if the first key since the last paint wasn't PA, or the terminal has answered the Read Buffer since.
 abbrev pub HasAnswered : LinkWithReport → Type 0
