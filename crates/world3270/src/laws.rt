@@ -425,9 +425,9 @@ pub fn terminals_keep_the_rules()
 /// application decides on the key. If the host itself decides what to show, it is where the key leads on that screen.
 /// After a paint is answered, the screen that it left shows the panel, whatever was typed before. Neither end closes
 /// the connection for a cause. The terminal need not wait for the host: meanwhile its operator may type, and press any
-/// key. But Clear isn't pressed in the wait after PA, and crosses no Read Buffer. After it the present screen isn't
-/// what the host believes, until the next panel, which is painted whole. A panel that was written without an erase, and
-/// that Clear crossed, is shown again.
+/// key. But Clear isn't pressed between PA and the answer to the Read Buffer. After Clear the present screen isn't what
+/// the host believes, until the next panel, which is painted whole. A panel that was written without an erase, and that
+/// Clear crossed, is shown again.
 pub fn every_terminal()
     ensures { EveryTerminal }
 {
