@@ -1,0 +1,40 @@
+-- What holds after every list of calls of a server of pages (our profile).
+use Rattle.std.specs.Prelude.{◌≡◌, ◌≢◌, ◌≤◌, ◌⊎◌, ℕ, false, List, [], ◌∷◌, ◌++◌, All, Option, Some, None, IfSome}
+use Rattle.web_core.specs.declared.client.Client.{Client}
+use Rattle.web_core.specs.declared.session.Limits.{Limits}
+use Rattle.web_core.specs.declared.session.Session.{Session}
+use Rattle.web_core.specs.Calls.{Call, State, accepted, after, closed, ended, expired, heard_from, judged, new_state, opened, page_of, resumed_by, session_ended, session_of, tick, upgraded}
+use Rattle.web_core.specs.Clients.{is_visitor}
+
+-- the server after these calls, of which the newest stands first
+abbrev pub state_after : Limits → List Call → State
+state_after limits [] = new_state limits
+state_after limits (call ∷ before) = after call (state_after limits before)
+
+-- holds for a call in which a client presents a token: it opens a session that gets it, or resumes by it
+abbrev pub IsPresented : (client : ℕ) → (token : List ℕ) → Call → Type 0
+IsPresented client token (opened by its) = (by ≡ client) × (its ≡ token)
+IsPresented client token (resumed_by by its) = (by ≡ client) × (its ≡ token)
+IsPresented client token _ = ⊥
+
+-- holds if a client has presented a token in one of these calls
+abbrev pub HasPresented : (client : ℕ) → (token : List ℕ) → List Call → Type 0
+HasPresented client token [] = ⊥
+HasPresented client token (call ∷ before) = IsPresented client token call ⊎ HasPresented client token before
+
+-- A page gets what draws the screen of a session only if it has presented the session's token.
+pub record IsPageOf (session client : ℕ) (calls : List Call) (s : State) : Type 0 where
+  pub found : Session
+  pub number : found.number ≡ session
+  pub presented : HasPresented client found.token calls
+
+abbrev pub PagesHaveTheirTokens : Type 0
+PagesHaveTheirTokens = (limits : Limits) (calls : List Call) (session client : ℕ)
+    → page_of session (state_after limits calls) ≡ Some client
+    → IsPageOf session client calls (state_after limits calls)
+
+-- Keys go to a session only from a page that has presented its token.
+abbrev pub KeysHaveTheirTokens : Type 0
+KeysHaveTheirTokens = (limits : Limits) (calls : List Call) (session client : ℕ)
+    → session_of client (state_after limits calls) ≡ Some session
+    → IsPageOf session client calls (state_after limits calls)

@@ -1,0 +1,6 @@
+pub mod Clients
+pub mod Networks
+pub mod Times
+pub mod Sessions
+pub mod Calls
+pub mod Laws
