@@ -1,1 +1,2 @@
 pub mod Presented
+pub mod Out

@@ -133,7 +133,7 @@ all_shown limits (call ∷ before) = step call before (state_after limits before
 some_same : {a b : ℕ} → Some a ≡ Some b → a ≡ b
 some_same e = cc
 
-found_page : (P : Session → Type 0) (session client : ℕ) (xs : List Session) → All P xs
+pub found_page : (P : Session → Type 0) (session client : ℕ) (xs : List Session) → All P xs
     → option_and_then (λ (it : Session). it.page) (find (is_session session) xs) ≡ Some client
     → (it : Session) × P it × (is_session session it ≡ true) × (it.page ≡ Some client)
 found_page P session client [] h e = absurd (no_page e)

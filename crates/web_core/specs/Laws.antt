@@ -1,5 +1,5 @@
 -- What holds after every list of calls of a server of pages (our profile).
-use Rattle.std.specs.Prelude.{◌≡◌, ◌≢◌, ◌≤◌, ◌⊎◌, ℕ, false, List, [], ◌∷◌, ◌++◌, All, Option, Some, None, IfSome}
+use Rattle.std.specs.Prelude.{◌≡◌, ◌≢◌, ◌≤◌, ◌⊎◌, ℕ, Bool, false, List, [], ◌∷◌, ◌++◌, All, Option, Some, None, IfSome}
 use Rattle.web_core.specs.declared.client.Client.{Client}
 use Rattle.web_core.specs.declared.session.Limits.{Limits}
 use Rattle.web_core.specs.declared.session.Session.{Session}
@@ -38,3 +38,23 @@ abbrev pub KeysHaveTheirTokens : Type 0
 KeysHaveTheirTokens = (limits : Limits) (calls : List Call) (session client : ℕ)
     → session_of client (state_after limits calls) ≡ Some session
     → IsPageOf session client calls (state_after limits calls)
+
+-- holds for a client that is no visitor and no page: it was refused, or has left
+pub record IsOut (client : ℕ) (s : State) : Type 0 where
+  pub known : client ≤ s.last_client
+  pub no_visitor : All (λ (it : Client). it.number ≡ client → is_visitor it.stage ≡ false) s.clients
+  pub no_page : All (λ (it : Session). it.page ≢ Some client) s.sessions
+
+-- A client that is refused, or whose WebSocket is closed, is out.
+abbrev pub RefusedAreOut : Type 0
+RefusedAreOut = (limits : Limits) (calls : List Call) (client : ℕ) (by_page : Bool)
+    → client ≤ (state_after limits calls).last_client
+    → IsOut client (state_after limits (closed client by_page ∷ calls))
+
+-- Who is out stays out, whatever calls follow: so it gets nothing of any session.
+abbrev pub OutStaysOut : Type 0
+OutStaysOut = (limits : Limits) (later calls : List Call) (client : ℕ) → IsOut client (state_after limits calls)
+    → IsOut client (state_after limits (later ++ calls))
+
+abbrev pub OutGetsNothing : Type 0
+OutGetsNothing = (s : State) (session client : ℕ) → IsOut client s → page_of session s ≢ Some client

@@ -1,10 +1,17 @@
-//! The law of servers of pages: the contract of a function that does nothing. No program calls it, and the root doesn't
-//! export it.
-ghost use Rattle.web_core.specs.Laws.{KeysHaveTheirTokens, PagesHaveTheirTokens};
+//! Laws of servers of pages: each is the contract of a function that does nothing. No program calls them, and the root
+//! doesn't export them.
+ghost use Rattle.web_core.specs.Laws.{KeysHaveTheirTokens, OutGetsNothing, OutStaysOut, PagesHaveTheirTokens, RefusedAreOut};
 
 /// Law: whatever calls are made, a page gets what draws the screen of a session only if it has presented that session's
-/// token.
+/// token, and so keys go to a session only from such a page.
 pub fn pages_have_their_tokens()
     ensures pages { PagesHaveTheirTokens }
     ensures keys { KeysHaveTheirTokens }
+{}
+
+/// Law: who was refused, or has left, gets nothing of any session, whatever calls follow.
+pub fn the_refused_get_nothing()
+    ensures refused { RefusedAreOut }
+    ensures stays { OutStaysOut }
+    ensures nothing { OutGetsNothing }
 {}

@@ -47,8 +47,8 @@ pub struct Resumed {
 /// What a client is found to be whose time is over.
 #[derive(Clone, Copy)]
 pub enum Verdict {
-    /// A visitor, which is dropped. It has sent something at its stage, or it hasn't.
-    Late(bool),
+    /// A visitor, which is dropped.
+    Late,
     /// The page of this session, which loses it.
     Silent(u64),
     /// It was leaving, and is dropped.
@@ -312,7 +312,7 @@ impl Service {
             }
             _ => {
                 self.ended(client);
-                Some(Verdict::Late(found.has_sent))
+                Some(Verdict::Late)
             }
         }
     }

@@ -1,14 +1,11 @@
 //! What the server decides by times, in milliseconds.
-ghost use Rattle.std.specs.Prelude.{◌≡◌};
-ghost use Rattle.web_core.specs.Times.{is_over, time_after, time_kept, visit_is_over};
+ghost use Rattle.std.specs.Prelude.{◌≡◌, ◌≤◌};
+ghost use Rattle.web_core.specs.Times.{is_over, takes_longer, time_after, time_kept};
 
 use crate::client::Stage;
 
-/// How long a visitor may take of which nothing waits to be read, and how long a client may leave.
+/// How long a visitor may take, and how long a client may leave.
 const VISIT_TIME: u64 = 5_000;
-
-/// How long a visitor may take whatever it sends.
-const MOST_VISIT_TIME: u64 = 10_000;
 
 /// How long a page may be silent. It answers pings, so that it is gone then.
 const SILENCE: u64 = 60_000;
@@ -27,10 +24,12 @@ pub(crate) fn time_kept(by_page: bool, keep: u64) -> u64
     if by_page { keep.min(RELOAD_TIME) } else { keep }
 }
 
-fn visit_is_over(took: u64, is_read: bool) -> bool
-    ensures { result ≡ visit_is_over took is_read }
+/// Whether a client has taken more than its time; twice that, if what it sent may wait to be read.
+fn takes_longer(limit: u64, took: u64, is_read: bool) -> bool
+    requires { limit ≤ 60000 }
+    ensures { result ≡ takes_longer limit took is_read }
 {
-    (is_read && VISIT_TIME <= took) || MOST_VISIT_TIME <= took
+    (is_read && limit <= took) || 2 * limit <= took
 }
 
 /// Whether the time of a client is over that has taken so long. `is_read`: nothing that it sent waits to be read.
@@ -38,8 +37,8 @@ pub(crate) fn is_over(stage: Stage, took: u64, is_read: bool) -> bool
     ensures { result ≡ is_over stage took is_read }
 {
     match stage {
-        Stage::Requests | Stage::Opens | Stage::Resumes => visit_is_over(took, is_read),
-        Stage::Attached => is_read && SILENCE <= took,
+        Stage::Requests | Stage::Opens | Stage::Resumes => takes_longer(VISIT_TIME, took, is_read),
+        Stage::Attached => takes_longer(SILENCE, took, is_read),
         Stage::Leaves => VISIT_TIME <= took,
     }
 }

@@ -3,7 +3,7 @@
 //! literal is the page.
 
 /// The SHA-256 of what is in the page's element `script`, in base64.
-pub const SCRIPT_HASH: &str = "4RMf/3Ois0dZRQ3rgL1HsDxH+vuwiksA+ss+rJgL/fA=";
+pub const SCRIPT_HASH: &str = "iVCGQJL0Qs+N9PzqmT8DfXtW9pRMfmVpS0YZNDpjkQA=";
 
 /// The SHA-256 of what is in the page's element `style`, in base64.
 pub const STYLE_HASH: &str = "UfnloE6u4KpOzA9eXp9MTtZ6Xa5GeuX3RtcEUmzyfQI=";
@@ -379,7 +379,8 @@ function tell() {
   show();
 }
 function begin() {
-  const address = new URL('terminal', location.href.split('#')[0]);
+  const token = sessionStorage.getItem('token');
+  const address = new URL(token ? 'terminal?resume' : 'terminal', location.href.split('#')[0]);
   address.protocol = address.protocol === 'https:' ? 'wss:' : 'ws:';
   clearTimeout(timer);
   // The socket that it had isn't listened to any more, nor closed: to the server that would be the end of the page.
@@ -387,7 +388,6 @@ function begin() {
   [isOver, isLive, awaited, socket] = [false, false, first, new WebSocket(address)];
   socket.binaryType = 'arraybuffer';
   socket.onopen = () => {
-    const token = sessionStorage.getItem('token');
     isResuming = token !== null;
     socket.send(isResuming ? 'resume ' + token : opening());
   };
