@@ -18,6 +18,9 @@ use web_wire::{Closing, Notice, Token};
 /// How often a page is sent a ping and told what was heard of it, in milliseconds: so it knows that the server is there.
 const PING_TIME: u64 = 5_000;
 
+/// After how many bytes of keys a page gets their count sooner. A page keeps 1,000 unheard keys at most.
+const MOST_UNTOLD: u64 = 256;
+
 /// How long connecting to the host may take, in milliseconds.
 const CONNECT_TIME: u64 = 10_000;
 
@@ -113,6 +116,8 @@ pub(crate) struct Session {
     dialed: Option<(TcpStream, u64)>,
     /// How many bytes of keys its pages sent.
     typed: u64,
+    /// Of how many bytes its page was told that they were heard.
+    told: u64,
     is_bound: bool,
 }
 
@@ -165,6 +170,7 @@ impl Session {
             )?,
             dialed: Some((dialed, now)),
             typed: 0,
+            told: 0,
             is_bound: false,
         })
     }
@@ -188,6 +194,7 @@ impl Session {
             draw_again(alloc, link, &mut self.terminal)?;
         }
         page.pinged = now;
+        self.told = self.typed;
         Ok(())
     }
 
@@ -278,13 +285,16 @@ impl Session {
         Err(Fault::Live(LiveFault::CannotConnect(host, kind)))
     }
 
-    /// Sends its page a ping, and how many bytes of keys were heard, if it is time and nothing waits to be sent.
-    pub(crate) fn ping(&self, alloc: Global, page: &mut Client<TcpStream>, now: u64) {
-        if PING_TIME <= now.saturating_sub(page.pinged) && !page.link.has_output() {
-            // If memory is refused, the next turn tries again.
+    /// Sends its page a ping, and how many bytes of keys were heard, if it is time and nothing waits to be sent. If
+    /// memory is refused, the next turn tries again.
+    pub(crate) fn ping(&mut self, alloc: Global, page: &mut Client<TcpStream>, now: u64) {
+        let is_time = PING_TIME <= now.saturating_sub(page.pinged);
+        let is_due = is_time || MOST_UNTOLD <= self.typed.saturating_sub(self.told);
+        if is_due && !page.link.has_output() {
             let heard = Notice::Heard(self.typed);
             if page.link.ping().is_ok() && page.link.tell(alloc, &heard).is_ok() {
                 page.pinged = now;
+                self.told = self.typed;
             }
         }
     }

@@ -72,7 +72,7 @@ fn lack_word(lack: Lack) -> &'static str {
     }
 }
 
-/// What a page is told for which there is no session.
+/// The notice for a page for which there is no session.
 fn lack_notice(lack: Lack) -> Notice<'static> {
     match lack {
         Lack::AllInUse | Lack::TokenInUse | Lack::NoVisitor => Notice::Busy,
@@ -566,7 +566,7 @@ impl WebServer {
         let is_read = !heard && !client.link.has_output();
         session.ping(self.alloc, client, now);
         match self.service.judged(page, is_read) {
-            Some(Verdict::Silent(_)) => Some("silent"),
+            Some(Verdict::Silent) => Some("silent"),
             _ => None,
         }
     }

@@ -1,18 +1,18 @@
 -- Who is out stays out.
-use Rattle.std.proofs.Common.{◌≡◌, ◌≢◌, ◌+◌, ◌≤◌, ℕ, Bool, true, false, List, [], ◌∷◌, ◌++◌, Option, None, Some, ap, refl, sym, ◌∙◌, arith, subst, eqb-true, if◌then◌else◌, map, cond}
+use Rattle.std.proofs.Common.{◌≡◌, ◌≢◌, ◌+◌, ◌≤◌, ℕ, Bool, true, false, List, [], ◌∷◌, ◌++◌, Option, None, Some, refl, sym, ◌∙◌, arith, subst, eqb-true, if◌then◌else◌, map, cond}
 use Rattle.std.specs.Prelude.{All, find, option_and_then, slice_index_or}
 use Rattle.std.proofs.lemmas.List.Elements.{All-head, All-map, All-push, All-tail, All-weaker}
 use Rattle.web_core.specs.declared.client.Client.{Client}
 use Rattle.web_core.specs.declared.client.Stage.{Stage}
 use Rattle.web_core.specs.declared.client.Stage.TheVariants.{Requests, Opens, Resumes, Attached, Leaves}
 use Rattle.web_core.specs.declared.session.Lack.{Lack}
-use Rattle.web_core.specs.declared.session.Limits.{Limits}
 use Rattle.web_core.specs.declared.session.Session.{Session}
 use Rattle.web_core.specs.Calls.{Call, State, accepted, after, after_closed, after_ended, after_judging, after_late, after_opened_by, after_opening, after_resumed_by, after_resuming, after_upgrade_of, client_of, closed, ended, expired, heard_from, if_visitor, is_late, judged, lack_in, opened, page_of, replaced, resumed_by, roomy, session_ended, stage_upgraded, takes_client, tick, upgraded, visitor_of, with_session_room}
 use Rattle.web_core.specs.Clients.{drop_client, has_room, heard, is_numbered, is_visitor, leaver, move_client, moved, new_client, room_maker, time_from, with_room}
 use Rattle.web_core.specs.Laws.{IsOut, OutGetsNothing, OutStaysOut, RefusedAreOut, state_after}
-use Rattle.web_core.specs.Sessions.{has_page, has_token, is_client, is_session, left, new_session, resumed}
-use Rattle.web_core.proofs.Presented.{all_without, found_page, is_page}
+use Rattle.web_core.specs.Sessions.{has_page, has_token, is_client, left, new_session, resumed}
+use Rattle.web_core.proofs.Lists.{all_without}
+use Rattle.web_core.proofs.Presented.{found_page}
 
 -- holds for a client that isn't this one, or is no visitor
 abbrev pub IsNone : (client : ℕ) → Client → Type 0

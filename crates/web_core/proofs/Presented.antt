@@ -1,8 +1,8 @@
 -- Each session's page has presented its token, after every list of calls.
-use Rattle.std.proofs.Common.{◌≡◌, ◌+◌, ℕ, Bool, true, false, List, [], ◌∷◌, ◌++◌, Option, None, Some, ap, refl, sym, ◌∙◌, inl, inr, take, drop, eqb-true, if◌then◌else◌, map, cond, suc}
-use Rattle.std.specs.Prelude.{All, bytes_eq, find, position, remove, option_and_then}
+use Rattle.std.proofs.Common.{◌≡◌, ◌+◌, ℕ, Bool, true, false, List, [], ◌∷◌, Option, None, Some, ap, refl, sym, inl, inr, eqb-true, if◌then◌else◌, map, cond}
+use Rattle.std.specs.Prelude.{All, bytes_eq, find, option_and_then}
 use Rattle.std.specs.Option.{option_map}
-use Rattle.std.proofs.lemmas.List.Elements.{All-append, All-drop, All-head, All-map, All-nil, All-push, All-tail, All-take, All-weaker}
+use Rattle.std.proofs.lemmas.List.Elements.{All-head, All-map, All-nil, All-push, All-tail, All-weaker}
 use Rattle.std.proofs.lemmas.Slice.Eq.{bytes_eq-Decides}
 use Rattle.web_core.specs.declared.client.Client.{Client}
 use Rattle.web_core.specs.declared.client.Stage.{Stage}
@@ -10,9 +10,9 @@ use Rattle.web_core.specs.declared.client.Stage.TheVariants.{Requests, Opens, Re
 use Rattle.web_core.specs.declared.session.Lack.{Lack}
 use Rattle.web_core.specs.declared.session.Limits.{Limits}
 use Rattle.web_core.specs.declared.session.Session.{Session}
-use Rattle.web_core.specs.Calls.{Call, State, accepted, after, after_closed, after_judging, after_late, after_opened_by, after_opening, after_resumed_by, after_resuming, after_upgrade_of, client_of, closed, ended, expired, heard_from, is_late, judged, lack_in, opened, page_of, resumed_by, roomy, session_ended, session_of, stage_upgraded, takes_client, tick, upgraded, visitor_of, with_session_room}
-use Rattle.web_core.specs.Clients.{new_client, without}
-use Rattle.web_core.specs.Laws.{HasPresented, IsPageOf, KeysHaveTheirTokens, PagesHaveTheirTokens, state_after}
+use Rattle.web_core.specs.Calls.{Call, State, accepted, after, after_judging, after_late, after_opened_by, after_opening, after_resumed_by, after_resuming, after_upgrade_of, client_of, closed, ended, expired, heard_from, is_late, judged, lack_in, opened, resumed_by, session_ended, stage_upgraded, takes_client, tick, upgraded, visitor_of, with_session_room}
+use Rattle.web_core.specs.Laws.{HasPresented, KeysHaveTheirTokens, PagesHaveTheirTokens, state_after}
+use Rattle.web_core.proofs.Lists.{all_without}
 use Rattle.web_core.specs.Sessions.{has_page, has_token, is_client, is_session, left, new_session, resumed}
 
 -- holds for a session whose page has presented its token
@@ -21,10 +21,6 @@ IsShown calls it = (client : ℕ) → it.page ≡ Some client → HasPresented c
 
 later : (call : Call) (calls : List Call) (xs : List Session) → All (IsShown calls) xs → All (IsShown (call ∷ calls)) xs
 later call calls xs h = All-weaker (IsShown calls) (IsShown (call ∷ calls)) (λ it k client e. inr (k client e)) xs h
-
-pub all_without : {T : Type 0} (P : T → Type 0) (place : Option ℕ) (xs : List T) → All P xs → All P (without place xs)
-all_without P None xs h = h
-all_without P (Some place) xs h = All-append P (take place xs) (drop (suc place) xs) (All-take P place xs h) (All-drop P (suc place) xs h)
 
 no_page : {client : ℕ} → None ≡ Some client → ⊥
 no_page e = cc

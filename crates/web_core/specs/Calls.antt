@@ -1,5 +1,5 @@
 -- What each call makes of a server of pages, and what it answers (our profile).
-use Rattle.std.specs.Prelude.{ℕ, ◌+◌, ◌-◌, ◌^◌, ◌==◌, ◌&&◌, Bool, true, false, not, is_none, nat_le, nat_lt, List, [], ◌∷◌, ◌++◌, length, find, slice_get, Option, Some, None, position, option_and_then, if◌then◌else◌}
+use Rattle.std.specs.Prelude.{ℕ, ◌+◌, ◌-◌, ◌^◌, ◌&&◌, Bool, false, nat_lt, List, [], ◌∷◌, ◌++◌, length, find, Option, Some, None, position, option_and_then, if◌then◌else◌}
 use Rattle.std.specs.Option.{option_map}
 use Rattle.web_core.specs.declared.client.Client.{Client}
 use Rattle.web_core.specs.declared.client.Stage.{Stage}

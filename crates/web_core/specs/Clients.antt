@@ -1,5 +1,5 @@
 -- The clients of a server of pages, which are browsers' connections (our profile).
-use Rattle.std.specs.Prelude.{ℕ, ◌+◌, ◌-◌, ◌==◌, ◌&&◌, ◌||◌, Bool, true, false, not, nat_le, nat_lt, List, length, filter, map, remove, Option, Some, None, position, if◌then◌else◌}
+use Rattle.std.specs.Prelude.{ℕ, ◌-◌, ◌==◌, ◌&&◌, Bool, true, false, not, nat_le, nat_lt, List, length, filter, map, remove, Option, Some, None, position, if◌then◌else◌}
 use Rattle.std.specs.Option.{option_or}
 use Rattle.web_core.specs.declared.client.Client.{Client}
 use Rattle.web_core.specs.declared.client.Stage.{Stage}

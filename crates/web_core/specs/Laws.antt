@@ -1,10 +1,12 @@
 -- What holds after every list of calls of a server of pages (our profile).
-use Rattle.std.specs.Prelude.{◌≡◌, ◌≢◌, ◌≤◌, ◌⊎◌, ℕ, Bool, false, List, [], ◌∷◌, ◌++◌, All, Option, Some, None, IfSome}
+use Rattle.std.specs.Prelude.{◌≡◌, ◌≢◌, ◌≤◌, ◌⊎◌, ℕ, Bool, true, false, List, [], ◌∷◌, ◌++◌, All, filter, length, min, Some}
 use Rattle.web_core.specs.declared.client.Client.{Client}
 use Rattle.web_core.specs.declared.session.Limits.{Limits}
 use Rattle.web_core.specs.declared.session.Session.{Session}
-use Rattle.web_core.specs.Calls.{Call, State, accepted, after, closed, ended, expired, heard_from, judged, new_state, opened, page_of, resumed_by, session_ended, session_of, tick, upgraded}
-use Rattle.web_core.specs.Clients.{is_visitor}
+use Rattle.web_core.specs.Calls.{Call, State, after, closed, new_state, opened, page_of, resumed_by, session_of}
+use Rattle.web_core.specs.Clients.{is_at, is_visitor, most_visitors}
+use Rattle.web_core.specs.Sessions.{most_sessions}
+use Rattle.web_core.specs.declared.client.Stage.{Stage}
 
 -- the server after these calls, of which the newest stands first
 abbrev pub state_after : Limits → List Call → State
@@ -58,3 +60,21 @@ OutStaysOut = (limits : Limits) (later calls : List Call) (client : ℕ) → IsO
 
 abbrev pub OutGetsNothing : Type 0
 OutGetsNothing = (s : State) (session client : ℕ) → IsOut client s → page_of session s ≢ Some client
+
+-- holds if no two of these have one key
+abbrev pub Differ : {T K : Type 0} → (key : T → K) → List T → Type 0
+Differ key [] = Unit {0}
+Differ key (it ∷ others) = All (λ other. key other ≢ key it) others × Differ key others
+
+-- A token is of one session.
+abbrev pub TokensAreOfOne : Type 0
+TokensAreOfOne = (limits : Limits) (calls : List Call)
+    → Differ (λ (it : Session). it.token) (state_after limits calls).sessions
+
+-- holds if there are no more visitors at a stage, and no more sessions, than there may be
+pub record IsBounded (s : State) : Type 0 where
+  pub few_visitors : (stage : Stage) → is_visitor stage ≡ true → length (filter (is_at stage) s.clients) ≤ most_visitors
+  pub few_sessions : length s.sessions ≤ min s.limits.sessions most_sessions
+
+abbrev pub PlacesAreBounded : Type 0
+PlacesAreBounded = (limits : Limits) (calls : List Call) → IsBounded (state_after limits calls)

@@ -1,5 +1,5 @@
 -- The sessions of a server of pages: each has a token, and one page at most (our profile).
-use Rattle.std.specs.Prelude.{ℕ, ◌+◌, ◌-◌, ◌^◌, ◌==◌, ◌&&◌, ◌||◌, Bool, true, false, not, is_none, nat_le, min, List, length, filter, map, find, bytes_eq, Option, Some, None, position, if◌then◌else◌}
+use Rattle.std.specs.Prelude.{ℕ, ◌-◌, ◌^◌, ◌==◌, ◌&&◌, Bool, false, not, is_none, nat_le, min, List, length, filter, map, find, bytes_eq, Option, Some, None, position, if◌then◌else◌}
 use Rattle.web_core.specs.declared.session.Session.{Session}
 use Rattle.web_core.specs.declared.session.Lack.{Lack}
 use Rattle.web_core.specs.declared.session.Lack.TheVariants.{AllInUse, NetworkFull, TokenInUse}

@@ -2,8 +2,8 @@
 ghost use Rattle.std.specs.Prelude.{◌≡◌, ◌<◌, IfSome, length, filter, find, position};
 ghost use Rattle.std.specs.Option.{option_or};
 ghost use Rattle.arrayvec.specs.ArrayVec.{array_vec_len};
+ghost use Rattle.web_core.specs.Answers.{client_at};
 ghost use Rattle.web_core.specs.Clients.{count_at, drop_client, has_room, hear_client, is_at, is_crowding, is_numbered, is_silent, is_unsure, leaver, leaving_place, move_client, room_maker, with_room, without};
-ghost use Rattle.web_core.specs.declared.client.Stage.TheVariants.{Leaves};
 
 use crate::client::{Client, Stage};
 use arrayvec::ArrayVec;
@@ -156,7 +156,8 @@ pub(crate) fn client_numbered(clients: &[Client], number: u64) -> Option<Client>
 /// Removes the client at a place, and returns its number.
 fn drop_at(clients: &mut Clients, place: Option<usize>) -> Option<u64>
     requires { IfSome place (λ place. place < array_vec_len clients.old) }
-    ensures { clients.new.items ≡ without place clients.old.items }
+    ensures items { clients.new.items ≡ without place clients.old.items }
+    ensures number { result ≡ client_at place clients.old.items }
 {
     match place {
         Some(place) => Some(clients.remove(place).number),
@@ -171,7 +172,8 @@ pub(crate) fn make_room(
     network: u128,
     now: u64,
 ) -> Option<u64>
-    ensures { clients.new.items ≡ with_room stage network now clients.old.items }
+    ensures items { clients.new.items ≡ with_room stage network now clients.old.items }
+    ensures number { result ≡ client_at (room_maker stage network now clients.old.items) clients.old.items }
 {
     let place = room_maker(clients.as_slice(), stage, network, now);
     drop_at(clients, place)

@@ -1,7 +1,9 @@
 //! The machine: what happens to clients and sessions, call by call.
-ghost use Rattle.std.specs.Prelude.{◌≡◌, ◌≤◌, ◌<◌, Some, None, length};
-ghost use Rattle.web_core.specs.Calls.{accepted_as, after_accepted, after_closed, after_ended, after_expired, after_judged, after_opened, after_resumed, after_session_ended, after_upgraded, client_of, new_state, page_of, replaced, session_of, stage_of, visitor_of};
+ghost use Rattle.std.specs.Prelude.{◌≡◌};
+ghost use Rattle.web_core.specs.Answers.{dropped_for, ended_for, expired_in, judged_as, opened_as, resumed_as, upgraded_as};
+ghost use Rattle.web_core.specs.Calls.{accepted_as, after_accepted, after_closed, after_ended, after_expired, after_judged, after_opened, after_resumed, after_session_ended, after_upgraded, client_of, new_state, page_of, replaced, session_of, stage_of, stage_upgraded, visitor_of};
 ghost use Rattle.web_core.specs.Clients.{hear_client};
+ghost use Rattle.web_core.specs.declared.client.Stage.TheVariants.{Requests};
 
 use crate::client::{Client, Stage, is_visitor};
 use crate::clients::{
@@ -49,8 +51,8 @@ pub struct Resumed {
 pub enum Verdict {
     /// A visitor, which is dropped.
     Late,
-    /// The page of this session, which loses it.
-    Silent(u64),
+    /// The page of a session, which loses it.
+    Silent,
     /// It was leaving, and is dropped.
     Over,
 }
@@ -142,6 +144,7 @@ impl Service {
     pub fn accepted(&mut self, network: u128) -> Admission
         ensures state { self.new ≡ after_accepted network self.old }
         ensures client { result.client ≡ accepted_as network self.old }
+        ensures dropped { result.dropped ≡ dropped_for Requests network self.old }
     {
         let dropped = make_room(&mut self.clients, Stage::Requests, network, self.time);
         let has_place = has_room(self.clients.as_slice(), Stage::Requests);
@@ -167,6 +170,7 @@ impl Service {
     /// there, of which there are 16 each, as `accepted` says; without one it is dropped.
     pub fn upgraded(&mut self, client: u64, resumes: bool) -> Admission
         ensures state { self.new ≡ after_upgraded client resumes self.old }
+        ensures client { result.client ≡ upgraded_as (stage_upgraded resumes) client (visitor_of client self.old) self.old }
     {
         let Some(visitor) = self.visitor_of(client) else {
             return Admission {
@@ -206,6 +210,8 @@ impl Service {
     /// have, one ends that a page of the same network has left; without one, the visitor is refused, and leaves.
     pub fn opened(&mut self, client: u64, token: &[u8; 16]) -> Opened
         ensures state { self.new ≡ after_opened client token.now self.old }
+        ensures session { result.session ≡ opened_as token.now (visitor_of client self.old) self.old }
+        ensures ended { result.ended ≡ ended_for (visitor_of client self.old) self.old }
     {
         let Some(visitor) = self.visitor_of(client) else {
             return Opened {
@@ -237,7 +243,8 @@ impl Service {
     /// A visitor presents a token: it is the page of the session that has it, in place of the page that the session
     /// has. None if no session has the token: then the visitor is refused, and leaves.
     pub fn resumed_by(&mut self, client: u64, token: &[u8; 16]) -> Option<Resumed>
-        ensures { self.new ≡ after_resumed client token.now self.old }
+        ensures state { self.new ≡ after_resumed client token.now self.old }
+        ensures resumed { result ≡ resumed_as token.now (visitor_of client self.old) self.old }
     {
         let visitor = self.visitor_of(client)?;
         let (network, now) = (visitor.network, self.time);
@@ -294,7 +301,8 @@ impl Service {
 
     /// Judges whether the time of a client is over. `is_read`: nothing that it has sent waits to be read.
     pub fn judged(&mut self, client: u64, is_read: bool) -> Option<Verdict>
-        ensures { self.new ≡ after_judged client is_read self.old }
+        ensures state { self.new ≡ after_judged client is_read self.old }
+        ensures verdict { result ≡ judged_as is_read (client_of client self.old) self.old }
     {
         let found = client_numbered(self.clients.as_slice(), client)?;
         if !is_over(found.stage, self.time.saturating_sub(found.since), is_read) {
@@ -302,9 +310,8 @@ impl Service {
         }
         match found.stage {
             Stage::Attached => {
-                let session = self.session_of(client);
                 self.closed(client, false);
-                Some(session.map_or(Verdict::Over, Verdict::Silent))
+                Some(Verdict::Silent)
             }
             Stage::Leaves => {
                 self.ended(client);
@@ -330,7 +337,8 @@ impl Service {
 
     /// Ends the oldest session that has had no page for as long as it is kept. Returns its number.
     pub fn expired(&mut self) -> Option<u64>
-        ensures { self.new ≡ after_expired self.old }
+        ensures state { self.new ≡ after_expired self.old }
+        ensures session { result ≡ expired_in self.old }
     {
         end_expired(&mut self.sessions, self.time)
     }

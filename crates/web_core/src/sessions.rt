@@ -1,6 +1,7 @@
 //! The sessions of a server, the oldest first.
 ghost use Rattle.std.specs.Prelude.{◌≡◌, ◌<◌, IfSome, None, length, find, position};
 ghost use Rattle.arrayvec.specs.ArrayVec.{array_vec_len};
+ghost use Rattle.web_core.specs.Answers.{session_at};
 ghost use Rattle.web_core.specs.Clients.{without};
 ghost use Rattle.web_core.specs.Sessions.{count_of, fullness, has_most, has_page, has_token, is_expired, is_session, lack_of, leave_session, most_sessions, resume_session, room_session, was_left_by};
 
@@ -136,7 +137,8 @@ fn place_expired(sessions: &[Session], now: u64) -> Option<usize>
 /// Removes the session at a place, and returns its number.
 fn drop_at(sessions: &mut Sessions, place: Option<usize>) -> Option<u64>
     requires { IfSome place (λ place. place < array_vec_len sessions.old) }
-    ensures { sessions.new.items ≡ without place sessions.old.items }
+    ensures items { sessions.new.items ≡ without place sessions.old.items }
+    ensures number { result ≡ session_at place sessions.old.items }
 {
     match place {
         Some(place) => Some(sessions.remove(place).number),
@@ -146,7 +148,8 @@ fn drop_at(sessions: &mut Sessions, place: Option<usize>) -> Option<u64>
 
 /// If there is no place for a session of this network, ends the one that makes room, if one does. Returns its number.
 pub(crate) fn make_room(sessions: &mut Sessions, limits: Limits, network: u128) -> Option<u64>
-    ensures { sessions.new.items ≡ without (room_session limits network sessions.old.items) sessions.old.items }
+    ensures items { sessions.new.items ≡ without (room_session limits network sessions.old.items) sessions.old.items }
+    ensures number { result ≡ session_at (room_session limits network sessions.old.items) sessions.old.items }
 {
     let place = room_session(sessions.as_slice(), limits, network);
     drop_at(sessions, place)
@@ -162,7 +165,8 @@ pub(crate) fn end_numbered(sessions: &mut Sessions, number: u64)
 
 /// Ends the oldest session that has had no page for as long as it is kept. Returns its number.
 pub(crate) fn end_expired(sessions: &mut Sessions, now: u64) -> Option<u64>
-    ensures { sessions.new.items ≡ without (position (is_expired now) sessions.old.items) sessions.old.items }
+    ensures items { sessions.new.items ≡ without (position (is_expired now) sessions.old.items) sessions.old.items }
+    ensures number { result ≡ session_at (position (is_expired now) sessions.old.items) sessions.old.items }
 {
     let place = place_expired(sessions.as_slice(), now);
     drop_at(sessions, place)

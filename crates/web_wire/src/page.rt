@@ -3,7 +3,7 @@
 //! literal is the page.
 
 /// The SHA-256 of what is in the page's element `script`, in base64.
-pub const SCRIPT_HASH: &str = "iVCGQJL0Qs+N9PzqmT8DfXtW9pRMfmVpS0YZNDpjkQA=";
+pub const SCRIPT_HASH: &str = "6cr3bxpQtTfEJHMl7JnvDbpPCPNYmq+408rG4orjcSM=";
 
 /// The SHA-256 of what is in the page's element `style`, in base64.
 pub const STYLE_HASH: &str = "UfnloE6u4KpOzA9eXp9MTtZ6Xa5GeuX3RtcEUmzyfQI=";
@@ -336,7 +336,7 @@ function showKeys() {
 }
 help.addEventListener('close', () => typed.focus());
 // ---- The session: `open MODEL [LU]` begins one, `resume TOKEN` resumes the one of this tab. With `heard COUNT` the
-// server says, each 5 seconds, how many bytes of keys it has; those that it hasn't got are kept, and sent again.
+// server says, each 5 seconds or sooner, how many bytes of keys it has; those that it lacks are kept, and sent again.
 const mostKept = 1000, silence = 6000, patience = 15000;
 let socket, timer, wait = 500, isOver = false, isResuming = false, isLive = false, size = null;
 let heardAt = 0, lockedAt = 0, problem = '', remark = '';
