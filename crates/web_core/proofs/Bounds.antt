@@ -1,6 +1,6 @@
 -- There are no more visitors at a stage, and no more sessions, than there may be, after every list of calls.
-use Rattle.std.proofs.Common.{◌≡◌, ◌≢◌, ◌+◌, ◌≤◌, ◌<◌, ℕ, zero, suc, Bool, true, false, List, [], ◌∷◌, ◌++◌, Option, None, Some, ap, refl, sym, subst, inl, inr, ◌∙◌, arith, eqb-true, if◌then◌else◌, length, map, cond, length-append}
-use Rattle.std.specs.Prelude.{All, filter, min, nat_le, nat_lt, position, remove}
+use Rattle.std.proofs.Common.{◌≡◌, ◌≢◌, ◌+◌, ◌≤◌, ◌<◌, ℕ, zero, suc, Bool, true, false, List, [], ◌∷◌, ◌++◌, Option, None, Some, refl, sym, subst, inl, inr, arith, eqb-true, if◌then◌else◌, length, map, cond, length-append}
+use Rattle.std.specs.Prelude.{All, filter, min, nat_le, position, remove}
 use Rattle.std.proofs.lemmas.List.Elements.{All-head, All-map, All-nil, All-push, All-tail, All-weaker}
 use Rattle.web_core.specs.declared.client.Client.{Client}
 use Rattle.web_core.specs.declared.client.Stage.{Stage}
@@ -12,9 +12,9 @@ use Rattle.web_core.specs.declared.session.Lack.TheVariants.{AllInUse, NetworkFu
 use Rattle.web_core.specs.declared.session.Limits.{Limits}
 use Rattle.web_core.specs.declared.session.Session.{Session}
 use Rattle.web_core.specs.Calls.{Call, State, accepted, after, after_closed, after_ended, after_judging, after_late, after_opened_by, after_opening, after_resumed_by, after_resuming, after_upgrade_of, client_of, closed, ended, expired, heard_from, is_late, judged, lack_in, opened, page_of, replaced, resumed_by, roomy, session_ended, stage_upgraded, takes_client, tick, upgraded, visitor_of, with_session_room}
-use Rattle.web_core.specs.Clients.{drop_client, has_room, heard, is_at, is_numbered, is_same, is_visitor, leaver, most_clients, most_visitors, move_client, moved, new_client, room_maker, time_from, with_room, without}
-use Rattle.web_core.specs.Laws.{Differ, IsBounded, PlacesAreBounded, state_after}
-use Rattle.web_core.specs.Sessions.{fullness, has_most, has_token, if_new, is_expired, is_session, left, most_sessions, new_session, or_lack, resumed, room_session}
+use Rattle.web_core.specs.Clients.{drop_client, has_room, heard, is_at, is_numbered, is_same, is_visitor, leaver, move_client, moved, new_client, room_maker, time_from, with_room, without}
+use Rattle.web_core.specs.Laws.{Differ, PlacesAreBounded, state_after}
+use Rattle.web_core.specs.Sessions.{fullness, has_most, is_expired, is_session, left, new_session, or_lack, resumed, room_session}
 use Rattle.web_core.specs.Times.{time_kept}
 use Rattle.web_core.proofs.Lists.{all_without, differ_map, differ_push, differ_without}
 
@@ -69,8 +69,13 @@ absent_count : (stage : Stage) (number : ℕ) (to : Stage) (now : ℕ) (xs : Lis
 absent_count stage number to now [] h = refl
 absent_count stage number to now (x ∷ xs) h =
     let head = moved_head stage number to now x false (not_numbered number x (All-head (λ it. number_of it ≢ number) x xs h)) in
-    omega (arith, head, n_at_cons stage x xs, n_at_cons stage (moved number to now x) (map (moved number to now) xs),
-      absent_count stage number to now xs (All-tail (λ it. number_of it ≢ number) x xs h))
+    omega (
+      arith,
+      head,
+      n_at_cons stage x xs,
+      n_at_cons stage (moved number to now x) (map (moved number to now) xs),
+      absent_count stage number to now xs (All-tail (λ it. number_of it ≢ number) x xs h),
+    )
 
 moved_count : (stage : Stage) (number : ℕ) (to : Stage) (now : ℕ) (xs : List Client) → Differ number_of xs
     → n_at stage (map (moved number to now) xs) ≤ n_at stage xs + one (is_same to stage)
@@ -82,8 +87,13 @@ moved_count stage number to now (x ∷ xs) h = by_number (moved_count stage numb
     by_number rest true is =
         let same : x.number ≡ number = eqb-true x.number number is in
         let others : All (λ it. number_of it ≢ number) xs = subst (λ n. All (λ it. number_of it ≢ n) xs) same h.0 in
-        omega (arith, moved_head stage number to now x true is, n_at_cons stage x xs,
-          n_at_cons stage (moved number to now x) (map (moved number to now) xs), absent_count stage number to now xs others)
+        omega (
+          arith,
+          moved_head stage number to now x true is,
+          n_at_cons stage x xs,
+          n_at_cons stage (moved number to now x) (map (moved number to now) xs),
+          absent_count stage number to now xs others,
+        )
     by_number rest false is =
         omega (arith, rest, moved_head stage number to now x false is, n_at_cons stage x xs, n_at_cons stage (moved number to now x) (map (moved number to now) xs))
 
@@ -104,8 +114,13 @@ heard_number since x false = refl
 heard_count : (stage : Stage) (number now : ℕ) (xs : List Client) → n_at stage (map (heard number now) xs) ≡ n_at stage xs
 heard_count stage number now [] = refl
 heard_count stage number now (x ∷ xs) =
-    omega (arith, heard_by stage (time_from x.stage x.since now) x (is_numbered number x), n_at_cons stage x xs,
-      n_at_cons stage (heard number now x) (map (heard number now) xs), heard_count stage number now xs)
+    omega (
+      arith,
+      heard_by stage (time_from x.stage x.since now) x (is_numbered number x),
+      n_at_cons stage x xs,
+      n_at_cons stage (heard number now x) (map (heard number now) xs),
+      heard_count stage number now xs,
+    )
 
 -- ---- what the clients of a server are
 
@@ -180,14 +195,14 @@ fits_to last number to now xs room h = record {
   known = known_moved last number to now xs h.known;
   differ = differ_map number_of (moved number to now) (λ it. moved_number to now it (is_numbered number it)) xs h.differ;
   few = λ stage is. at_most to stage (n_at stage (move_client number to now xs)) (λ it. n_at it xs) room (h.few stage is)
-    (moved_count stage number to now xs h.differ);
+      (moved_count stage number to now xs h.differ);
 }
 
 fits_heard : (last number now : ℕ) (xs : List Client) → Fits last xs → Fits last (map (heard number now) xs)
 fits_heard last number now xs h = record {
   known = All-map (λ it. number_of it ≤ last) (heard number now) xs
-    (All-weaker (λ it. number_of it ≤ last) (λ it. number_of (heard number now it) ≤ last)
-    (λ it k. omega (arith, k, heard_number (time_from it.stage it.since now) it (is_numbered number it))) xs h.known);
+      (All-weaker (λ it. number_of it ≤ last) (λ it. number_of (heard number now it) ≤ last)
+      (λ it k. omega (arith, k, heard_number (time_from it.stage it.since now) it (is_numbered number it))) xs h.known);
   differ = differ_map number_of (heard number now) (λ it. heard_number (time_from it.stage it.since now) it (is_numbered number it)) xs h.differ;
   few = λ stage is. omega (arith, h.few stage is, heard_count stage number now xs);
 }
@@ -208,11 +223,11 @@ fits_new : (last network now : ℕ) (xs : List Client) → n_at Requests xs < 16
     → Fits (last + 1) (xs ++ new_client (last + 1) network now ∷ [])
 fits_new last network now xs room h = record {
   known = All-push (λ it. number_of it ≤ last + 1) xs (new_client (last + 1) network now)
-    (All-weaker (λ it. number_of it ≤ last) (λ it. number_of it ≤ last + 1) (λ it k. omega (arith, k)) xs h.known) (omega arith);
+      (All-weaker (λ it. number_of it ≤ last) (λ it. number_of it ≤ last + 1) (λ it k. omega (arith, k)) xs h.known) (omega arith);
   differ = differ_push number_of xs (new_client (last + 1) network now) h.differ
-    (All-weaker (λ it. number_of it ≤ last) (λ it. number_of it ≢ last + 1) (λ it k e. absurd (omega (arith, k, e))) xs h.known);
+      (All-weaker (λ it. number_of it ≤ last) (λ it. number_of it ≢ last + 1) (λ it k e. absurd (omega (arith, k, e))) xs h.known);
   few = λ stage is. new_at stage (last + 1) network now (n_at stage (xs ++ new_client (last + 1) network now ∷ [])) (λ it. n_at it xs)
-    room (h.few stage is) (n_at_push stage xs (new_client (last + 1) network now));
+      room (h.few stage is) (n_at_push stage xs (new_client (last + 1) network now));
 }
 
 -- ---- the sessions
@@ -281,15 +296,15 @@ upgrade_bound stage number (Some it) s h =
     let xs : List Client = with_room stage it.network s.time s.clients in
     let roomy : Fits s.last_client xs = fits_without s.last_client (room_maker stage it.network s.time s.clients) s.clients h.clients in
     with_clients s _ h (if_fits s.last_client (has_room stage xs) (move_client number stage s.time xs) (drop_client number xs)
-      (λ has. fits_to s.last_client number stage s.time xs (ltb-true (n_at stage xs) 16 has) roomy)
-      (fits_without s.last_client _ xs roomy))
+    (λ has. fits_to s.last_client number stage s.time xs (ltb-true (n_at stage xs) 16 has) roomy)
+    (fits_without s.last_client _ xs roomy))
 
 opening_bound : (client network : ℕ) (token : List ℕ) (lack : Option Lack) (s : State) → lack_in network token s ≡ lack → Bound s
     → Bound (after_opening client network token lack s)
 opening_bound client network token None s is h =
     let short : length s.sessions < min s.limits.sessions 64 = is_short (nat_le (min s.limits.sessions 64) (length s.sessions))
-      (has_most network s.limits.per_network s.sessions) (min s.limits.sessions 64) (length s.sessions) refl
-      (no_fullness (fullness s.limits network s.sessions) _ is) in
+    (has_most network s.limits.per_network s.sessions) (min s.limits.sessions 64) (length s.sessions) refl
+    (no_fullness (fullness s.limits network s.sessions) _ is) in
     record {
       clients = fits_away s.last_client client Attached s.time s.clients refl h.clients;
       sessions = omega (arith, short, length-append s.sessions (new_session (s.last_session + 1) token network client s.time ∷ []));

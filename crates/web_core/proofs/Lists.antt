@@ -13,7 +13,7 @@ pub differ_map : {T K : Type 0} (key : T → K) (f : T → T) → ((it : T) → 
 differ_map key f same [] h = tt
 differ_map key f same (x ∷ xs) h = (
   All-map (λ other. key other ≢ key (f x)) f xs
-    (All-weaker (λ other. key other ≢ key x) (λ other. key (f other) ≢ key (f x)) (λ other k e. k (sym (same other) ∙ e ∙ same x)) xs h.0),
+      (All-weaker (λ other. key other ≢ key x) (λ other. key (f other) ≢ key (f x)) (λ other k e. k (sym (same other) ∙ e ∙ same x)) xs h.0),
   differ_map key f same xs h.1,
 )
 
@@ -30,6 +30,7 @@ differ_without key (Some place) xs h = differ_remove key xs place h
 pub differ_push : {T K : Type 0} (key : T → K) (xs : List T) (new : T) → Differ key xs → All (λ other. key other ≢ key new) xs → Differ key (xs ++ new ∷ [])
 differ_push key [] new h k = (All-nil (λ other. key other ≢ key new), tt)
 differ_push key (x ∷ xs) new h k =
-    let other : key x ≢ key new = All-head (λ other. key other ≢ key new) x xs k in
-    (All-push (λ other. key other ≢ key x) xs new h.0 (λ e. other (sym e)),
-    differ_push key xs new h.1 (All-tail (λ other. key other ≢ key new) x xs k))
+    let other : key x ≢ key new = All-head (λ other. key other ≢ key new) x xs k in (
+      All-push (λ other. key other ≢ key x) xs new h.0 (λ e. other (sym e)),
+      differ_push key xs new h.1 (All-tail (λ other. key other ≢ key new) x xs k),
+    )

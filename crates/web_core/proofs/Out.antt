@@ -61,6 +61,7 @@ no_visitor_of client (x ∷ xs) h it e =
     by_stage : (b : Bool) → b ≡ false → (if b then Some x else None) ≡ Some it → ⊥
     by_stage true isnt same = cc
     by_stage false isnt same = cc
+
     by_number : (option_and_then if_visitor (find (is_numbered client) xs) ≡ Some it → ⊥) → (b : Bool) → is_numbered client x ≡ b
         → option_and_then if_visitor (cond b (Some x) (find (is_numbered client) xs)) ≡ Some it → ⊥
     by_number rest true is same = by_stage (is_visitor x.stage) (All-head (IsNone client) x xs h (eqb-true x.number client is)) same
@@ -98,8 +99,10 @@ left_is_other client since kept_for it false is = λ e. differs (sym is ∙ page
   where
     itself : (n : ℕ) → is_client n (Some n) ≡ true
     itself n = grind arith
+
     page_is : (page : Option ℕ) → page ≡ Some client → is_client client page ≡ true
     page_is page e = rw e (itself client)
+
     differs : false ≡ true → ⊥
     differs e = cc
 
@@ -115,8 +118,10 @@ moved_is_none client now it false is = λ e. absurd (differs (sym is ∙ numbere
   where
     itself : (n : ℕ) → is_numbered n (new_client n 0 0) ≡ true
     itself n = grind arith
+
     numbered : (n : ℕ) → n ≡ client → is_numbered client (new_client n 0 0) ≡ true
     numbered n e = rw e (itself client)
+
     differs : false ≡ true → ⊥
     differs e = cc
 
@@ -143,7 +148,7 @@ upgrade_out client stage number (Some it) s other h =
     record {
       known = h.known;
       no_visitor = if_clients client (has_room stage xs) (move_client number stage s.time xs) (drop_client number xs)
-        (move_none client number stage s.time xs (λ e. absurd (other it refl e)) roomy) (all_without (IsNone client) _ xs roomy);
+          (move_none client number stage s.time xs (λ e. absurd (other it refl e)) roomy) (all_without (IsNone client) _ xs roomy);
       no_page = h.no_page;
     }
 
@@ -180,7 +185,7 @@ resuming_out client by network token None s other h = record {
 resuming_out client by network token (Some it) s other h = record {
   known = h.known;
   no_visitor = move_none client by Attached s.time (replaced it.page s.time s.clients) (λ _. refl)
-    (replaced_none client it.page s.time s.clients h.no_visitor);
+      (replaced_none client it.page s.time s.clients h.no_visitor);
   no_page = resume_other client by network s.time token s.sessions other h.no_page;
 }
 
@@ -231,7 +236,7 @@ step_out client (accepted network) s h =
     record {
       known = omega (arith, h.known);
       no_visitor = All-push (IsNone client) (roomy network s) (new_client (s.last_client + 1) network s.time) (roomy_none client network s h.no_visitor)
-        (new_none client s.last_client network s.time h.known);
+          (new_none client s.last_client network s.time h.known);
       no_page = h.no_page;
     }
     record { known = h.known; no_visitor = roomy_none client network s h.no_visitor; no_page = h.no_page }

@@ -1,5 +1,5 @@
 -- No two sessions have one token, after every list of calls.
-use Rattle.std.proofs.Common.{◌≡◌, ◌≢◌, ◌+◌, ℕ, Bool, true, false, List, [], ◌∷◌, ◌++◌, Option, None, Some, refl, sym, ◌∙◌, if◌then◌else◌, map, cond}
+use Rattle.std.proofs.Common.{◌≡◌, ◌≢◌, ◌+◌, ℕ, Bool, true, false, List, [], ◌∷◌, Option, None, Some, refl, sym, ◌∙◌, if◌then◌else◌, map, cond}
 use Rattle.std.specs.Prelude.{All, find}
 use Rattle.std.proofs.lemmas.List.Elements.{All-cons, All-nil}
 use Rattle.std.proofs.lemmas.Slice.Eq.{bytes_eq-Decides}
@@ -37,8 +37,10 @@ none_has token (x ∷ xs) e = by_test (none_has token xs) (has_token token x) re
   where
     absent : Some x ≡ None → ⊥
     absent e = cc
+
     differs : false ≡ true → ⊥
     differs e = cc
+
     by_test : (find (has_token token) xs ≡ None → All (λ other. other.token ≢ token) xs) → (b : Bool) → has_token token x ≡ b
         → cond b (Some x) (find (has_token token) xs) ≡ None → All (λ other. other.token ≢ token) (x ∷ xs)
     by_test rest true is same = absurd (absent same)

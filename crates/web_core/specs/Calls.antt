@@ -85,8 +85,10 @@ abbrev pub after_upgrade_of : Stage → (number : ℕ) → Option Client → Sta
 after_upgrade_of stage number None s = s
 after_upgrade_of stage number (Some it) s =
     let clients : List Client = with_room stage it.network s.time s.clients in
-    record s { clients = if has_room stage clients then move_client number stage s.time clients
-    else drop_client number clients }
+    record s {
+      clients = if has_room stage clients then move_client number stage s.time clients
+          else drop_client number clients;
+    }
 
 abbrev pub after_upgraded : (client : ℕ) → (resumes : Bool) → State → State
 after_upgraded client resumes s = after_upgrade_of (stage_upgraded resumes) client (visitor_of client s) s

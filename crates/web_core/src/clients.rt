@@ -23,10 +23,7 @@ pub(crate) type Clients = ArrayVec<Client, MOST_CLIENTS>;
 fn visitors_at(clients: &[Client], stage: Stage) -> usize
     ensures { result ≡ length (filter (is_at stage) clients.now) }
 {
-    clients
-        .iter()
-        .filter(|client| client.is_at(stage))
-        .count()
+    clients.iter().filter(|client| client.is_at(stage)).count()
 }
 
 /// Whether there is a place for one more visitor at a stage.
@@ -138,9 +135,7 @@ fn place_of(clients: &[Client], number: u64) -> Option<usize>
     ensures place { result ≡ position (is_numbered number) clients.now }
     ensures in_range { IfSome result (λ place. place < length clients.now) }
 {
-    clients
-        .iter()
-        .position(|client| client.is_numbered(number))
+    clients.iter().position(|client| client.is_numbered(number))
 }
 
 /// The client with this number.
@@ -166,12 +161,7 @@ fn drop_at(clients: &mut Clients, place: Option<usize>) -> Option<u64>
 }
 
 /// If there is no room at a stage, drops the client that makes room, if one does, and returns its number.
-pub(crate) fn make_room(
-    clients: &mut Clients,
-    stage: Stage,
-    network: u128,
-    now: u64,
-) -> Option<u64>
+pub(crate) fn make_room(clients: &mut Clients, stage: Stage, network: u128, now: u64) -> Option<u64>
     ensures items { clients.new.items ≡ with_room stage network now clients.old.items }
     ensures number { result ≡ client_at (room_maker stage network now clients.old.items) clients.old.items }
 {

@@ -149,8 +149,9 @@ impl Service {
         let dropped = make_room(&mut self.clients, Stage::Requests, network, self.time);
         let has_place = has_room(self.clients.as_slice(), Stage::Requests);
         drop_leaver(&mut self.clients);
-        let is_taken =
-            has_place && self.clients.len() < MOST_CLIENTS && self.last_client < u64::MAX;
+        let is_taken = has_place
+            && self.clients.len() < MOST_CLIENTS
+            && self.last_client < u64::MAX;
         if !is_taken {
             return Admission {
                 client: None,
@@ -254,13 +255,7 @@ impl Service {
         };
         self.send_away(session.page);
         move_client(self.clients.as_mut_slice(), client, Stage::Attached, now);
-        resume_session(
-            self.sessions.as_mut_slice(),
-            token,
-            client,
-            network,
-            now,
-        );
+        resume_session(self.sessions.as_mut_slice(), token, client, network, now);
         Some(Resumed {
             session: session.number,
             replaced: session.page,
@@ -281,7 +276,12 @@ impl Service {
     pub fn closed(&mut self, client: u64, by_page: bool)
         ensures { self.new ≡ after_closed client by_page self.old }
     {
-        move_client(self.clients.as_mut_slice(), client, Stage::Leaves, self.time);
+        move_client(
+            self.clients.as_mut_slice(),
+            client,
+            Stage::Leaves,
+            self.time,
+        );
         let kept_for = time_kept(by_page, self.limits.keep);
         leave_session(self.sessions.as_mut_slice(), client, kept_for, self.time);
     }

@@ -106,13 +106,7 @@ impl Session {
     }
 
     /// The session once a client has presented a token: if that is its token, the client is its page.
-    pub(crate) fn resumed(
-        &self,
-        token: &[u8; 16],
-        client: u64,
-        network: u128,
-        now: u64,
-    ) -> Session
+    pub(crate) fn resumed(&self, token: &[u8; 16], client: u64, network: u128, now: u64) -> Session
         ensures { result ≡ resumed token.now client network now self.now }
     {
         if self.has_token(token) {

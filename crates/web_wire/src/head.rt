@@ -247,12 +247,7 @@ fn failed_status(fault: HandshakeError) -> HttpStatus
 }
 
 /// The answer to a handshake.
-fn handshake_answer(
-    buf: &[u8],
-    head: &RequestSpans,
-    spans: &[HeaderSpan],
-    resumes: bool,
-) -> Answer
+fn handshake_answer(buf: &[u8], head: &RequestSpans, spans: &[HeaderSpan], resumes: bool) -> Answer
     requires { IsRequestWithin buf.now spans.now head.now }
     ensures { IsHandshakeAnswer (requested_key (span_bytes buf.now head.now.method) head.now.version
         (fields_of buf.now (take head.now.headers spans.now))) resumes result }
