@@ -141,9 +141,7 @@ fn client_numbered(
 
 /// The session with this number.
 fn session_numbered(sessions: &mut [Session], number: u64) -> Option<&mut Session> {
-    sessions
-        .iter_mut()
-        .find(|session| session.number == number)
+    sessions.iter_mut().find(|session| session.number == number)
 }
 
 impl WebServer {
@@ -213,9 +211,7 @@ impl WebServer {
 
     /// Takes a client, if the machine has a place for it.
     fn admit<L: EventLog>(&mut self, mut socket: TcpStream, peer: SocketAddr, log: &mut L) {
-        let admission = self
-            .service
-            .accepted(network_of(peer.ip().to_canonical()));
+        let admission = self.service.accepted(network_of(peer.ip().to_canonical()));
         self.turn_away(admission.dropped, log);
         let Some(number) = admission.client else {
             return log.note(&WebEvent::TurnedAway(peer));
@@ -245,7 +241,10 @@ impl WebServer {
         if self.service.stage_of(number).is_some() {
             return;
         }
-        let place = self.clients.iter().position(|client| client.number == number);
+        let place = self
+            .clients
+            .iter()
+            .position(|client| client.number == number);
         if let Some(place) = place {
             self.clients.swap_remove(place);
         }
@@ -582,7 +581,10 @@ impl WebServer {
 
     /// Drops the terminal of a session that has ended.
     fn drop_session(&mut self, number: u64) {
-        let place = self.sessions.iter().position(|session| session.number == number);
+        let place = self
+            .sessions
+            .iter()
+            .position(|session| session.number == number);
         if let Some(place) = place {
             self.sessions.swap_remove(place);
         }
