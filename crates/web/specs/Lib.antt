@@ -1,5 +1,2 @@
-pub mod Crowds
 pub mod Links
 pub mod Pages
-pub mod Limits
-pub mod Networks
