@@ -418,8 +418,8 @@ def front_of(services, folder, port):
 @check
 def a_front_reaches_all_machines():
     """Through HAProxy before two machines all LUs are granted at one port, and those of each process at
-    its own, which the file lists. A machine that drains gets nobody new, while its session goes on; one
-    that is gone neither. No host logs a check."""
+    its own, which the file lists. A machine that drains gets nobody new, while its session goes on. No
+    host logs a check."""
     with machines(2, 2) as services, tempfile.TemporaryDirectory() as folder, contextlib.ExitStack() as stack:
         port = services[-1].port + 10
         path = front_of(services, folder, port)
@@ -450,6 +450,32 @@ def a_front_reaches_all_machines():
         works_on(granted["LUA"], "STILL")
         granted["LUA"].does("Disconnect")
         expect("the status of the drained", services[0].process.wait(hosts.PATIENCE), 0)
+
+
+@check
+def health_is_that_of_the_processes():
+    """/health is 200 while a process answers with its metrics, and 503 while none does; no host logs
+    these checks."""
+    port = hosts.free_port()
+    request = b"GET /health HTTP/1.1\r\nHost: localhost\r\nConnection: close\r\n\r\n"
+    words = ["--share", "1/1", "--proxy-protocol", "--metrics", str(port + 50)]
+    with tempfile.TemporaryDirectory() as folder, Service(
+        folder, *words, panels=panels_with("LUA"), port=port
+    ) as service:
+        service.says("listening")
+
+        def status():
+            with contextlib.suppress(OSError):
+                return hosts.scraped(port + 100, request)[9:12]
+
+        hosts.until("200", lambda: status() == b"200")
+        os.kill(service.process_of(1), signal.SIGSTOP)
+        hosts.until("503", lambda: status() == b"503")
+        os.kill(service.process_of(1), signal.SIGCONT)
+        hosts.until("200", lambda: status() == b"200")
+        expect("events", (service.folder / "said").read_text().count("event="), 0)
+        service.process.send_signal(signal.SIGTERM)
+        hosts.until("nobody listens", lambda: not hosts.listens(port + 100) and not hosts.listens(port))
 
 
 # ---- metrics and the log of several processes
@@ -505,7 +531,7 @@ def one_page_has_the_metrics_of_all():
             expect("has a body", *(bool(it[2]) for it in answers))
         stopped = service.process_of(1)
         os.kill(stopped, signal.SIGSTOP)
-        silent = [stack_of(metrics) for _ in range(3)]
+        silent = [socket.create_connection((hosts.LOCALHOST, metrics)) for _ in range(3)]
         hosts.in_seconds(
             0.5, 3, "a page", lambda: expect("the page", sessions(), [
                 ("sessions", "2", "1"), ("process_up", "1", "0"), ("process_up", "2", "1")])
@@ -513,11 +539,6 @@ def one_page_has_the_metrics_of_all():
         os.kill(stopped, signal.SIGCONT)
         for it in silent:
             it.close()
-
-
-def stack_of(port):
-    """A client of the page that says nothing."""
-    return socket.create_connection((hosts.LOCALHOST, port))
 
 
 @check
