@@ -301,6 +301,27 @@ def an_upgrade_loses_no_session():
 
 
 @check
+def an_upgrade_without_a_program_changes_nothing():
+    """USR1 while the program is missing: the service says so, and goes on. A process that ends meanwhile
+    is started again once the program is there."""
+    with tempfile.TemporaryDirectory() as place, contextlib.ExitStack() as stack:
+        program = pathlib.Path(place) / "program"
+        program.symlink_to(programs.panel3270())
+        service = stack.enter_context(two_processes(program=program))
+        first, second = (stack.enter_context(S3270(2)) for _ in range(2))
+        expect("the LU granted", service.connects(first, port=service.port + 2), "LUB")
+        program.unlink()
+        service.process.send_signal(signal.SIGUSR1)
+        service.says(f"No such file or directory: '{program}'")
+        works_on(first, "STILL")
+        os.kill(service.process_of(1), signal.SIGKILL)
+        service.says(f"No such file or directory: '{program}'", 2)
+        program.symlink_to(programs.panel3270())
+        expect("the LU granted", service.connects(second, port=service.port + 1), "LUA")
+        works_on(first, "AFTER")
+
+
+@check
 def each_process_is_told():
     """`tell FOLDER` gives each process a command, and prints what each answers."""
     with two_processes() as service, S3270(2) as terminal:
