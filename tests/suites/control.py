@@ -580,8 +580,9 @@ def standard_input_is_read_once():
 
 
 @contextlib.contextmanager
-def script(*words, before=lambda: None):
-    """bin/serve on its own port; `before` is done in its process before it begins."""
+def script(*words, before=lambda: None, listens_in=None):
+    """bin/serve on its own port; `before` is done in its process before it begins. It says that it
+    listens on standard error, or in a file."""
     port = free_port()
 
     def begins():
@@ -604,7 +605,8 @@ def script(*words, before=lambda: None):
                 process.stdin.close()
             process.port = port
             process.logged = lambda: os.pread(log.fileno(), 1 << 16, 0).decode()
-            until("it listens", lambda: "listening" in process.logged())
+            said = listens_in.read_text if listens_in else process.logged
+            until("it listens", lambda: listens(port) and "listening" in said())
             yield process
         finally:
             if process.poll() is None:
@@ -677,6 +679,21 @@ def a_log_at_its_limit_ends_nothing():
         client.enters()
         client.ends()
         expect("its status", it.wait(PATIENCE), 0)
+
+
+@check
+def a_log_is_a_file_that_is_opened_again():
+    """With --log the lines of one process go to a file as they are, and after HUP to a new one."""
+    with tempfile.TemporaryDirectory() as folder:
+        log = pathlib.Path(folder) / "log"
+        begins = lambda: os.dup2(os.open(os.devnull, os.O_WRONLY), 2)
+        with script("--log", str(log), before=begins, listens_in=log) as it:
+            client = Client(it.port).signs_on("PNL01")
+            log.rename(f"{log}.1")
+            it.send_signal(signal.SIGHUP)
+            until("a new file", log.exists)
+            client.ends()
+            until("its end", lambda: event(0, client, "lost turns=0") in map(plain, log.read_text().splitlines()))
 
 
 @check

@@ -8,6 +8,7 @@ import pathlib
 import re
 import shutil
 import signal
+import socket
 import subprocess
 import sys
 import tempfile
@@ -45,15 +46,15 @@ def panels_with(*lus, word="WORD"):
 class Service:
     """bin/serve with the panels, at a port, in a folder of its own, until the check is over."""
 
-    def __init__(self, folder, *words, panels=PANELS, program=None):
-        self.folder, self.port = pathlib.Path(folder), hosts.free_port()
+    def __init__(self, folder, *words, panels=PANELS, program=None, errors=None, port=None):
+        self.folder, self.port = pathlib.Path(folder), port or hosts.free_port()
         (self.folder / "panels.toml").write_text(panels)
         words = ["--port", str(self.port), "--folder", folder, "--panels", f"{folder}/panels.toml", *words]
         words = [sys.executable, TOP / "bin/serve", *words]
         self.environment = {**os.environ, "PANEL3270": str(program or programs.panel3270())}
         how = {"env": self.environment, "start_new_session": True}
         with open(self.folder / "said", "wb") as said, open(self.folder / "out", "wb") as out:
-            self.process = subprocess.Popen(words, stderr=said, stdout=out, **how)
+            self.process = subprocess.Popen(words, stderr=errors or said, stdout=out, **how)
 
     def __enter__(self):
         return self
@@ -213,12 +214,13 @@ def a_text_that_cannot_be_dealt_out_is_refused():
 
 
 @contextlib.contextmanager
-def two_processes(**given):
+def two_processes(*words, **given):
     """Two processes, each with one LU, once they listen."""
     with tempfile.TemporaryDirectory() as folder, Service(
-        folder, "--processes", "2", panels=panels_with("LUA", "LUB"), **given
+        folder, "--processes", "2", *words, panels=panels_with("LUA", "LUB"), **given
     ) as service:
-        service.says("listening", 2)
+        for port in (service.port + 2, service.port + 101, service.port + 102):
+            hosts.until("they listen", lambda port=port: hosts.listens(port))
         yield service
 
 
@@ -299,6 +301,27 @@ def an_upgrade_loses_no_session():
 
 
 @check
+def an_upgrade_without_a_program_changes_nothing():
+    """USR1 while the program is missing: the service says so, and goes on. A process that ends meanwhile
+    is started again once the program is there."""
+    with tempfile.TemporaryDirectory() as place, contextlib.ExitStack() as stack:
+        program = pathlib.Path(place) / "program"
+        program.symlink_to(programs.panel3270())
+        service = stack.enter_context(two_processes(program=program))
+        first, second = (stack.enter_context(S3270(2)) for _ in range(2))
+        expect("the LU granted", service.connects(first, port=service.port + 2), "LUB")
+        program.unlink()
+        service.process.send_signal(signal.SIGUSR1)
+        service.says(f"No such file or directory: '{program}'")
+        works_on(first, "STILL")
+        os.kill(service.process_of(1), signal.SIGKILL)
+        service.says(f"No such file or directory: '{program}'", 2)
+        program.symlink_to(programs.panel3270())
+        expect("the LU granted", service.connects(second, port=service.port + 1), "LUA")
+        works_on(first, "AFTER")
+
+
+@check
 def each_process_is_told():
     """`tell FOLDER` gives each process a command, and prints what each answers."""
     with two_processes() as service, S3270(2) as terminal:
@@ -334,6 +357,266 @@ def an_installed_script_finds_the_program():
         words = [place / "panel3270-serve", "--port", "1", "--panels", f"{folder}/none"]
         run = subprocess.run(words, env=environment, check=False, stderr=subprocess.PIPE, text=True)
         expect("its status and what it says", (run.returncode, f"{folder}/none" in run.stderr), (1, True))
+
+
+@check
+def a_dead_process_is_told_in_its_turn():
+    """A socket that nobody listens at is reported with its process; the others do what they are told. A
+    service that starts removes such sockets, and has its folder alone."""
+    with two_processes() as service:
+        with socket.socket(socket.AF_UNIX) as dead:
+            dead.bind(f"{service.folder}/3.control")
+        said, status = service.tells("sessions")
+        expect("what the others say", said[:2], ["process 1: ok sessions=0", "process 2: ok sessions=0"])
+        expect("the third and the status", (said[2].split(": ")[0], len(said), status), ("process 3", 3, 4))
+        words = [sys.executable, TOP / "bin/serve", "--processes", "2", "--folder", service.folder]
+        words += ["--panels", service.folder / "panels.toml", "--port", str(hosts.free_port())]
+        run = subprocess.run(words, env=service.environment, stderr=subprocess.PIPE, check=False)
+        expect("the status of another in its folder", run.returncode, 4)
+        expect("what it says", b"another bin/serve has this folder" in run.stderr, True)
+    with tempfile.TemporaryDirectory() as folder:
+        with socket.socket(socket.AF_UNIX) as dead:
+            dead.bind(f"{folder}/3.control")
+        with Service(folder, "--processes", "2", panels=panels_with("LUA", "LUB")) as service:
+            service.says("listening", 2)
+            expect("a socket of a former process", (service.folder / "3.control").exists(), False)
+
+
+# ---- several machines
+
+
+@contextlib.contextmanager
+def machines(*processes, lus=("LUA", "LUB", "LUC", "LUD")):
+    """Machines with these numbers of processes, which share these LUs, behind a proxy. Ten ports are
+    between those of two of them."""
+    with contextlib.ExitStack() as stack:
+        services, port = [], hosts.free_port()
+        for place, count in enumerate(processes, 1):
+            folder = stack.enter_context(tempfile.TemporaryDirectory())
+            words = ["--share", f"{place}/{len(processes)}", "--processes", str(count), "--proxy-protocol"]
+            it = Service(folder, *words, panels=panels_with(*lus), port=port + 10 * place)
+            services.append(stack.enter_context(it))
+        for it, count in zip(services, processes):
+            it.says("listening", count)
+        yield services
+
+
+@check
+def machines_share_the_lus():
+    """Each of two machines has each second LU of the same text, one process too; after HUP as well. A
+    text by which an LU would move to the other machine is refused."""
+    with machines(1, 2, lus=("LUA", "LUB", "LUC", "LUD", "LUE")) as (first, second):
+        expect("the LUs of machine 1", first.lus_of(1), ["LUA", "LUC", "LUE"])
+        expect("the LUs of machine 2", (second.lus_of(1), second.lus_of(2)), (["LUB"], ["LUD"]))
+        expect("its port for any LU takes headers", (first.folder / "haproxy.cfg").read_text().count(
+            f"bind 127.0.0.1:{first.port} accept-proxy"), 1)
+        more = panels_with("LUA", "LUB", "LUC", "LUD", "LUE", "LUF", "LUG")
+        first.reloads(more, "ok reloaded: panels=1 lus=4")
+        second.reloads(more, "ok reloaded", 2)
+        expect("the LUs of machine 1", first.lus_of(1), ["LUA", "LUC", "LUE", "LUG"])
+        expect("the LUs of machine 2", (second.lus_of(1), second.lus_of(2)), (["LUB", "LUF"], ["LUD"]))
+        for it in (first, second):
+            moved = panels_with("LUB", "LUC", "LUD", "LUE", "LUF", "LUG")
+            it.reloads(moved, "LUB would move to another machine: add LUs at the end of the list")
+        expect("the LUs of machine 1", first.lus_of(1), ["LUA", "LUC", "LUE", "LUG"])
+    for share in ("0/2", "3/2", "1/65", "1"):
+        with tempfile.TemporaryDirectory() as folder, Service(folder, "--share", share) as it:
+            expect(f"the status of {share}", it.process.wait(hosts.PATIENCE), 2)
+
+
+def front_of(services, folder, port):
+    """The file of an HAProxy before these machines of two processes each, as bin/serve prints it; its
+    page of statistics is at another port, since other checks may have one, too."""
+    addresses = ",".join(f"127.0.0.1:{it.port}" for it in services)
+    words = [TOP / "bin/serve", "--front", addresses, "--panels", services[0].folder / "panels.toml"]
+    words = [sys.executable, *words, "--processes", "2", "--port", str(port)]
+    text = subprocess.run(words, check=True, stdout=subprocess.PIPE, text=True).stdout
+    path = pathlib.Path(folder) / "front.cfg"
+    path.write_text(text.replace("127.0.0.1:8404", f"127.0.0.1:{hosts.free_port()}"))
+    return path
+
+
+@check
+def a_front_reaches_all_machines():
+    """Through HAProxy before two machines all LUs are granted at one port, and those of each process at
+    its own, which the file lists. A machine that drains gets nobody new, while its session goes on. No
+    host logs a check."""
+    with machines(2, 2) as services, tempfile.TemporaryDirectory() as folder, contextlib.ExitStack() as stack:
+        port = services[-1].port + 10
+        path = front_of(services, folder, port)
+        for it in (path, *(it.folder / "haproxy.cfg" for it in services)):
+            checked = subprocess.run(["haproxy", "-c", "-f", it], check=False, capture_output=True)
+            expect(f"haproxy -c of {it.name}", (checked.returncode, checked.stderr), (0, b""))
+        table = re.findall(r"# (LU.)\nlisten machine(.)-process(.)\n    bind 127.0.0.1:(.*)\n", path.read_text())
+        places = [("LUA", "1", "1"), ("LUC", "1", "2"), ("LUB", "2", "1"), ("LUD", "2", "2")]
+        expect("the table", table, [(*it, str(port + at)) for at, it in enumerate(places, 1)])
+        proxy = subprocess.Popen(["haproxy", "-f", path], stdout=subprocess.DEVNULL)
+        stack.callback(proxy.wait)
+        stack.callback(proxy.kill)
+        terminals = [stack.enter_context(S3270(2)) for _ in range(4)]
+        granted = {services[0].connects(it, port=port): it for it in terminals}
+        expect("the LUs granted", sorted(granted), ["LUA", "LUB", "LUC", "LUD"])
+        granted["LUD"].does("Disconnect")
+        expect("the LU by name", services[0].connects(granted["LUD"], "LUD@", port + 4), "LUD")
+        time.sleep(5)
+        logs = "".join((it.folder / "said").read_text() for it in services)
+        expect("the sessions that began", logs.count("event=connected"), 5)
+        expect("wrong headers", logs.count("event=bad-proxy-header"), 0)
+        services[0].process.send_signal(signal.SIGTERM)
+        services[0].says("ok draining", 2)
+        for lu in ("LUC", "LUB", "LUD"):
+            granted[lu].does("Disconnect")
+        for lu in ("LUB", "LUD"):
+            expect("of the machine that goes on", services[0].connects(granted[lu], port=port) in "LUB LUD", True)
+        works_on(granted["LUA"], "STILL")
+        granted["LUA"].does("Disconnect")
+        expect("the status of the drained", services[0].process.wait(hosts.PATIENCE), 0)
+
+
+@check
+def health_is_that_of_the_processes():
+    """/health is 200 while a process answers with its metrics, and 503 while none does; no host logs
+    these checks."""
+    port = hosts.free_port()
+    request = b"GET /health HTTP/1.1\r\nHost: localhost\r\nConnection: close\r\n\r\n"
+    words = ["--share", "1/1", "--proxy-protocol", "--metrics", str(port + 50)]
+    with tempfile.TemporaryDirectory() as folder, Service(
+        folder, *words, panels=panels_with("LUA"), port=port
+    ) as service:
+        service.says("listening")
+
+        def status():
+            with contextlib.suppress(OSError):
+                return hosts.scraped(port + 100, request)[9:12]
+
+        hosts.until("200", lambda: status() == b"200")
+        os.kill(service.process_of(1), signal.SIGSTOP)
+        hosts.until("503", lambda: status() == b"503")
+        os.kill(service.process_of(1), signal.SIGCONT)
+        hosts.until("200", lambda: status() == b"200")
+        expect("events", (service.folder / "said").read_text().count("event="), 0)
+        service.process.send_signal(signal.SIGTERM)
+        hosts.until("nobody listens", lambda: not hosts.listens(port + 100) and not hosts.listens(port))
+
+
+# ---- metrics and the log of several processes
+
+
+@check
+def one_page_has_the_metrics_of_all():
+    """Each series with its process, those of a metric together, and HELP and TYPE once. A process that
+    is stopped is missing within two seconds. Other requests are answered as the program's own port does."""
+    port = hosts.free_port()
+    metrics = port + 50
+    with two_processes("--metrics", str(metrics), port=port) as service, S3270(2) as terminal:
+        service.connects(terminal, port=service.port + 2)
+
+        def page(request=hosts.GET):
+            return hosts.scraped(metrics, request)
+
+        def sessions():
+            return re.findall(r'(?m)^panel3270_(sessions|process_up)\{process="(.)"\} (\d)$', page().decode())
+
+        hosts.until("a page of both", lambda: len(sessions()) == 4)
+        up = [("process_up", "1", "1"), ("process_up", "2", "1")]
+        expect("the page", sessions(), [("sessions", "1", "0"), ("sessions", "2", "1"), *up])
+        head, _, text = page().decode().partition("\r\n\r\n")
+        own = hosts.scraped(metrics + 1, hosts.GET).decode().partition("\r\n\r\n")[0]
+        fields = [it for it in own.splitlines() if "Content-Length" not in it]
+        expect("the header", [it for it in head.splitlines() if "Content-Length" not in it], fields)
+        kinds = re.findall(r"(?m)^# TYPE (\S+)", text)
+        expect("metrics twice", [it for it in set(kinds) if kinds.count(it) != 1], [])
+        names = [re.sub(r"_(bucket|sum|count)$", "", it) for it in re.findall(r"(?m)^(?!#)(\w+)\{", text)]
+        expect("the order of the series", list(dict.fromkeys(names)), kinds)
+        runs = [it for place, it in enumerate(names) if names[place - 1 : place] != [it]]
+        expect("series apart", len(runs), len(kinds))
+        if shutil.which("promtool"):
+            done = subprocess.run(
+                ["promtool", "check", "metrics"], input=text.encode(), capture_output=True, check=False
+            )
+            expect("promtool", (done.returncode, done.stdout, done.stderr), (0, b"", b""))
+        for request in (
+            b"HEAD /metrics HTTP/1.1\r\nHost: [::1]:80\r\n\r\n",
+            b"GET /metrics HTTP/1.1\r\nHost: example.com\r\n\r\n",
+            b"GET /metrics HTTP/1.1\r\n\r\n",
+            b"GET /metrics HTTP/1.0\r\n\r\n",
+            b"GET /none HTTP/1.1\r\nHost: localhost\r\n\r\n",
+            b"POST /metrics HTTP/1.1\r\nHost: localhost\r\n\r\n",
+            b"GET\r\n\r\n",
+            b"GET /metrics HTTP/1.1\r\nHost: localhost\r\nA: " + 4096 * b"a" + b"\r\n\r\n",
+            b"GET /metrics HTTP/1.1\r\nHost: localhost\r\nHost: localhost\r\n\r\n",
+        ):
+            answers = [hosts.scraped(it, request).partition(b"\r\n\r\n") for it in (metrics, metrics + 1)]
+            heads = [[it for it in head.splitlines() if b"Content-Length" not in it] for head, *_ in answers]
+            expect(f"the answer to {request[:60]}", heads[0], heads[1])
+            expect("has a body", *(bool(it[2]) for it in answers))
+        stopped = service.process_of(1)
+        os.kill(stopped, signal.SIGSTOP)
+        silent = [socket.create_connection((hosts.LOCALHOST, metrics)) for _ in range(3)]
+        hosts.in_seconds(
+            0.5, 3, "a page", lambda: expect("the page", sessions(), [
+                ("sessions", "2", "1"), ("process_up", "1", "0"), ("process_up", "2", "1")])
+        )
+        os.kill(stopped, signal.SIGCONT)
+        for it in silent:
+            it.close()
+
+
+@check
+def one_log_has_the_lines_of_all():
+    """With --log each line goes to the file with its process, behind the time. At HUP the file is opened
+    by its name again, also if its panels are wrong."""
+    with tempfile.TemporaryDirectory() as place:
+        log = pathlib.Path(place) / "log"
+        with two_processes("--log", str(log)) as service, S3270(2) as terminal:
+            service.connects(terminal, "LUB@", service.port + 2)
+
+            def lines():
+                return log.read_text().splitlines()
+
+            wanted = r"time=\S+ process=2 conn=0 session=\S+ peer=\S+ event=bound lu=LUB"
+            hosts.until("the line of the session", lambda: any(re.fullmatch(wanted, it) for it in lines()))
+            listening = [f"process={it} listening on 127.0.0.1:{service.port + 100 + it}" for it in (1, 2)]
+            expect("they listen", [it for it in sorted(lines()) if "listening" in it], listening)
+            log.rename(f"{log}.1")
+            (service.folder / "panels.toml").write_text("lus = [")
+            service.process.send_signal(signal.SIGHUP)
+            hosts.until("a new file", log.exists)
+            hosts.until("what is wrong", lambda: any("panels.toml" in it for it in lines()))
+            terminal.does("Disconnect")
+            hosts.until("the end", lambda: any("process=2 conn=0" in it and "event=lost" in it for it in lines()))
+            expect("on standard error", (service.folder / "said").read_text(), "")
+            service.process.send_signal(signal.SIGTERM)
+            expect("its status", service.process.wait(hosts.PATIENCE), 0)
+            expect("its last line", any("ok draining" in it for it in lines()), True)
+
+
+@check
+def a_log_that_nobody_reads_holds_up_nothing():
+    """While nobody reads standard error, sessions go on and signals are heeded; then the log says how
+    many lines are missing."""
+    reads, writes = os.pipe()
+    with open(reads, "rb") as unread, open(writes, "wb") as errors, two_processes(errors=errors) as service:
+        errors.close()
+        for _ in range(1500):
+            socket.create_connection((hosts.LOCALHOST, service.port + 101)).close()
+        with S3270(2) as terminal:
+            service.connects(terminal, port=service.port + 2)
+            works_on(terminal, "ON")
+        os.kill(service.process_of(2), signal.SIGKILL)
+        with S3270(2) as terminal:
+            service.connects(terminal, port=service.port + 2)
+        os.set_blocking(unread.fileno(), False)
+        came = b""
+
+        def says_it():
+            nonlocal came
+            came += unread.read() or b""
+            return b"process=serve event=log-lines-dropped lines=" in came
+
+        hosts.until("how many lines are missing", says_it)
+        whole = rb"(time=\S+ )?process=\S+ .*|serve: .*|"
+        expect("cut lines", [it for it in came.split(b"\n")[:-1] if not re.fullmatch(whole, it)], [])
 
 
 def cases():

@@ -448,6 +448,8 @@ STEPS = {
     "[operate]\n": "is a text for stunnel: the suite operate",
     "printf 'Connect(L:BANK04": "needs s3270 and stunnel: the suite s3270_sessions",
     "bin/serve --processes": "needs HAProxy: the suite processes",
+    "first$ panel3270-serve --share 1/2": "needs several machines: the suite processes",
+    "time=2026-11-27T09:42:27Z process=2": "is the log of processes: the suite processes",
     # docs/APPLICATIONS.md
     "python3 examples/": application,
     "panel3270 serve --port 3270 --panels examples/bank-asks.toml": signs_on,
