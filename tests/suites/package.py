@@ -1,5 +1,6 @@
 """bin/package: the Debian package that it makes of the suite's program, what it installs, and how
-that runs; the alert rules and the dashboard of examples/monitoring, the runbook of docs/OPERATING.md.
+that runs; the alert rules and the dashboard of examples/monitoring; the runbook of
+docs/OPERATING.md.
 
 A program that isn't the proved one is packaged by --unproved. Nothing is installed on this machine:
 dpkg unpacks into folders of the suite. Checks by lintian, promtool and systemd-analyze are left out
@@ -50,7 +51,7 @@ FILES = {
     "usr/share/man/man1/panel3270.1.gz": "-rw-r--r--",
 }
 CONFIGURATION = ["etc/default/panel3270", "etc/panel3270/panels.toml"]
-# For dpkg in a folder in place of the root: no other package is there, and no shell to change to it.
+# For dpkg in a folder in place of the root, in which there is no other package and no shell.
 IN_A_FOLDER = ("--force-not-root", "--force-script-chrootless", "--force-depends")
 
 # What bin/package and these checks can't do without.
@@ -122,18 +123,43 @@ def a_program_without_a_proof_is_refused():
         other.write_bytes(pathlib.Path("/bin/true").read_bytes())
         other.chmod(0o755)
         done = packs(folder, PANEL3270=str(other))
-        wanted = f"package: {other} isn't the proved program of these sources; --unproved takes it, and says so\n"
+        wanted = f"package: {other} isn't the proved program of these sources (--unproved takes it)\n"
         expect("bin/package", (done.stdout, done.stderr, done.returncode), ("", wanted, 1))
         expect("what is written", os.listdir(folder), ["panel3270"])
         done = packs(folder, "--unproved", PANEL3270=str(other))
         expect("another program", (done.stdout, done.returncode), ("", 1))
-    expect("the description says that it has no proof", UNPROVED in fields()["Description"], is_unproved())
+    said = UNPROVED in fields()["Description"]
+    expect("the description says that it has no proof", said, is_unproved())
 
 
 def fields() -> dict[str, str]:
     """The control fields; lines behind the first of one are part of it."""
     said = ran("dpkg-deb", "-f", package())
     return dict(re.findall(r"(?ms)^(\S+): (.*?)\n(?=\S|\Z)", said))
+
+
+@check
+def the_built_program_is_the_proved_one_unless_its_sources_are_newer():
+    """In a clone, with the suite's program in the place of the one that `rt run` builds."""
+    with tempfile.TemporaryDirectory(prefix="package-") as folder:
+        clone = pathlib.Path(folder) / "clone"
+        ran("git", "clone", "-q", TOP, clone)
+        built = clone / "crates/panel3270/out/panel3270"
+        without = {it: text for it, text in os.environ.items() if it != "PANEL3270"}
+        words = [sys.executable, clone / "bin/package", "--to", folder]
+        done = run(*words, env=without)
+        hint = "(cd crates/panel3270 && rt run < stdin) builds it"
+        wanted = f"package: {built} isn't there: {hint}\n"
+        expect("without a program", (done.stderr, done.returncode), (wanted, 1))
+        built.parent.mkdir()
+        shutil.copy(programs.panel3270(), built)
+        packed = pathlib.Path(ran(*words, env=without).strip())
+        if "unproved" in packed.name or ".changed" in packed.name:
+            raise Difference("a version without `~unproved` and `.changed`", packed.name)
+        expect("it says that it has no proof", UNPROVED in ran("dpkg-deb", "-f", packed), False)
+        os.utime(built, (0, 0))
+        done = run(*words, env=without)
+        expect("with newer sources", (done.stdout, done.returncode), ("", 1))
 
 
 @check
@@ -147,7 +173,7 @@ def the_control_fields_are_those_of_the_program():
         raise Difference(f"Version: {version}", came["Version"])
     architecture = ran("dpkg", "--print-architecture").strip()
     expect("the file's name", package().name, f"{NAME}_{came['Version']}_{architecture}.deb")
-    wanted = {"Package": NAME, "Architecture": architecture, "Section": "net", "Priority": "optional"}
+    wanted = {"Package": NAME, "Architecture": architecture, "Section": "net"}
     same(wanted, {it: came.get(it) for it in wanted})
     for it in (r"libc6 \(>= 2\.\d+\)", r"python3 \(>= 3\.11\)"):
         if not re.search(rf"(^|, ){it}(,|$)", came["Depends"]):
@@ -260,7 +286,9 @@ def serves_reloads_and_ends(root: pathlib.Path, words: list[str]) -> None:
         service.says("panels=2 lus=4")
         service.process.terminate()
         expect("its status at TERM", service.process.wait(PATIENCE), 0)
-    expect("a process that is left", run("pgrep", "-f", f"{root}/usr/bin").stdout, "")
+        with contextlib.suppress(ProcessLookupError):
+            os.killpg(service.process.pid, 0)
+            raise Difference("no process is left of it", "one is")
 
 
 @check
@@ -317,8 +345,9 @@ def installing_enables_the_service_and_purging_leaves_nothing():
             ran("dpkg", f"--root={root}", *IN_A_FOLDER, f"--log={root}/log", *words)
 
         def files() -> list[str]:
-            found = (str(it.relative_to(root)) for it in root.rglob("*") if not it.is_dir() or it.is_symlink())
-            return sorted(it for it in found if it != "log" and not it.startswith("var/lib/dpkg/"))
+            found = (it for it in root.rglob("*") if not it.is_dir() or it.is_symlink())
+            paths = (str(it.relative_to(root)) for it in found)
+            return sorted(it for it in paths if it != "log" and not it.startswith("var/lib/dpkg/"))
 
         dpkg("-i", package())
         enabled = root / "etc/systemd/system/multi-user.target.wants/panel3270.service"
@@ -374,8 +403,8 @@ class Query:
 
 
 def alerts() -> dict[str, dict[str, str]]:
-    """What each rule says, with the number of its line. The file has a key a line, and behind `>-` a
-    text of the lines below."""
+    """What each rule says, with the number of its line. The file has a key a line, and after `>-`
+    a text of the lines below."""
     found: dict[str, dict[str, str]] = {}
     folded = None
     for number, line in enumerate((TOP / ALERTS).read_text().splitlines(), 1):
@@ -399,13 +428,17 @@ def queries() -> Iterator[Query]:
     for number, line in enumerate(lines, 1):
         if found := re.fullmatch(r'\s*"(?:expr|query)": (".*"),?', line):
             text = json.loads(found[1])
+            # The values of a label, which isn't of Prometheus' language.
+            text = re.sub(r"label_values\((\w+), (\w+)\)", r"sum by (\2) (\1)", text)
             if text != "prometheus":
-                yield Query(re.sub(r"label_values\((\w+), (\w+)\)", r"sum by (\2) (\1)", text), Place(DASHBOARD, number))
+                yield Query(text, Place(DASHBOARD, number))
 
 
 # Labels that Prometheus itself gives to what it reads, and the metric that it makes.
 GIVEN, UP = {"job", "instance"}, "up"
 WORDS = {"by", "without", "on", "ignoring", "and", "or", "unless", "bool", "offset"}
+# A name that isn't of a function, with what its labels are to be.
+SELECTOR = re.compile(r"\b([a-zA-Z_]\w*)\b(?!\s*\()(?:\{([^}]*)\})?")
 
 
 def series_of(page: str) -> dict[str, list[dict[str, str]]]:
@@ -417,12 +450,12 @@ def series_of(page: str) -> dict[str, list[dict[str, str]]]:
 
 
 def check_query(query: Query, series: dict[str, list[dict[str, str]]]) -> None:
-    """Each name in it is that of a metric, and each label one that the metric has, with that value."""
+    """Each name in it is that of a metric, and each label and its value one of that metric."""
     names = 0
     text = re.sub(r"\[\w+\]", "", query.text)
     groups = re.findall(r"\b(?:by|without) \(([^)]*)\)", text)
     text = re.sub(r"\b(by|without) \([^)]*\)", "", text)
-    for name, labels in re.findall(r"\b([a-zA-Z_]\w*)\b(?!\s*\()(?:\{([^}]*)\})?", re.sub(r'(?<!=)(?<!=~)"[^"]*"', "", text)):
+    for name, labels in SELECTOR.findall(text):
         if name in WORDS:
             continue
         names += 1
@@ -468,10 +501,10 @@ def each_alert_is_in_the_runbook():
 # name, and none other.
 HAPPENS = {
     "Panel3270Down": 'up{job="panel3270",instance="a"}: 1x10 0x10',
-    "Panel3270Restarts": 'process_start_time_seconds{job="panel3270",instance="a"}: 100x9 700 760 820 880x8',
+    "Panel3270Restarts": 'process_start_time_seconds{job="panel3270"}: 100x9 700 760 820 880x8',
     "Panel3270TurnedAway": 'panel3270_turned_away_total{instance="a"}: 0x17 5x3',
     "Panel3270LuInUse": 'panel3270_rejections_total{instance="a",reason="DEVICE-IN-USE"}: 0x17 1x3',
-    "Panel3270ApplicationFails": 'panel3270_question_failures_total{instance="a",reason="timeout"}: 0x17 1x3',
+    "Panel3270ApplicationFails": 'panel3270_question_failures_total{reason="timeout"}: 0x17 1x3',
     "Panel3270ApplicationSlow": 'panel3270_answer_seconds_bucket{instance="a",le="5"}: 0+9x20'
     ' | panel3270_answer_seconds_bucket{instance="a",le="2.5"}: 0+1x20'
     ' | panel3270_answer_seconds_bucket{instance="a",le="+Inf"}: 0+9x20',
