@@ -123,7 +123,8 @@ def a_program_without_a_proof_is_refused():
         other.write_bytes(pathlib.Path("/bin/true").read_bytes())
         other.chmod(0o755)
         done = packs(folder, PANEL3270=str(other))
-        wanted = f"package: {other} isn't the proved program of these sources (--unproved takes it)\n"
+        why = "isn't the proved program of these sources (--unproved takes it)"
+        wanted = f"package: {other} {why}\n"
         expect("bin/package", (done.stdout, done.stderr, done.returncode), ("", wanted, 1))
         expect("what is written", os.listdir(folder), ["panel3270"])
         done = packs(folder, "--unproved", PANEL3270=str(other))
@@ -497,8 +498,8 @@ def each_alert_is_in_the_runbook():
     expect("the numbers", [it["id"] for it in panels], list(range(1, len(panels) + 1)))
 
 
-# What happens in 20 minutes, a value a minute, and the alert that follows at their end: each by its
-# name, and none other.
+# What happens in 20 minutes, a value a minute, by the name of the one alert that there is at their
+# end; "" is none.
 HAPPENS = {
     "Panel3270Down": 'up{job="panel3270",instance="a"}: 1x10 0x10',
     "Panel3270Restarts": 'process_start_time_seconds{job="panel3270"}: 100x9 700 760 820 880x8',
@@ -530,24 +531,22 @@ def values_of(spelt: str) -> str:
     return " ".join(map(more, spelt.split()))
 
 
-def a_test_of(name: str, happens: str) -> list[str]:
-    """A test of promtool's, which is JSON as YAML is: what each alert says at the end."""
+def a_test_of(name: str, happens: str) -> dict[str, object]:
+    """A test of promtool's: which alerts there are at the end."""
     series = [it.rsplit(": ", 1) for it in happens.split(" | ")]
-    fires = {it: [{}] if it == name else [] for it in alerts()}
-    return [
-        {
-            "interval": "1m",
-            "input_series": [{"series": it, "values": values_of(spelt)} for it, spelt in series],
-            "promql_expr_test": [
-                {
-                    "expr": f'count(ALERTS{{alertname="{it}",alertstate="firing"}})',
-                    "eval_time": "19m",
-                    "exp_samples": [{"labels": "{}", "value": len(wanted)}] if wanted else [],
-                }
-                for it, wanted in fires.items()
-            ],
-        }
-    ]
+    one = [{"labels": "{}", "value": 1}]
+    return {
+        "interval": "1m",
+        "input_series": [{"series": it, "values": values_of(spelt)} for it, spelt in series],
+        "promql_expr_test": [
+            {
+                "expr": f'count(ALERTS{{alertname="{it}",alertstate="firing"}})',
+                "eval_time": "19m",
+                "exp_samples": one if it == name else [],
+            }
+            for it in alerts()
+        ],
+    }
 
 
 @check
@@ -563,7 +562,7 @@ def each_alert_follows_what_it_is_for():
     """And no other does, by `promtool test rules`."""
     needs("promtool", "prometheus")
     expect("the alerts", [it for it in HAPPENS if it], list(alerts()))
-    tests = [it for name, happens in HAPPENS.items() for it in a_test_of(name, happens)]
+    tests = [a_test_of(name, happens) for name, happens in HAPPENS.items()]
     with tempfile.TemporaryDirectory() as folder:
         file = pathlib.Path(folder) / "tests.yaml"
         rules = {"rule_files": [str(TOP / ALERTS)], "evaluation_interval": "1m", "tests": tests}
