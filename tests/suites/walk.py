@@ -375,6 +375,14 @@ def installs(walk, command):
     walk.start(command, walk.here(start), HOST, LISTENS)
 
 
+def packs(walk, command):
+    """The package of the program without a proof."""
+    text = f'PANEL3270="$(bin/quick --which)" {command.text} --unproved'
+    out, said, status = walk.ran(text, patience=COMPILING)
+    command.expects(f"the status of `{text}` ({said})", status, 0)
+    is_there(walk, command, out.strip())
+
+
 def has_the_toolchain(walk, command):
     """The command itself takes an hour, and `rt ci` does the same."""
     named = re.search(r"`rt version` must end with `(.*)`", walk.read(command.page))[1]
@@ -431,6 +439,8 @@ STEPS = {
     '[[panel]]\nname = "ITINERARY"': lines_of("examples/airline.toml"),
     # docs/OPERATING.md
     "# install ": installs,
+    "bin/package": packs,
+    "rule_files:": "is a configuration of Prometheus: the suite package",
     "panel3270 serve --port 3270 --panels examples/bank.toml": serves_with_a_log,
     "panel3270 serve --port 3270 --control control": serves_with_a_socket,
     "panel3270 tell ": tells,
