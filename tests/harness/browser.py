@@ -40,11 +40,11 @@ def get(port, target="/", method="GET", **fields):
     return "\r\n".join([f"{method} {target} HTTP/1.1", *lines, "", ""]).encode()
 
 
-def handshake(port, key="dGhlIHNhbXBsZSBub25jZQ==", target="/terminal", **fields):
+def handshake(port, key="dGhlIHNhbXBsZSBub25jZQ==", **fields):
     """The head of a handshake, section 4.1."""
     return get(
         port,
-        target,
+        "/terminal",
         **{
             "Origin": f"http://{LOCALHOST}:{port}",
             "Upgrade": "websocket",
@@ -74,10 +74,10 @@ def frame(opcode, payload=b"", final=True, mask=b"\x37\xfa\x21\x3d"):
 class Page:
     """A page's WebSocket, after the handshake."""
 
-    def __init__(self, port, source=LOCALHOST, target="/terminal", **fields):
+    def __init__(self, port, source=LOCALHOST, **fields):
         self.socket = socket.create_connection((LOCALHOST, port), PATIENCE, (source, 0))
         key = base64.b64encode(os.urandom(16)).decode()
-        self.socket.sendall(handshake(port, key, target, **fields))
+        self.socket.sendall(handshake(port, key, **fields))
         self.rest = b""
         while b"\r\n\r\n" not in self.rest:
             self.rest += self.more()

@@ -9,44 +9,18 @@ from collections import Counter
 
 from harness.case import Checks, expect
 from harness.hosts import GET, LOCALHOST, in_seconds, metered, scraped, until
-from suites.web import Web, screen_of
 
 check = Checks()
 cases = check.cases
 
 # They cause more lines than a pipe and the host's buffer hold.
 CLIENTS = 4_000
-REFUSED = 2_500
 
 
 def figure(host, name):
     """A number of the metrics."""
     page = scraped(host.metrics, GET).decode()
     return int(re.search(rf"^panel3270_{name} (\d+)$", page, re.MULTILINE)[1])
-
-
-@check
-def an_unread_log_of_web_holds_up_no_page() -> None:
-    """The same of `web`, whose log has a line for each client that it refuses."""
-    log, end = os.pipe()
-    with open(log, "rb", buffering=0) as read, open(end, "wb", buffering=0) as write:
-        with Web(log=write) as web:
-            for _ in range(REFUSED):
-                with socket.create_connection((LOCALHOST, web.port), 5) as client:
-                    client.sendall(b"GET / FTP/1.1\r\n\r\n")
-                    client.recv(1 << 12)
-            with contextlib.closing(web.page()) as page:
-                in_seconds(0, 5, "a page", lambda: screen_of(page, "TELLER"))
-            text, end_time = b"", time.monotonic() + 10
-            while b"log-lines-dropped" not in text and time.monotonic() < end_time:
-                text += read.read(1 << 16)
-            _, *lines = text.decode().splitlines()
-            refused = sum("event=refused" in it for it in lines)
-            dropped = int(lines[-1].rsplit("=", 1)[1])
-            expect("some are dropped", dropped > 0, True)
-            expect("lines that aren't whole", [it for it in lines if not re.match(r"time=\S+Z ", it)], [])
-            expect("lines of refused clients, at most", refused + dropped <= REFUSED + 8, True)
-            expect("lines of refused clients, at least", refused + dropped >= REFUSED, True)
 
 
 @check

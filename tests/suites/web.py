@@ -1,8 +1,8 @@
 """`web`: what it answers a browser, and what a hostile client gains: nothing, and nobody else notices.
 
 The requests are spelt by RFC 9112, the frames by RFC 6455; the limits are requirements: a head of
-8,192 bytes and 64 fields, 16 clients each that send a request, a first message and a token, for 5
-seconds each, messages of 4,096 bytes, a ping every 5 seconds, and a minute of silence.
+8,192 bytes and 64 fields, 16 clients without a session for 5 seconds each, messages of 4,096 bytes,
+a ping every 5 seconds, and a minute of silence.
 """
 import contextlib
 import re
@@ -31,9 +31,9 @@ REDRAW, QUIT = b"\x0c", b"\x1d"
 class Web:
     """A `web` beside a host, which has these options."""
 
-    def __init__(self, *words, text=None, host=(), log=None):
+    def __init__(self, *words, text=None, host=()):
         self.host = Server("serve", *host, text=text or BANK.read_bytes())
-        self.port, self.log = free_port(), log or tempfile.TemporaryFile()
+        self.port, self.log = free_port(), tempfile.TemporaryFile()
         words = ["web", "--port", str(self.port), "--connect", str(self.host.port), *words]
         self.process = subprocess.Popen(
             [programs.panel3270(), *words], stdin=subprocess.DEVNULL, stderr=self.log
@@ -54,8 +54,7 @@ class Web:
         self.host.__exit__()
 
     def page(self, words="open 2", **fields):
-        target = "/terminal?resume" if words.startswith("resume ") else "/terminal"
-        page = Page(self.port, target=target, **fields)
+        page = Page(self.port, **fields)
         page.send(TEXT, words.encode())
         return page
 
@@ -97,9 +96,6 @@ def heads(port):
         "the host without its port": (get(port, Host=LOCALHOST), 403),
         "a longer host": (get(port, Host=f"{host}0"), 403),
         "another target": (get(port, "/index.html"), 404),
-        "the target for pages that resume": (handshake(port, target="/terminal?resume"), 101),
-        "another origin there": (handshake(port, target="/terminal?resume", Origin="http://attacker.example"), 403),
-        "the terminal with another query": (handshake(port, target="/terminal?resumes"), 404),
         "POST": (get(port, method="POST"), 405),
         "HEAD": (get(port, method="HEAD"), 405),
         "no request": (b"GET / FTP/1.1\r\n\r\n", 400),
@@ -455,74 +451,6 @@ def one_address_crowds_nobody_out() -> None:
         expect("one that finds 9", has_ended(first), False)
         expect("the crowd", [has_ended(it, 0.1) for it in crowd], [True] + [False] * 8)
         expect("others", [has_ended(it, 0.1) for it in others], [False] * 7)
-
-
-def silent_pages(web: Web, stack: contextlib.ExitStack, count: int, **fields) -> list[Page]:
-    """WebSockets that send no first message."""
-    pages = [Page(web.port, **fields) for _ in range(count)]
-    for page in pages:
-        stack.callback(page.close)
-    return pages
-
-
-@check
-def resumes_have_places_of_their_own() -> None:
-    """If 16 WebSockets have yet to send their first message, and 16 clients their request, a page still
-    resumes its session, and the newest of the others keep their places."""
-    with Web("--keep", "300") as web, contextlib.ExitStack() as stack:
-        page = web.page()
-        token = page.told("token")
-        screen_of(page, "TELLER")
-        page.close()
-        web.logs("event=page-lost reason=lost")
-        others = silent_pages(web, stack, 16)
-        clients(web, stack, 16, b"GET / HTTP/1.1\r\n", source="127.0.0.2", pause=0)
-        resumed = Page(web.port, target="/terminal?resume")
-        resumed.send(TEXT, f"resume {token}".encode())
-        screen_of(resumed, "TELLER")
-        others[0].send(TEXT, b"open 2 BANK02")
-        screen_of(others[0], "BANK02")
-
-
-@check
-def a_burst_of_silent_clients_drops_no_resume() -> None:
-    """A WebSocket that has yet to send its token keeps its place, however many clients come that send no
-    request, or no first message."""
-    with Web("--keep", "300") as web, contextlib.ExitStack() as stack:
-        page = web.page()
-        token = page.told("token")
-        screen_of(page, "TELLER")
-        page.close()
-        web.logs("event=page-lost reason=lost")
-        resumed = Page(web.port, target="/terminal?resume")
-        time.sleep(1.2)
-        for _ in range(2):
-            clients(web, stack, 24)
-            silent_pages(web, stack, 24, source="127.0.0.2")
-        resumed.send(TEXT, f"resume {token}".encode())
-        screen_of(resumed, "TELLER")
-
-
-@check
-def silent_pages_make_room() -> None:
-    """Of 16 WebSockets without a first message the oldest makes room for a new one."""
-    with Web() as web, contextlib.ExitStack() as stack:
-        silent = silent_pages(web, stack, 17)
-        expect("the first", has_ended(silent[0].socket), True)
-        expect("the second", has_ended(silent[1].socket, 0.1), False)
-        screen_of(web.page(), "TELLER")
-
-
-@check
-def after_a_stop_what_waits_is_read_first() -> None:
-    """A request that came while the program was stopped is answered, though the client's time is over."""
-    with Web() as web, contextlib.ExitStack() as stack:
-        [client] = clients(web, stack, 1, pause=4.2)
-        web.process.send_signal(signal.SIGSTOP)
-        client.sendall(get(web.port))
-        time.sleep(3)
-        web.process.send_signal(signal.SIGCONT)
-        expect("the status", client.recv(4096).split()[1:2], [b"200"])
 
 
 @check

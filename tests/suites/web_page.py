@@ -421,7 +421,7 @@ def each_key_arrives_once() -> None:
         "log.push([...last().sent]); says('size 25 80', 'token 0f', 'heard 45'); log.push([...last().sent]);"
         "says('heard 47'); close(); again(); last().onopen(); says('heard 47'); log.push([...last().sent]);"
     )
-    connect = ["connect", "wss://bank.example/t/terminal?resume"]
+    connect = ["connect", "wss://bank.example/t/terminal"]
     wanted = [
         [], ["a", "b", "€", "d"], connect, ["resume 0f"], ["resume 0f", "d", "e"], connect, ["resume 0f"],
     ]
@@ -437,7 +437,7 @@ def silence_is_told_and_ends() -> None:
         "for (now of [6000, 7000, 15000, 15001]) { every(); log.push(state.textContent); }"
         "log.push(sockets.length, sockets[0].readyState);"
     )
-    connect = ["connect", "wss://bank.example/t/terminal?resume"]
+    connect = ["connect", "wss://bank.example/t/terminal"]
     texts = ["", "No answer for 7 s.", "No answer for 15 s.", connect, "Not connected: trying again."]
     expect("log", found, [*texts, 2, 1])
 

@@ -1,11 +1,9 @@
 //! The log of a server of pages.
 use jiff::Timestamp;
-use jobs::{Fault, Sink};
-use nonblocking_log::NonBlockingLog;
+use jobs::Sink;
 use std::alloc::{AllocError, Global};
 use std::fmt;
-use std::net::{Net, SocketAddr};
-use std::os::fd::RawFd;
+use std::net::SocketAddr;
 use std::time::Clock;
 use tn3270e_msg::Lu;
 
@@ -28,8 +26,6 @@ pub(crate) enum WebEvent {
     Resumed(u64, SocketAddr),
     /// A session has ended, for the reason that this word names.
     Ended(u64, &'static str),
-    /// This many lines of the log had no room, and were dropped.
-    LinesDropped(u64),
 }
 
 /// Writes what an event is of, what it is, and the detail, if it isn't empty.
@@ -64,7 +60,6 @@ impl fmt::Display for WebEvent {
             WebEvent::Ended(session, why) => {
                 write_event(f, "session", session, "ended reason=", why)
             }
-            WebEvent::LinesDropped(count) => write!(f, "event=log-lines-dropped lines={count}"),
         }
     }
 }
@@ -73,42 +68,21 @@ impl fmt::Display for WebEvent {
 pub(crate) trait EventLog {
     /// Takes down an event.
     fn note(&mut self, event: &WebEvent);
-
-    /// Writes what couldn't be written yet.
-    fn catch_up(&mut self);
 }
 
-/// The descriptor of the standard error stream, to which the log is written.
-const STDERR: RawFd = 2;
-
-/// Writes each event as a line that begins with the time. It never waits for the stream: a line is dropped if too many
-/// wait already, or if memory is refused for it.
+/// Writes each event as a line that begins with the time. A line that can't be written, or for which memory is refused,
+/// is left out.
 #[derive(Drop)]
 pub(crate) struct WebLog<'a, C, E> {
     /// The clock for the time of each line.
-    clock: &'a C,
+    pub(crate) clock: &'a C,
     /// The allocator for each line.
-    alloc: Global,
-    lines: NonBlockingLog<'a, E>,
-    /// How many dropped lines the log tells of.
-    told: u64,
+    pub(crate) alloc: Global,
+    /// Where the lines are written.
+    pub(crate) lines: &'a mut E,
 }
 
-impl<'a, C: Clock + Net, E: Sink> WebLog<'a, C, E> {
-    /// A log on standard error, which `faults` writes to.
-    pub(crate) fn new(
-        clock: &'a C,
-        alloc: Global,
-        faults: &'a mut E,
-    ) -> Result<WebLog<'a, C, E>, Fault> {
-        Ok(WebLog {
-            clock,
-            alloc,
-            lines: NonBlockingLog::new(clock, alloc, STDERR, faults)?,
-            told: 0,
-        })
-    }
-
+impl<C: Clock, E: Sink> WebLog<'_, C, E> {
     /// The line of an event: first the time in UTC, in whole seconds (RFC 3339); `unknown` if the clock fails.
     fn line(&self, event: &WebEvent) -> Result<String, AllocError> {
         match Timestamp::now(self.clock) {
@@ -118,21 +92,13 @@ impl<'a, C: Clock + Net, E: Sink> WebLog<'a, C, E> {
     }
 }
 
-impl<C: Clock + Net, E: Sink> EventLog for WebLog<'_, C, E> {
+impl<C: Clock, E: Sink> EventLog for WebLog<'_, C, E> {
     fn note(&mut self, event: &WebEvent) {
         match self.line(event) {
-            Ok(line) => self.lines.put(line.as_bytes()),
+            Ok(line) => {
+                let _ = self.lines.write_all(line.as_bytes());
+            }
             Err(_) => {}
-        }
-    }
-
-    fn catch_up(&mut self) {
-        self.lines.flush();
-        let dropped = self.lines.dropped();
-        let new = dropped.saturating_sub(self.told);
-        if new != 0 && self.lines.is_empty() {
-            self.note(&WebEvent::LinesDropped(new));
-            self.told = dropped;
         }
     }
 }

@@ -1,11 +1,13 @@
-//! The server of pages, and its loop: it moves bytes between sockets, terminals, and the machine of `web_core`, which
-//! decides who has which session.
-ghost use Rattle.std.specs.Prelude.{◌≡◌, IfErr, IfOk};
+//! The server of pages, and its loop.
+ghost use Rattle.std.specs.Prelude.{◌≡◌, ◌<◌, None, IfErr, IfOk};
 
-use crate::client::{Client, Progress, Visit};
+use crate::departing::{Departing, Progress};
+use crate::limits::time_after;
 use crate::log::{EventLog, WebEvent, WebLog};
-use crate::page_turn::PageTurn;
-use crate::session::{Session, SessionEnd, SessionTurn, closing_word};
+use crate::network::network_of;
+use crate::page_link::PageLink;
+use crate::seat::{Seat, SeatTurn, SessionEnd, closing_word, has_most};
+use crate::visitor::{Visit, Visitor, leaving_place};
 use codes3270::Model as TerminalModel;
 use jobs::{Fault, LiveFault, RawRandom, Sink, WebOptions, poll_timeout, report_and_exit_code};
 use mio::event::Source;
@@ -14,25 +16,31 @@ use mio::{Events, Interest, Poll, Token};
 use std::alloc::Global;
 use std::fmt;
 use std::io::{self, ErrorKind};
+use std::marker::Model;
 use std::net::{Net, SocketAddr};
 use std::random::RandomSource;
 use std::time::{Clock, Instant};
 use tn3270e_msg::Lu;
 use tty::Keymap;
-use web_core::{Lack, Limits, Service, Stage, Verdict, network_of, time_after};
 use web_wire::{
-    Closing, HttpStatus, Notice, Origin, OriginFault, PAGE, PageParts, SCRIPT_HASH, STYLE_HASH,
-    Site, Token as PageToken,
+    HttpStatus, Notice, Origin, OriginFault, PAGE, PageParts, SCRIPT_HASH, STYLE_HASH, Site,
+    Token as PageToken,
 };
+
+/// The most clients without a session. Any further one is dropped.
+const MOST_VISITORS: usize = 16;
+
+/// The most sessions.
+const MOST_SESSIONS: usize = 64;
+
+/// The most clients that depart: visitors, and pages of sessions that ended.
+const MOST_DEPARTING: usize = MOST_VISITORS + MOST_SESSIONS;
 
 /// The most clients that one turn accepts.
 const MOST_ACCEPTED: usize = 64;
 
-/// More clients than the machine has.
-const MOST_CLIENTS: usize = 256;
-
-/// The most sessions.
-const MOST_SESSIONS: usize = 64;
+/// How long a client may take to open a session, and how long one that departs may take, in milliseconds.
+const VISIT_TIME: u64 = 5_000;
 
 /// The most events of one poll. Sockets without an event are also served.
 const MOST_EVENTS: usize = 128;
@@ -50,39 +58,68 @@ const PAGE_PARTS: PageParts<'static> = PageParts {
     style_hash: STYLE_HASH,
 };
 
-/// The word for a status that refuses a request, in the log.
-fn status_word(status: HttpStatus) -> Option<&'static str> {
+/// Whether the time of a client is over.
+fn is_late(began: u64, now: u64) -> bool {
+    VISIT_TIME <= now.saturating_sub(began)
+}
+
+/// The word for a status in the log.
+fn status_word(status: HttpStatus) -> &'static str {
     match status {
-        HttpStatus::Found => None,
-        HttpStatus::BadRequest => Some("bad-request"),
-        HttpStatus::Forbidden => Some("wrong-host-or-origin"),
-        HttpStatus::NotFound => Some("not-found"),
-        HttpStatus::MethodNotAllowed => Some("wrong-method"),
-        HttpStatus::UpgradeRequired => Some("wrong-version"),
-        HttpStatus::HeadTooLarge => Some("head-too-large"),
+        HttpStatus::Found => "found",
+        HttpStatus::BadRequest => "bad-request",
+        HttpStatus::Forbidden => "wrong-host-or-origin",
+        HttpStatus::NotFound => "not-found",
+        HttpStatus::MethodNotAllowed => "wrong-method",
+        HttpStatus::UpgradeRequired => "wrong-version",
+        HttpStatus::HeadTooLarge => "head-too-large",
     }
 }
 
-/// The word for why there is no session for a client, in the log.
-fn lack_word(lack: Lack) -> &'static str {
-    match lack {
-        Lack::AllInUse => "all-in-use",
-        Lack::NetworkFull => "address-full",
-        Lack::TokenInUse | Lack::NoVisitor => "no-token",
+/// The word for why a client is refused; None if it isn't, or if it has never sent anything: browsers connect ahead of
+/// requests that may not come.
+fn refusal_word(visit: &Visit, has_sent: bool) -> Option<&'static str> {
+    match visit {
+        Visit::Late if has_sent => Some("late"),
+        Visit::Answered(HttpStatus::Found) => None,
+        Visit::Answered(status) => Some(status_word(*status)),
+        Visit::Closed(closing) => Some(closing_word(*closing)),
+        Visit::Late | Visit::Going { .. } | Visit::Opened(..) | Visit::Resumed(_) | Visit::Gone =>
+            None,
     }
 }
 
-/// The notice for a page for which there is no session.
-fn lack_notice(lack: Lack) -> Notice<'static> {
-    match lack {
-        Lack::AllInUse | Lack::TokenInUse | Lack::NoVisitor => Notice::Busy,
-        Lack::NetworkFull => {
-            Notice::Ended("your address has as many sessions as one address may have")
+/// Why there is no room for a session.
+#[derive(Clone, Copy)]
+enum Lack {
+    /// All sessions are in use.
+    AllInUse,
+    /// The client's network has as many sessions as it may have.
+    NetworkFull,
+}
+
+impl Lack {
+    /// The word for the log.
+    fn word(self) -> &'static str {
+        match self {
+            Lack::AllInUse => "all-in-use",
+            Lack::NetworkFull => "address-full",
+        }
+    }
+
+    /// What the page is told.
+    fn notice(self) -> Notice<'static> {
+        match self {
+            Lack::AllInUse => Notice::Busy,
+            Lack::NetworkFull => {
+                Notice::Ended("your address has as many sessions as one address may have")
+            }
         }
     }
 }
 
-/// The server: its listener and poll, the machine, the sockets of its clients, and the terminals of its sessions.
+/// The server: its listener and poll, the clients without a session, the sessions, and the clients that depart.
+/// Contracts see how many these are; there are never more than 16, `most_sessions`, and 80.
 #[derive(Drop)]
 struct WebServer {
     alloc: Global,
@@ -91,11 +128,32 @@ struct WebServer {
     events: Events,
     site: Site,
     host: SocketAddr,
+    most_sessions: usize,
+    /// The most sessions of one network; 0 is no limit.
+    most_of_one: usize,
     /// What keys do that don't do what is usual.
     keymap: String,
-    service: Service,
-    clients: Vec<Client<TcpStream>>,
-    sessions: Vec<Session>,
+    /// How long a session is kept without a page, in milliseconds.
+    keep: u64,
+    visitors: Vec<Visitor<TcpStream>>,
+    seats: Vec<Seat>,
+    departing: Vec<Departing>,
+    /// The number of the last session.
+    last_number: u64,
+    /// The server's time, in milliseconds.
+    now: u64,
+}
+
+impl Model for WebServer {
+    ghost use Rattle.web.specs.Crowds.{Crowd, IsBounded, crowd_of};
+
+    ghost Value = { Crowd };
+
+    ghost view = { λ server. crowd_of server.visitors.items server.seats.items server.departing.items
+        server.most_sessions };
+
+    ghost invariant = { λ server. IsBounded (crowd_of server.visitors.items server.seats.items server.departing.items
+        server.most_sessions) };
 }
 
 /// Adds a socket to a poll. If that fails, it waits at most 10 milliseconds.
@@ -131,19 +189,6 @@ fn draw_token<R: RawRandom>(source: &R) -> Result<PageToken, Fault>
     }
 }
 
-/// The client with this number.
-fn client_numbered(
-    clients: &mut [Client<TcpStream>],
-    number: u64,
-) -> Option<&mut Client<TcpStream>> {
-    clients.iter_mut().find(|client| client.number == number)
-}
-
-/// The session with this number.
-fn session_numbered(sessions: &mut [Session], number: u64) -> Option<&mut Session> {
-    sessions.iter_mut().find(|session| session.number == number)
-}
-
 impl WebServer {
     /// A server that listens at an address. CannotListen if the system refuses that; NoMemory if memory is refused.
     fn new(
@@ -154,15 +199,11 @@ impl WebServer {
         keymap: &Keymap,
     ) -> Result<WebServer, Fault> {
         let address = SocketAddr::new(options.listen, options.port.get());
-        let clients = Vec::with_capacity(alloc, MOST_CLIENTS)?;
-        let sessions = Vec::with_capacity(alloc, MOST_SESSIONS)?;
+        let visitors = Vec::with_capacity(alloc, MOST_VISITORS)?;
+        let seats = Vec::with_capacity(alloc, MOST_SESSIONS)?;
+        let departing = Vec::with_capacity(alloc, MOST_DEPARTING)?;
         let events = Events::with_capacity(alloc, MOST_EVENTS)?;
         let keymap = keymap.words(alloc)?;
-        let limits = Limits {
-            sessions: usize::from(options.sessions.get()),
-            per_network: usize::from(options.per_address.get()),
-            keep: u64::from(options.keep.get()).saturating_mul(1000),
-        };
         let (listener, poll) = match listen(net, address) {
             Ok(parts) => parts,
             Err(error) => return Err(Fault::CannotListen(address, error.kind())),
@@ -174,17 +215,23 @@ impl WebServer {
             events,
             site,
             host: SocketAddr::new(options.host.host, options.host.port.get()),
+            most_sessions: usize::from(options.sessions.get()),
+            most_of_one: usize::from(options.per_address.get()),
             keymap,
-            service: Service::new(limits),
-            clients,
-            sessions,
+            keep: u64::from(options.keep.get()).saturating_mul(1000),
+            visitors,
+            seats,
+            departing,
+            last_number: 0,
+            now: 0,
         })
     }
 
     /// Takes the time after a turn, by the clock before and after it, in milliseconds.
-    fn keep_time(&mut self, before: u64, after: u64) {
-        self.service
-            .tick(time_after(self.service.time(), before, after));
+    fn keep_time(&mut self, before: u64, after: u64)
+        ensures { self.new ≡ self.old }
+    {
+        self.now = time_after(self.now, before, after);
     }
 
     /// Waits until a socket is ready, or not at all if the turn before did something (`busy`).
@@ -209,223 +256,197 @@ impl WebServer {
         }
     }
 
-    /// Takes a client, if the machine has a place for it.
+    /// Takes a client, unless there are 16 without a session of which none makes room, or memory is refused.
     fn admit<L: EventLog>(&mut self, mut socket: TcpStream, peer: SocketAddr, log: &mut L) {
-        let admission = self.service.accepted(network_of(peer.ip().to_canonical()));
-        self.turn_away(admission.dropped, log);
-        let Some(number) = admission.client else {
+        let network = network_of(peer.ip().to_canonical());
+        self.make_room(network, log);
+        if self.visitors.len() >= MOST_VISITORS {
             return log.note(&WebEvent::TurnedAway(peer));
-        };
+        }
         // If one of these calls fails, the socket is still served.
         let _ = socket.set_nodelay(true);
         register(&self.poll, &mut socket);
-        let client = Client::new(self.alloc, number, socket, peer);
-        if self.clients.push(client).is_err() {
-            self.service.ended(number);
+        let visitor = Visitor::new(self.alloc, socket, peer, network, self.now);
+        let _ = self.visitors.push(visitor);
+    }
+
+    /// If there are 16 clients without a session, drops the one that makes room for a new one of a network, if one does.
+    fn make_room<L: EventLog>(&mut self, network: u128, log: &mut L) {
+        if self.visitors.len() < MOST_VISITORS {
+            return;
+        }
+        if let Some(place) = leaving_place(self.visitors.as_slice(), network, self.now) {
+            let visitor = self.visitors.remove(place);
+            log.note(&WebEvent::TurnedAway(visitor.peer));
         }
     }
 
-    /// Drops a client that has made room.
-    fn turn_away<L: EventLog>(&mut self, dropped: Option<u64>, log: &mut L) {
-        let Some(number) = dropped else {
-            return;
-        };
-        if let Some(client) = client_numbered(&mut self.clients, number) {
-            log.note(&WebEvent::TurnedAway(client.peer));
+    /// Lets a client go once it was sent this response, and what waits for its page.
+    fn depart(&mut self, link: PageLink<TcpStream>, response: Vec<u8>) {
+        if self.departing.len() < MOST_DEPARTING {
+            let client = Departing::new(link, response, self.now);
+            let _ = self.departing.push(client);
         }
-        self.drop_gone(number);
     }
 
-    /// Drops the socket of a client that the machine has dropped.
-    fn drop_gone(&mut self, number: u64) {
-        if self.service.stage_of(number).is_some() {
-            return;
-        }
-        let place = self
-            .clients
-            .iter()
-            .position(|client| client.number == number);
-        if let Some(place) = place {
-            self.clients.swap_remove(place);
-        }
+    /// Tells a page why it has no session, closes its WebSocket, and lets it go.
+    fn dismiss(&mut self, mut link: PageLink<TcpStream>, notice: &Notice<'_>) {
+        let _ = link.tell(self.alloc, notice);
+        link.close();
+        let none = Vec::new(self.alloc);
+        self.depart(link, none);
     }
 
     // ---- clients without a session
 
     /// Takes one turn for each client without a session. Answers whether something moved.
-    fn serve_clients<R: Net + RandomSource, L: EventLog>(&mut self, rt: &R, log: &mut L) -> bool {
+    fn serve_visitors<R: Net + RandomSource, L: EventLog>(&mut self, rt: &R, log: &mut L) -> bool {
         let mut moved = false;
-        for index in (0..MOST_CLIENTS).rev() {
-            if index < self.clients.len() {
-                let number = self.clients[index].number;
-                moved |= self.serve_client(rt, number, log);
-                self.drop_gone(number);
+        for index in (0..MOST_VISITORS).rev() {
+            if index < self.visitors.len() {
+                moved |= self.serve_visitor(rt, index, log);
             }
         }
         moved
     }
 
-    /// Takes one turn for a client, if it has no session.
-    fn serve_client<R: Net + RandomSource, L: EventLog>(
-        &mut self,
-        rt: &R,
-        number: u64,
-        log: &mut L,
-    ) -> bool {
-        match self.service.stage_of(number) {
-            Some(Stage::Requests | Stage::Opens | Stage::Resumes) => {
-                self.serve_visitor(rt, number, log)
-            }
-            Some(Stage::Leaves) => self.serve_leaving(number),
-            Some(Stage::Attached) => false,
-            None => true,
-        }
-    }
-
-    /// Takes one turn for a visitor.
+    /// Takes one turn for a client without a session.
     fn serve_visitor<R: Net + RandomSource, L: EventLog>(
         &mut self,
         rt: &R,
-        number: u64,
+        index: usize,
         log: &mut L,
-    ) -> bool {
-        let Some(client) = client_numbered(&mut self.clients, number) else {
-            return false;
-        };
-        let peer = client.peer;
-        let visit = client.visit(self.alloc, &self.site, PAGE_PARTS);
-        let has_sent = client.has_sent;
+    ) -> bool
+        requires { index < self.old.visitors }
+    {
+        match self.visit(index) {
+            Visit::Going { moved } => moved,
+            visit => {
+                let visitor = self.visitors.remove(index);
+                self.end_visit(rt, visitor, visit, log);
+                true
+            }
+        }
+    }
+
+    /// What a turn of a client without a session is.
+    fn visit(&mut self, index: usize) -> Visit
+        requires { index < self.old.visitors }
+        ensures { self.new ≡ self.old }
+    {
+        if is_late(self.visitors[index].began, self.now) {
+            Visit::Late
+        } else {
+            self.visitors[index].turn(self.alloc, &self.site, PAGE_PARTS)
+        }
+    }
+
+    /// Takes from a client that is no visitor any more what its last turn was.
+    fn end_visit<R: Net + RandomSource, L: EventLog>(
+        &mut self,
+        rt: &R,
+        visitor: Visitor<TcpStream>,
+        visit: Visit,
+        log: &mut L,
+    ) {
+        let (peer, network) = (visitor.peer, visitor.network);
+        if let Some(word) = refusal_word(&visit, visitor.has_sent) {
+            log.note(&WebEvent::Refused(peer, word));
+        }
+        let (mut link, response) = visitor.into_parts();
+        if matches!(visit, Visit::Opened(..) | Visit::Resumed(_)) {
+            // Without memory its keys do what is usual.
+            let _ = link.tell(self.alloc, &Notice::Keymap(&self.keymap));
+        }
         match visit {
-            Visit::Going {
-                heard,
-                moved,
-                is_read,
-            } => {
-                if heard {
-                    self.service.heard_from(number);
-                }
-                let verdict = self.service.judged(number, is_read);
-                if verdict.is_some() && has_sent {
-                    log.note(&WebEvent::Refused(peer, "late"));
-                }
-                return moved;
-            }
-            Visit::Upgraded(resumes) => {
-                let admission = self.service.upgraded(number, resumes);
-                self.turn_away(admission.dropped, log);
-                if admission.client.is_none() {
-                    log.note(&WebEvent::TurnedAway(peer));
-                }
-            }
-            Visit::Answered(status) => {
-                if let Some(word) = status_word(status) {
-                    log.note(&WebEvent::Refused(peer, word));
-                }
-                self.service.closed(number, false);
-            }
-            Visit::Closed(closing) => {
-                log.note(&WebEvent::Refused(peer, closing_word(closing)));
-                self.service.closed(number, false);
-            }
-            Visit::Opened(model, lu) => self.open(rt, number, peer, model, lu, log),
-            Visit::Resumed(token) => self.resume(number, peer, token, log),
-            Visit::Gone => self.service.ended(number),
-        }
-        true
-    }
-
-    /// Takes one turn for a client that leaves.
-    fn serve_leaving(&mut self, number: u64) -> bool {
-        let Some(client) = client_numbered(&mut self.clients, number) else {
-            return false;
-        };
-        match client.leave() {
-            Progress::Over => {
-                self.service.ended(number);
-                false
-            }
-            progress => {
-                self.service.judged(number, true);
-                matches!(progress, Progress::Moved)
-            }
+            Visit::Going { .. } | Visit::Late | Visit::Gone => {}
+            Visit::Answered(_) | Visit::Closed(_) => self.depart(link, response),
+            Visit::Opened(model, lu) => self.open(rt, link, peer, network, model, lu, log),
+            Visit::Resumed(token) => self.resume(link, peer, network, PageToken::new(token), log),
         }
     }
 
-    /// Tells a page something, and closes its WebSocket.
-    fn dismiss(&mut self, number: u64, notice: &Notice<'_>) {
-        if let Some(client) = client_numbered(&mut self.clients, number) {
-            client.dismiss(self.alloc, notice);
-        }
-    }
-
-    /// Tells a page why its session has ended, and closes its WebSocket.
-    fn dismiss_for(&mut self, number: u64, end: &SessionEnd) {
-        match format!(in self.alloc; "{end}") {
-            Ok(text) => self.dismiss(number, &end.notice(text.as_str())),
-            Err(_) => self.dismiss(number, &Notice::Ended("no memory")),
-        }
-    }
-
-    /// Begins a session for a client, if the machine has one.
+    /// Begins a session, unless there are too many.
     fn open<R: Net + RandomSource, L: EventLog>(
         &mut self,
         rt: &R,
-        number: u64,
+        link: PageLink<TcpStream>,
         peer: SocketAddr,
+        network: u128,
         model: TerminalModel,
         lu: Option<Lu>,
         log: &mut L,
     ) {
-        let token = match draw_token(rt) {
-            Ok(token) => token,
+        if let Some(lack) = self.find_lack(network, log) {
+            log.note(&WebEvent::Refused(peer, lack.word()));
+            return self.dismiss(link, &lack.notice());
+        }
+        let mut seat = match self.new_seat(rt, model, lu, network) {
+            Ok(seat) => seat,
             Err(fault) => {
-                self.service.closed(number, false);
-                return self.refuse(number, peer, &SessionEnd::Failed(fault), log);
+                let end = SessionEnd::Failed(fault);
+                log.note(&WebEvent::Refused(peer, end.word()));
+                return self.dismiss_for(link, &end);
             }
         };
-        let opened = self.service.opened(number, token.as_bytes());
-        if let Some(ended) = opened.ended {
-            self.drop_session(ended);
-            log.note(&WebEvent::Ended(ended, "made-room"));
+        if seat.attach(self.alloc, link, network, self.now).is_err() {
+            return log.note(&WebEvent::Refused(peer, "no-memory"));
         }
-        let session = match opened.session {
-            Ok(session) => session,
-            Err(lack) => {
-                log.note(&WebEvent::Refused(peer, lack_word(lack)));
-                return self.dismiss(number, &lack_notice(lack));
-            }
-        };
-        if let Err(fault) = self.begin(rt, session, token, model, lu) {
-            self.service.session_ended(session);
-            return self.refuse(number, peer, &SessionEnd::Failed(fault), log);
-        }
-        log.note(&WebEvent::Opened(session, peer));
-        if let Err(fault) = self.greet(session, number) {
-            self.end(session, &SessionEnd::Failed(fault), log);
+        log.note(&WebEvent::Opened(seat.number, peer));
+        self.add(seat);
+    }
+
+    /// Why there is no room for a session of this network; None if there is some.
+    fn lack(&self, network: u128) -> Option<Lack>
+        ensures { result ≡ None → self.exit.now.sessions < self.exit.now.most_sessions }
+    {
+        if self.seats.len() >= self.most_sessions {
+            Some(Lack::AllInUse)
+        } else if has_most(self.seats.as_slice(), network, self.most_of_one) {
+            Some(Lack::NetworkFull)
+        } else {
+            None
         }
     }
 
-    /// Tells a page why it has no session.
-    fn refuse<L: EventLog>(
-        &mut self,
-        number: u64,
-        peer: SocketAddr,
-        end: &SessionEnd,
-        log: &mut L,
-    ) {
-        log.note(&WebEvent::Refused(peer, end.word()));
-        self.dismiss_for(number, end);
+    /// Why there is no room for a session of this network, also if a session ends that one of its pages has left; None
+    /// if there is some.
+    fn find_lack<L: EventLog>(&mut self, network: u128, log: &mut L) -> Option<Lack>
+        ensures { result ≡ None → self.new.sessions < self.new.most_sessions }
+    {
+        if self.lack(network).is_some() {
+            self.make_seat(network, log);
+        }
+        self.lack(network)
     }
 
-    /// Makes the terminal of a session, for which a connection to the host is begun.
-    fn begin<R: Net + RandomSource>(
+    /// Ends the oldest session that a page of this network has left, if there is one.
+    fn make_seat<L: EventLog>(&mut self, network: u128, log: &mut L) {
+        let left = self.seats.iter().position(|seat| seat.was_left_by(network));
+        if let Some(place) = left {
+            let seat = self.seats.remove(place);
+            log.note(&WebEvent::Ended(seat.number, "made-room"));
+        }
+    }
+
+    /// Adds a session.
+    fn add(&mut self, seat: Seat)
+        requires { self.old.sessions < self.old.most_sessions }
+    {
+        let _ = self.seats.push(seat);
+    }
+
+    /// A session, for which a connection to the host is begun.
+    fn new_seat<R: Net + RandomSource>(
         &mut self,
         rt: &R,
-        number: u64,
-        token: PageToken,
         model: TerminalModel,
         lu: Option<Lu>,
-    ) -> Result<(), Fault> {
+        network: u128,
+    ) -> Result<Seat, Fault>
+        ensures { self.new ≡ self.old }
+    {
+        let token = draw_token(rt)?;
         let mut socket = match TcpStream::connect(rt, self.host) {
             Ok(socket) => socket,
             Err(error) => {
@@ -435,165 +456,144 @@ impl WebServer {
         };
         let _ = socket.set_nodelay(true);
         register(&self.poll, &mut socket);
-        let now = self.service.time();
-        let session = Session::new(self.alloc, number, token, model, lu, socket, now)?;
-        match self.sessions.push(session) {
-            Ok(()) => Ok(()),
-            Err(_) => Err(Fault::NoMemory),
-        }
+        self.last_number = self.last_number.saturating_add(1);
+        Seat::new(
+            self.alloc,
+            self.last_number,
+            token,
+            model,
+            lu,
+            socket,
+            network,
+            self.now,
+        )
     }
 
-    /// Greets the page of a session, and tells it what keys do.
-    fn greet(&mut self, session: u64, number: u64) -> Result<(), Fault> {
-        let now = self.service.time();
-        let Some(client) = client_numbered(&mut self.clients, number) else {
-            return Ok(());
-        };
-        // Without memory its keys do what is usual.
-        let _ = client.link.tell(self.alloc, &Notice::Keymap(&self.keymap));
-        match session_numbered(&mut self.sessions, session) {
-            Some(session) => session.greet(self.alloc, client, now),
-            None => Ok(()),
-        }
-    }
-
-    /// A client is the page of the session that has this token. A page that the session has already is dismissed.
+    /// Attaches a page to the session that has this token. A page that it has already is dismissed.
     fn resume<L: EventLog>(
         &mut self,
-        number: u64,
+        link: PageLink<TcpStream>,
         peer: SocketAddr,
+        network: u128,
         token: PageToken,
         log: &mut L,
     ) {
-        let Some(resumed) = self.service.resumed_by(number, token.as_bytes()) else {
+        let (alloc, now) = (self.alloc, self.now);
+        let Some(seat) = self.seats.iter_mut().find(|seat| seat.token == token) else {
             log.note(&WebEvent::Refused(peer, "unknown-token"));
-            return self.dismiss(number, &Notice::Ended("it isn't kept any more"));
+            return self.dismiss(link, &Notice::Ended("it isn't kept any more"));
         };
-        log.note(&WebEvent::Resumed(resumed.session, peer));
-        if let Some(replaced) = resumed.replaced {
-            self.dismiss(replaced, &Notice::Ended("another page has resumed it"));
-        }
-        if let Err(fault) = self.greet(resumed.session, number) {
-            self.end(resumed.session, &SessionEnd::Failed(fault), log);
+        let number = seat.number;
+        match seat.attach(alloc, link, network, now) {
+            Ok(replaced) => {
+                log.note(&WebEvent::Resumed(number, peer));
+                if let Some(replaced) = replaced {
+                    self.dismiss(replaced, &Notice::Ended("another page has resumed it"));
+                }
+            }
+            Err(_) => log.note(&WebEvent::Refused(peer, "no-memory")),
         }
     }
 
     // ---- sessions
 
-    /// Takes one turn for each session, and ends those that are kept no longer. Answers whether something moved.
-    fn serve_sessions<L: EventLog>(&mut self, log: &mut L) -> bool {
+    /// Takes one turn for each session. Answers whether something moved.
+    fn serve_seats<L: EventLog>(&mut self, log: &mut L) -> bool {
         let mut moved = false;
         for index in (0..MOST_SESSIONS).rev() {
-            if index < self.sessions.len() {
-                let session = self.sessions[index].number;
-                moved |= self.serve_session(session, log);
+            if index < self.seats.len() {
+                moved |= self.serve_seat(index, log);
             }
-        }
-        for _ in 0..MOST_SESSIONS {
-            let Some(session) = self.service.expired() else {
-                break;
-            };
-            self.drop_session(session);
-            log.note(&WebEvent::Ended(session, "not-resumed"));
         }
         moved
     }
 
     /// Takes one turn for a session.
-    fn serve_session<L: EventLog>(&mut self, number: u64, log: &mut L) -> bool {
-        let now = self.service.time();
-        let page = self.service.page_of(number).unwrap_or(0);
-        let Some(session) = session_numbered(&mut self.sessions, number) else {
-            return false;
-        };
-        let turn = match client_numbered(&mut self.clients, page) {
-            Some(client) => session.turn(self.alloc, self.host, &mut client.link, now),
-            None => session.turn_alone(self.alloc, self.host, now),
-        };
-        match turn {
-            Ok(turn) => self.follow(number, page, turn, log),
+    fn serve_seat<L: EventLog>(&mut self, index: usize, log: &mut L) -> bool
+        requires { index < self.old.sessions }
+    {
+        let number = self.seats[index].number;
+        match self.seats[index].turn(self.alloc, self.host, self.now, self.keep) {
+            Ok(turn) => self.follow(number, turn, log),
             Err(end) => {
-                self.end(number, &end, log);
+                let seat = self.seats.remove(index);
+                log.note(&WebEvent::Ended(number, end.word()));
+                if let Some(page) = seat.into_page() {
+                    self.dismiss_for(page, &end);
+                }
                 true
             }
         }
     }
 
-    /// Logs what happened in a session's turn, and tells the machine what its page did.
-    fn follow<L: EventLog>(
-        &mut self,
-        number: u64,
-        page: u64,
-        turn: SessionTurn,
-        log: &mut L,
-    ) -> bool {
-        if let Some(port) = turn.connected {
+    /// Logs what happened in a session's turn, and lets the page go that the session has lost.
+    fn follow<L: EventLog>(&mut self, number: u64, turn: SeatTurn, log: &mut L) -> bool {
+        let SeatTurn {
+            moved,
+            connected,
+            bound,
+            left,
+        } = turn;
+        if let Some(port) = connected {
             log.note(&WebEvent::Connected(number, port));
         }
-        if let Some(lu) = turn.bound {
+        if let Some(lu) = bound {
             log.note(&WebEvent::Bound(number, lu));
         }
-        let lost = match turn.page {
-            None => None,
-            Some(PageTurn::Going { heard, .. }) => self.keep_page(number, page, heard),
-            Some(PageTurn::Lost) => {
-                self.service.ended(page);
-                self.drop_gone(page);
-                Some("lost")
+        match left {
+            Some((page, reason)) => {
+                log.note(&WebEvent::PageLost(number, reason));
+                let none = Vec::new(self.alloc);
+                self.depart(page, none);
             }
-            Some(PageTurn::Closed(closing)) => {
-                self.service
-                    .closed(page, matches!(closing, Closing::ByPage));
-                Some(closing_word(closing))
-            }
-        };
-        if let Some(word) = lost {
-            log.note(&WebEvent::PageLost(number, word));
+            None => {}
         }
-        turn.moved || lost.is_some()
+        moved
     }
 
-    /// Takes note of a page that has sent something, pings one, and finds one silent; the word for that.
-    fn keep_page(&mut self, number: u64, page: u64, heard: bool) -> Option<&'static str> {
-        let now = self.service.time();
-        if heard {
-            self.service.heard_from(page);
-        }
-        let client = client_numbered(&mut self.clients, page)?;
-        let session = session_numbered(&mut self.sessions, number)?;
-        // While something waits to be sent, the socket isn't read.
-        let is_read = !heard && !client.link.has_output();
-        session.ping(self.alloc, client, now);
-        match self.service.judged(page, is_read) {
-            Some(Verdict::Silent) => Some("silent"),
-            _ => None,
-        }
-    }
-
-    /// Ends a session, and tells its page why.
-    fn end<L: EventLog>(&mut self, number: u64, end: &SessionEnd, log: &mut L) {
-        self.drop_session(number);
-        log.note(&WebEvent::Ended(number, end.word()));
-        if let Some(page) = self.service.session_ended(number) {
-            self.dismiss_for(page, end);
-        }
-    }
-
-    /// Drops the terminal of a session that has ended.
-    fn drop_session(&mut self, number: u64) {
-        let place = self
-            .sessions
-            .iter()
-            .position(|session| session.number == number);
-        if let Some(place) = place {
-            self.sessions.swap_remove(place);
+    /// Tells a page why its session has ended, and lets it go.
+    fn dismiss_for(&mut self, link: PageLink<TcpStream>, end: &SessionEnd) {
+        match format!(in self.alloc; "{end}") {
+            Ok(text) => self.dismiss(link, &end.notice(text.as_str())),
+            Err(_) => self.dismiss(link, &Notice::Ended("no memory")),
         }
     }
 
     // ---- a turn
 
-    /// One turn: accepts clients, and takes one turn for each of them and for each session. Answers whether something
-    /// moved.
+    /// Takes one turn for each client that departs, and drops those that are gone or late.
+    fn serve_departing(&mut self) -> bool {
+        let mut moved = false;
+        for index in (0..MOST_DEPARTING).rev() {
+            if index < self.departing.len() {
+                moved |= self.serve_departing_at(index);
+            }
+        }
+        moved
+    }
+
+    /// Takes one turn for a client that departs.
+    fn serve_departing_at(&mut self, index: usize) -> bool
+        requires { index < self.old.departing }
+    {
+        let client = &mut self.departing[index];
+        let progress = if is_late(client.began, self.now) {
+            Progress::Over
+        } else {
+            client.turn()
+        };
+        match progress {
+            Progress::Moved => true,
+            Progress::Still => false,
+            Progress::Over => {
+                self.departing.swap_remove(index);
+                false
+            }
+        }
+    }
+
+    /// One turn at this time: accepts clients, and takes one turn for each of them and for each session. Answers
+    /// whether something moved.
     fn turn<R: Net + RandomSource, L: EventLog>(
         &mut self,
         rt: &R,
@@ -602,9 +602,10 @@ impl WebServer {
     ) -> Result<bool, Fault> {
         self.wait(busy)?;
         self.accept_all(log);
-        let visited = self.serve_clients(rt, log);
-        let served = self.serve_sessions(log);
-        Ok(visited | served)
+        let visited = self.serve_visitors(rt, log);
+        let served = self.serve_seats(log);
+        let departed = self.serve_departing();
+        Ok(visited | served | departed)
     }
 }
 
@@ -674,7 +675,6 @@ fn take_turns<R: Net + Clock + RandomSource, L: EventLog>(
     let mut before = 0;
     for _ in 0..u64::MAX {
         busy = server.turn(rt, busy, log)?;
-        log.catch_up();
         if let (Some(start), Ok(now)) = (start, Instant::now(rt)) {
             let after = millis_between(start, now);
             server.keep_time(before, after);
@@ -696,7 +696,11 @@ fn serve<R: Net + Clock + RandomSource, E: Sink>(
     let mut server = WebServer::new(rt, alloc, site, options, keymap)?;
     let address = SocketAddr::new(options.listen, options.port.get());
     let _ = faults.write_line(Serving(address));
-    let mut log = WebLog::new(rt, alloc, faults)?;
+    let mut log = WebLog {
+        clock: rt,
+        alloc,
+        lines: faults,
+    };
     take_turns(rt, &mut server, &mut log)
 }
 
@@ -705,13 +709,12 @@ fn serve<R: Net + Clock + RandomSource, E: Sink>(
 /// which client is refused and why; and of each session when it begins, is connected, is bound to an LU, loses its
 /// page, is resumed, and ends. Nothing that is typed or shown is logged. The keys of a page do what the keymap says.
 ///
-/// Who has a place and a session is decided by `web_core`. At most 16 clients send a request, 16 a first message, and 16
-/// the token of a session at the target for pages that resume, for 5 seconds each, once what waits has been read. For a
-/// further one the oldest makes room that has sent nothing; or else the oldest of another address that has more than 8
-/// of these places; or else the oldest of all, once it has been there for a second. A page at an address that has as
-/// many sessions as one may have is refused. A page that takes too little isn't drawn until it has taken what waits. One
-/// that is silent for a minute is dropped; it gets a ping every 5 seconds. A session that has lost its page is kept for
-/// the time of the options, and for 5 seconds at most if the page closed its WebSocket.
+/// At most 16 clients have no session, for at most 5 seconds each. For a further one the oldest makes room that has sent
+/// nothing; or else the oldest of another address that has more than 8 of these places; or else the oldest of all, once
+/// it has been there for a second. A page at an address that has as many sessions as one may have is refused. A page that takes too little isn't
+/// drawn until it has taken what waits. One that is silent for a minute is dropped; it gets a ping every 5 seconds. A
+/// session that has lost its page is kept for the time of the options, and for 5 seconds at most if the page closed
+/// its WebSocket.
 ///
 /// Returns the exit status: 2 if the origin isn't one; 3 if memory is refused; 4 if the system can't listen, or wait
 /// for sockets; 5 after 2^64 - 1 turns.

@@ -17,7 +17,7 @@ use Rattle.websocket.specs.Handshake.{Answers, requested_key}
 use Rattle.web_wire.specs.declared.head.Answer.{Answer}
 use Rattle.web_wire.specs.declared.head.Answer.TheVariants.{Handshake, Status}
 use Rattle.web_wire.specs.Origins.{is_allowed_host, is_allowed_origin}
-use Rattle.web_wire.specs.Heads.{IsAnswerToHead, IsCalledFor, IsDecided, IsHandshakeAnswer, StartsNamed, after_scheme, failed_status, host_meant, host_refusal, is_nothing, is_resumption, is_terminal, only_value, origin_refusal, path_meant, resource_status, status_of, values_named}
+use Rattle.web_wire.specs.Heads.{IsAnswerToHead, IsCalledFor, IsDecided, IsHandshakeAnswer, StartsNamed, after_scheme, failed_status, host_meant, host_refusal, is_nothing, only_value, origin_refusal, path_meant, resource_status, status_of, values_named}
 
 -- what is taken of more bytes, if what is there is no more than may be taken
 pub take_more_of : (most : ℕ) (old bytes : List ℕ) → length old ≤ most → take most (old ++ bytes) ≡ old ++ take (most - length old) bytes
@@ -25,9 +25,9 @@ take_more_of most old bytes fits =
     let e : most ≡ length old + (most - length old) = omega arith in
     ap (λ (n : ℕ). take n (old ++ bytes)) e ∙ take-append-add old bytes (most - length old)
 
-pub handshake_failed : (key : Result (List ℕ) HandshakeError) (resumes : Bool) (fault : HandshakeError) → Answers (Err fault) key → IsHandshakeAnswer key resumes (Status (failed_status fault))
-handshake_failed (Ok key) resumes fault answers = inr (answers.0, ap (λ it. Status (failed_status it)) answers.1)
-handshake_failed (Err e) resumes fault answers = let same : fault ≡ e = cc answers in ap (λ it. Status (failed_status it)) same
+pub handshake_failed : (key : Result (List ℕ) HandshakeError) (fault : HandshakeError) → Answers (Err fault) key → IsHandshakeAnswer key (Status (failed_status fault))
+handshake_failed (Ok key) fault answers = inr (answers.0, ap (λ it. Status (failed_status it)) answers.1)
+handshake_failed (Err e) fault answers = let same : fault ≡ e = cc answers in ap (λ it. Status (failed_status it)) same
 
 -- ---- a field with a name
 
@@ -50,9 +50,9 @@ pub nothing_after : (rest : List ℕ) (count size : ℕ) → length rest ≡ siz
 nothing_after [] count size is within = elim (eqb_tells size count) [ inl p ↦ p.0 | inr p ↦ absurd (p.1 (omega (arith, is, within))) ]
 nothing_after (b ∷ bs) count size is within = elim (eqb_tells size count) [ inl p ↦ absurd (omega (arith, is, p.1)) | inr p ↦ p.0 ]
 
-pub decided : (found : Option HttpStatus) (status : HttpStatus) (key : Result (List ℕ) HandshakeError) (resumes : Bool) → Some status ≡ found → IsDecided found key resumes (Status status)
-decided None status key resumes is = absurd (cc is)
-decided (Some it) status key resumes is = let same : status ≡ it = cc is in ap (λ found. Status found) same
+pub decided : (found : Option HttpStatus) (status : HttpStatus) (key : Result (List ℕ) HandshakeError) → Some status ≡ found → IsDecided found key (Status status)
+decided None status key is = absurd (cc is)
+decided (Some it) status key is = let same : status ≡ it = cc is in ap (λ found. Status found) same
 
 -- ---- no complete head is too large
 
@@ -75,7 +75,7 @@ origin_not_large origins (Some origin) is = if_not_large (is_allowed_origin orig
 resource_not_large : (origins : List (List ℕ)) (target : List ℕ) (origin : Option (List ℕ)) (is_last : Bool) → resource_status origins target origin is_last ≡ Some HeadTooLarge → ⊥
 resource_not_large origins target origin is_last =
     if_not_large (bytes_eq target (codes "/")) _ _ (λ e. cc e)
-    (if_not_large (is_terminal target) _ _
+    (if_not_large (bytes_eq target (codes "/terminal")) _ _
     (if_not_large is_last _ _ (origin_not_large origins origin) (λ e. cc e)) (λ e. cc e))
 
 status_not_large : (origins : List (List ℕ)) (method target : List ℕ) (host origin : Option (List ℕ)) (is_last : Bool) → status_of origins method target host origin is_last ≡ Some HeadTooLarge → ⊥
@@ -98,18 +98,18 @@ failed_not_large (fault.Http status) is = cc is
 failed_not_large fault.InvalidHeader is = cc is
 failed_not_large fault.OutOfMemory is = cc is
 
-handshake_not_large : (key : Result (List ℕ) HandshakeError) (resumes : Bool) → IsHandshakeAnswer key resumes (Status HeadTooLarge) → ⊥
-handshake_not_large (Ok key) resumes (inl p) = cc p.1
-handshake_not_large (Ok key) resumes (inr p) = cc p.1
-handshake_not_large (Err e) resumes is = failed_not_large e is
+handshake_not_large : (key : Result (List ℕ) HandshakeError) → IsHandshakeAnswer key (Status HeadTooLarge) → ⊥
+handshake_not_large (Ok key) (inl p) = cc p.1
+handshake_not_large (Ok key) (inr p) = cc p.1
+handshake_not_large (Err e) is = failed_not_large e is
 
-decided_not_large : (found : Option HttpStatus) (key : Result (List ℕ) HandshakeError) (resumes : Bool) → (found ≡ Some HeadTooLarge → ⊥) → IsDecided found key resumes (Status HeadTooLarge) → ⊥
-decided_not_large None key resumes small is = handshake_not_large key resumes is
-decided_not_large (Some status) key resumes small is = let same : status ≡ HeadTooLarge = cc is in small (ap (λ it. Some it) same)
+decided_not_large : (found : Option HttpStatus) (key : Result (List ℕ) HandshakeError) → (found ≡ Some HeadTooLarge → ⊥) → IsDecided found key (Status HeadTooLarge) → ⊥
+decided_not_large None key small is = handshake_not_large key is
+decided_not_large (Some status) key small is = let same : status ≡ HeadTooLarge = cc is in small (ap (λ it. Some it) same)
 
 -- the answer to a complete head is called for
 pub called_for : (origins : List (List ℕ)) (bytes : List ℕ) (head : RequestHead) (rest : List ℕ) (answer : Answer) → ReadsRequest bytes head rest → IsAnswerToHead origins head rest answer → IsCalledFor origins bytes answer
-called_for origins bytes head rest (Handshake key resumes) reads is = (head, rest, reads, is)
+called_for origins bytes head rest (Handshake key) reads is = (head, rest, reads, is)
 called_for origins bytes head rest (Status Found) reads is = (head, rest, reads, is)
 called_for origins bytes head rest (Status BadRequest) reads is = inl (head, rest, reads, is)
 called_for origins bytes head rest (Status Forbidden) reads is = (head, rest, reads, is)
@@ -118,5 +118,5 @@ called_for origins bytes head rest (Status MethodNotAllowed) reads is = (head, r
 called_for origins bytes head rest (Status UpgradeRequired) reads is = (head, rest, reads, is)
 called_for origins bytes head rest (Status HeadTooLarge) reads is =
     let fields = map name_and_value head.fields in
-    absurd (decided_not_large _ (requested_key head.method head.minor fields) (is_resumption (path_meant (after_scheme head.target) head.target))
+    absurd (decided_not_large _ (requested_key head.method head.minor fields)
     (status_not_large origins head.method head.target (only_value fields (codes "Host")) (only_value fields (codes "Origin")) (is_nothing rest)) is)

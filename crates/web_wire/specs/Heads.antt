@@ -1,6 +1,6 @@
 -- How a request is answered, by its head (RFC 9110, RFC 9112, and section 4.2 of RFC 6455; which resources there are:
 -- our profile).
-use Rattle.std.specs.Prelude.{◌≡◌, ℕ, ◌<◌, ◌≤◌, ◌⊎◌, Bool, true, false, ◌==◌, ◌||◌, List, [], ◌∷◌, ◌++◌, length, map, take, drop, codes, bytes_eq, nat_eq, position, Option, None, Some, option_map, unwrap_or, Result, Ok, Err, if◌then◌else◌}
+use Rattle.std.specs.Prelude.{◌≡◌, ℕ, ◌<◌, ◌≤◌, ◌⊎◌, Bool, true, false, ◌==◌, List, [], ◌∷◌, ◌++◌, length, map, take, drop, codes, bytes_eq, nat_eq, position, Option, None, Some, option_map, unwrap_or, Result, Ok, Err, if◌then◌else◌}
 use Rattle.std.specs.List.{starts_with}
 use Rattle.std.specs.Option.{option_or}
 use Rattle.httparse.specs.Grammar.{RequestHead, ReadsRequest, HasNoRequest, NeverHasRequest}
@@ -64,19 +64,12 @@ abbrev pub handshake_refusal : (origins : List (List ℕ)) → (origin : Option 
     → Option HttpStatus
 handshake_refusal origins origin is_last = if is_last then origin_refusal origins origin else Some BadRequest
 
--- the target of the WebSocket of a page that resumes
-abbrev pub is_resumption : (target : List ℕ) → Bool
-is_resumption target = bytes_eq target (codes "/terminal?resume")
-
-abbrev pub is_terminal : (target : List ℕ) → Bool
-is_terminal target = bytes_eq target (codes "/terminal") || is_resumption target
-
 -- the status for a resource: the page, or the terminal's WebSocket; None if the handshake goes on
 abbrev pub resource_status : (origins : List (List ℕ)) → (target : List ℕ) → (origin : Option (List ℕ))
     → (is_last : Bool) → Option HttpStatus
 resource_status origins target origin is_last =
     if bytes_eq target (codes "/") then Some Found
-    else if is_terminal target then handshake_refusal origins origin is_last
+    else if bytes_eq target (codes "/terminal") then handshake_refusal origins origin is_last
     else Some NotFound
 
 -- What follows the scheme of a target in absolute-form (RFC 9112, section 3.2.2); None for one of another form.
@@ -125,21 +118,21 @@ failed_status MissingSecWebSocketVersionHeader = UpgradeRequired
 failed_status _ = BadRequest
 
 -- holds for the answer to a handshake: with a valid key it is accepted
-abbrev pub IsHandshakeAnswer : Result (List ℕ) HandshakeError → (resumes : Bool) → Answer → Type 0
-IsHandshakeAnswer (Ok key) resumes answer = (IsValidKey key × (answer ≡ Handshake (accept_key_of key) resumes))
+abbrev pub IsHandshakeAnswer : Result (List ℕ) HandshakeError → Answer → Type 0
+IsHandshakeAnswer (Ok key) answer = (IsValidKey key × (answer ≡ Handshake (accept_key_of key)))
     ⊎ ((¬ (IsValidKey key)) × (answer ≡ Status BadRequest))
-IsHandshakeAnswer (Err e) resumes answer = answer ≡ Status (failed_status e)
+IsHandshakeAnswer (Err e) answer = answer ≡ Status (failed_status e)
 
-abbrev pub IsDecided : Option HttpStatus → Result (List ℕ) HandshakeError → (resumes : Bool) → Answer → Type 0
-IsDecided None key resumes answer = IsHandshakeAnswer key resumes answer
-IsDecided (Some status) key resumes answer = answer ≡ Status status
+abbrev pub IsDecided : Option HttpStatus → Result (List ℕ) HandshakeError → Answer → Type 0
+IsDecided None key answer = IsHandshakeAnswer key answer
+IsDecided (Some status) key answer = answer ≡ Status status
 
 -- holds for the answer to a request of these parts
 abbrev pub IsAnswerToParts : (origins : List (List ℕ)) → (method target : List ℕ) → (minor : ℕ) → Fields
     → (is_last : Bool) → Answer → Type 0
 IsAnswerToParts origins method target minor fields is_last answer = IsDecided
     (status_of origins method target (only_value fields (codes "Host")) (only_value fields (codes "Origin")) is_last)
-    (requested_key method minor fields) (is_resumption (path_meant (after_scheme target) target)) answer
+    (requested_key method minor fields) answer
 
 abbrev pub is_nothing : List ℕ → Bool
 is_nothing [] = true

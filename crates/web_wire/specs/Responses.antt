@@ -72,5 +72,5 @@ status_response status page =
     response_text (status_text status) (type_fields status page) (status_fields status) (body_of status page)
 
 abbrev pub response : Answer → PageParts → List ℕ
-response (Handshake key resumes) page = response_bytes key []
+response (Handshake key) page = response_bytes key []
 response (Status status) page = status_response status page

@@ -5,7 +5,7 @@ ghost use Rattle.httparse.specs.Grammar.{RequestHead as Head, ReadsRequest};
 ghost use Rattle.httparse.specs.Spans.{IsHeaderWithin, IsRequestWithin, header_bytes, span_bytes};
 ghost use Rattle.websocket.specs.Handshake.{requested_key};
 ghost use Rattle.websocket.specs.Headers.{eq_ignore_case, fields_of};
-ghost use Rattle.web_wire.specs.Heads.{IsAnswerTo, IsAnswerToHead, IsAnswerToParts, IsHandshakeAnswer, StartsNamed, failed_status, after_scheme, handshake_refusal, host_meant, host_refusal, is_nothing, is_resumption, is_slash, is_terminal, most_fields, only_value, origin_refusal, path_meant, path_start, resource_status, status_of, values_named};
+ghost use Rattle.web_wire.specs.Heads.{IsAnswerTo, IsAnswerToHead, IsAnswerToParts, IsHandshakeAnswer, StartsNamed, failed_status, after_scheme, handshake_refusal, host_meant, host_refusal, is_nothing, is_slash, most_fields, only_value, origin_refusal, path_meant, path_start, resource_status, status_of, values_named};
 
 use crate::origin::Site;
 use httparse::spans::{EMPTY_HEADER_SPAN, HeaderSpan, RequestSpans, parse_request};
@@ -28,7 +28,7 @@ pub enum HttpStatus {
     BadRequest,
     /// 403: the server isn't used at this Host, or by pages of this Origin.
     Forbidden,
-    /// 404: the target is neither `/` nor `/terminal` nor `/terminal?resume`.
+    /// 404: the target is neither `/` nor `/terminal`.
     NotFound,
     /// 405: the method isn't GET.
     MethodNotAllowed,
@@ -41,13 +41,8 @@ pub enum HttpStatus {
 /// The answer to a request.
 #[derive(Clone, Copy)]
 pub enum Answer {
-    /// 101: the handshake is accepted.
-    Handshake {
-        /// The value of Sec-WebSocket-Accept.
-        accept: [u8; 28],
-        /// Whether it is at `/terminal?resume`, the target for pages that resume.
-        resumes: bool,
-    },
+    /// 101: the handshake is accepted, with this value of Sec-WebSocket-Accept.
+    Handshake([u8; 28]),
     /// Any other status. The connection is closed after it.
     Status(HttpStatus),
 }
@@ -123,20 +118,6 @@ fn handshake_refusal(site: &Site, origin: Option<&[u8]>, is_last: bool) -> Optio
     }
 }
 
-/// Whether a target is for pages that resume.
-fn is_resumption(target: &[u8]) -> bool
-    ensures { result ≡ is_resumption target.now }
-{
-    target == b"/terminal?resume".as_slice()
-}
-
-/// Whether a target is a terminal's WebSocket.
-fn is_terminal(target: &[u8]) -> bool
-    ensures { result ≡ is_terminal target.now }
-{
-    target == b"/terminal".as_slice() || is_resumption(target)
-}
-
 /// The status for a resource; None if the handshake goes on.
 fn resource_status(
     site: &Site,
@@ -148,7 +129,7 @@ fn resource_status(
 {
     if target == b"/".as_slice() {
         Some(HttpStatus::Found)
-    } else if is_terminal(target) {
+    } else if target == b"/terminal".as_slice() {
         handshake_refusal(site, origin, is_last)
     } else {
         Some(HttpStatus::NotFound)
@@ -247,13 +228,13 @@ fn failed_status(fault: HandshakeError) -> HttpStatus
 }
 
 /// The answer to a handshake.
-fn handshake_answer(buf: &[u8], head: &RequestSpans, spans: &[HeaderSpan], resumes: bool) -> Answer
+fn handshake_answer(buf: &[u8], head: &RequestSpans, spans: &[HeaderSpan]) -> Answer
     requires { IsRequestWithin buf.now spans.now head.now }
     ensures { IsHandshakeAnswer (requested_key (span_bytes buf.now head.now.method) head.now.version
-        (fields_of buf.now (take head.now.headers spans.now))) resumes result }
+        (fields_of buf.now (take head.now.headers spans.now))) result }
 {
     match check_request(buf, head, spans) {
-        Ok(accept) => Answer::Handshake { accept, resumes },
+        Ok(key) => Answer::Handshake(key),
         Err(fault) => Answer::Status(failed_status(fault)),
     }
 }
@@ -281,10 +262,7 @@ fn answer_to_head(site: &Site, buf: &[u8], head: &RequestSpans, spans: &[HeaderS
     let target = head.path.of(buf);
     match status_of(site, method, target, host, origin, is_last) {
         Some(status) => Answer::Status(status),
-        None => {
-            let resumes = is_resumption(path_meant(after_scheme(target), target));
-            handshake_answer(buf, head, spans, resumes)
-        }
+        None => handshake_answer(buf, head, spans),
     }
 }
 

@@ -3,7 +3,7 @@
 //! literal is the page.
 
 /// The SHA-256 of what is in the page's element `script`, in base64.
-pub const SCRIPT_HASH: &str = "/he2IBJ09pGjkL3RZxY/AAIiNSsSg8n9/beyical7cc=";
+pub const SCRIPT_HASH: &str = "th1k1sUJOsE05LwhWv0gULaGTL/KDGXbSoaWZDi8pTM=";
 
 /// The SHA-256 of what is in the page's element `style`, in base64.
 pub const STYLE_HASH: &str = "UfnloE6u4KpOzA9eXp9MTtZ6Xa5GeuX3RtcEUmzyfQI=";
@@ -336,7 +336,7 @@ function showKeys() {
 }
 help.addEventListener('close', () => typed.focus());
 // ---- The session: `open MODEL [LU]` begins one, `resume TOKEN` resumes the one of this tab. With `heard COUNT` the
-// server says, each 5 seconds or sooner, how many bytes of keys it has; those that it lacks are kept, and sent again.
+// server says, each 5 seconds, how many bytes of keys it has; those that it hasn't got are kept, and sent again.
 const mostKept = 100000, silence = 6000, patience = 15000;
 let socket, timer, wait = 500, isOver = false, isResuming = false, isLive = false, size = null;
 let heardAt = 0, lockedAt = 0, problem = '', remark = '';
@@ -379,8 +379,7 @@ function tell() {
   show();
 }
 function begin() {
-  const token = sessionStorage.getItem('token');
-  const address = new URL(token ? 'terminal?resume' : 'terminal', location.href.split('#')[0]);
+  const address = new URL('terminal', location.href.split('#')[0]);
   address.protocol = address.protocol === 'https:' ? 'wss:' : 'ws:';
   clearTimeout(timer);
   // The socket that it had isn't listened to any more, nor closed: to the server that would be the end of the page.
@@ -388,6 +387,7 @@ function begin() {
   [isOver, isLive, awaited, socket] = [false, false, first, new WebSocket(address)];
   socket.binaryType = 'arraybuffer';
   socket.onopen = () => {
+    const token = sessionStorage.getItem('token');
     isResuming = token !== null;
     socket.send(isResuming ? 'resume ' + token : opening());
   };

@@ -169,7 +169,7 @@ pub fn response_of(
     ensures { IfOk result (λ bytes. bytes.items ≡ response answer page.entry) }
 {
     match answer {
-        Answer::Handshake { accept, .. } => handshake_response(alloc, &accept),
+        Answer::Handshake(key) => handshake_response(alloc, &key),
         Answer::Status(status) => Ok(status_response(alloc, status, page)?.into_bytes()),
     }
 }

@@ -1,5 +1,8 @@
-//! A session: a terminal, and its connection to the host.
-use crate::client::Client;
+//! A session: a terminal, its page, and its connection to the host.
+ghost use Rattle.std.specs.Prelude.{◌≡◌};
+ghost use Rattle.web.specs.Networks.{count_of, has_most};
+
+use crate::limits::time_kept;
 use crate::page_link::PageLink;
 use crate::page_turn::{PageTerminal, PageTurn, draw_again, take_page_turn};
 use codes3270::Model;
@@ -18,8 +21,8 @@ use web_wire::{Closing, Notice, Token};
 /// How often a page is sent a ping and told what was heard of it, in milliseconds: so it knows that the server is there.
 const PING_TIME: u64 = 5_000;
 
-/// After how many bytes of keys a page gets their count sooner. A page keeps 1,000 unheard keys at most.
-const MOST_UNTOLD: u64 = 256;
+/// How long a page may be silent, in milliseconds. A page answers pings, so that it is gone then.
+const SILENCE: u64 = 60_000;
 
 /// How long connecting to the host may take, in milliseconds.
 const CONNECT_TIME: u64 = 10_000;
@@ -31,6 +34,8 @@ pub(crate) enum SessionEnd {
     Failed(Fault),
     /// The operator ended it.
     ByOperator,
+    /// No page resumed it in time.
+    NotResumed,
 }
 
 impl SessionEnd {
@@ -38,6 +43,7 @@ impl SessionEnd {
     pub(crate) fn word(&self) -> &'static str {
         match self {
             SessionEnd::ByOperator => "operator",
+            SessionEnd::NotResumed => "not-resumed",
             SessionEnd::Failed(fault) => match fault {
                 Fault::Live(LiveFault::HostEnded) => "host-ended",
                 Fault::Live(LiveFault::LuRefused(_)) => "lu-refused",
@@ -67,6 +73,7 @@ impl fmt::Display for SessionEnd {
         match self {
             SessionEnd::Failed(fault) => write!(f, "{fault}"),
             SessionEnd::ByOperator => f.write_str("it was ended by a key"),
+            SessionEnd::NotResumed => f.write_str("no page resumed it"),
         }
     }
 }
@@ -78,47 +85,69 @@ impl From<Fault> for SessionEnd {
 }
 
 /// What happened in a turn of a session.
-#[derive(Clone, Copy)]
-pub(crate) struct SessionTurn {
+#[derive(Drop)]
+pub(crate) struct SeatTurn {
     /// Whether a byte moved.
     pub(crate) moved: bool,
     /// The port from which it has just been connected to the host.
     pub(crate) connected: Option<u16>,
     /// The LU to which its terminal has just been bound.
     pub(crate) bound: Option<Lu>,
-    /// What the turn of its page was, if it has one and took part.
-    pub(crate) page: Option<PageTurn>,
+    /// The page that it has just lost, and the word for the reason.
+    pub(crate) left: Option<(PageLink<TcpStream>, &'static str)>,
 }
 
-impl SessionTurn {
+impl SeatTurn {
     /// A turn in which nothing but bytes moved, if any did.
-    fn quiet(moved: bool) -> SessionTurn {
-        SessionTurn {
+    fn quiet(moved: bool) -> SeatTurn {
+        SeatTurn {
             moved,
             connected: None,
             bound: None,
-            page: None,
+            left: None,
         }
     }
 }
 
-/// A session: its terminal, for which the machine says who is its page.
+/// A session of a page.
 #[derive(Drop)]
-pub(crate) struct Session {
-    /// Its number (see `Service`).
+pub(crate) struct Seat {
+    /// Its number in the log.
     pub(crate) number: u64,
     /// The token by which a page resumes it.
-    token: Token,
+    pub(crate) token: Token,
     model: Model,
     wanted: Option<Lu>,
     terminal: PageTerminal<TcpStream>,
     /// The connection to the host while it is being established, and since when.
     dialed: Option<(TcpStream, u64)>,
+    page: Option<PageLink<TcpStream>>,
+    /// The network of its last page.
+    network: u128,
     /// How many bytes of keys its pages sent.
     typed: u64,
-    /// Of how many bytes its page was told that they were heard.
-    told: u64,
+    /// How long it is kept without a page, in milliseconds.
+    kept_for: u64,
+    /// When the page was attached, sent something, or left, whichever was last, in milliseconds of the server's time.
+    heard: u64,
+    /// When the page was last sent a ping.
+    pinged: u64,
     is_bound: bool,
+}
+
+/// How many sessions are of a network.
+fn sessions_of(seats: &[Seat], network: u128) -> usize
+    ensures { result ≡ count_of (λ it. it.network) network seats.now }
+{
+    seats.iter().filter(|seat| seat.network == network).count()
+}
+
+/// Whether a network has as many of these sessions as it may have, `most`; 0 is no limit.
+pub(crate) fn has_most(seats: &[Seat], network: u128, most: usize) -> bool
+    ensures { result ≡ has_most (λ it. it.network) network most seats.now }
+{
+    let count = sessions_of(seats, network);
+    most != 0 && most <= count
 }
 
 /// The size of the tty in a page for a model: the alternate screen, and a row below it for the status.
@@ -144,7 +173,7 @@ pub(crate) fn closing_word(closing: Closing) -> &'static str {
     }
 }
 
-impl Session {
+impl Seat {
     /// A session whose connection to the host is being established.
     pub(crate) fn new(
         alloc: Global,
@@ -153,9 +182,10 @@ impl Session {
         model: Model,
         wanted: Option<Lu>,
         dialed: TcpStream,
+        network: u128,
         now: u64,
-    ) -> Result<Session, Fault> {
-        Ok(Session {
+    ) -> Result<Seat, Fault> {
+        Ok(Seat {
             number,
             token,
             model,
@@ -169,78 +199,66 @@ impl Session {
                 (),
             )?,
             dialed: Some((dialed, now)),
+            page: None,
+            network,
             typed: 0,
-            told: 0,
+            kept_for: 0,
+            heard: now,
+            pinged: now,
             is_bound: false,
         })
     }
 
-    /// Greets its page: tells it the size, the token, and how many bytes of keys were heard, and draws the whole screen.
-    pub(crate) fn greet(
+    /// Attaches a page: it gets the size, the token, how many bytes of keys were heard, and the whole screen. Returns the
+    /// page that it replaces.
+    pub(crate) fn attach(
         &mut self,
         alloc: Global,
-        page: &mut Client<TcpStream>,
+        mut page: PageLink<TcpStream>,
+        network: u128,
         now: u64,
-    ) -> Result<(), Fault> {
+    ) -> Result<Option<PageLink<TcpStream>>, Fault> {
         let TtySize { rows, columns } = page_size(self.model);
-        let link = &mut page.link;
-        let told = link.tell(alloc, &Notice::Size(rows, columns)).is_ok()
-            && link.tell(alloc, &Notice::Token(self.token)).is_ok()
-            && link.tell(alloc, &Notice::Heard(self.typed)).is_ok();
+        let told = page.tell(alloc, &Notice::Size(rows, columns)).is_ok()
+            && page.tell(alloc, &Notice::Token(self.token)).is_ok()
+            && page.tell(alloc, &Notice::Heard(self.typed)).is_ok();
         if !told {
             return Err(Fault::NoMemory);
         }
         if self.dialed.is_none() {
-            draw_again(alloc, link, &mut self.terminal)?;
+            draw_again(alloc, &mut page, &mut self.terminal)?;
         }
-        page.pinged = now;
-        self.told = self.typed;
-        Ok(())
+        self.network = network;
+        self.heard = now;
+        self.pinged = now;
+        Ok(std::mem::replace(&mut self.page, Some(page)))
     }
 
-    /// One turn with its page, at `now` milliseconds of the server's time.
+    /// Whether it has no page, and its last one was of this network.
+    pub(crate) fn was_left_by(&self, network: u128) -> bool {
+        self.page.is_none() && self.network == network
+    }
+
+    /// Its page, once it has ended.
+    pub(crate) fn into_page(self) -> Option<PageLink<TcpStream>> {
+        self.page
+    }
+
+    /// One turn, at `now` milliseconds of the server's time; `keep` is how long it is kept without a page.
     pub(crate) fn turn(
         &mut self,
         alloc: Global,
         host: SocketAddr,
-        page: &mut PageLink<TcpStream>,
         now: u64,
-    ) -> Result<SessionTurn, SessionEnd> {
-        if self.dialed.is_some() {
-            page.send();
-            return Ok(self.wait_for_host(host, now)?);
+        keep: u64,
+    ) -> Result<SeatTurn, SessionEnd> {
+        if self.page.is_none() && self.kept_for <= now.saturating_sub(self.heard) {
+            return Err(SessionEnd::NotResumed);
         }
-        let turn = take_page_turn(alloc, page, &mut self.terminal).map_err(SessionEnd::Failed)?;
-        if let PageTurn::Going { typed, .. } = turn {
-            self.typed = self.typed.saturating_add(typed as u64);
-        }
-        let moved = !matches!(turn, PageTurn::Going { moved: false, .. });
-        self.follow(SessionTurn {
-            page: Some(turn),
-            ..SessionTurn::quiet(moved)
-        })
-    }
-
-    /// One turn without a page. What is drawn is dropped: a page that resumes the session gets the whole screen.
-    pub(crate) fn turn_alone(
-        &mut self,
-        alloc: Global,
-        host: SocketAddr,
-        now: u64,
-    ) -> Result<SessionTurn, SessionEnd> {
         if self.dialed.is_some() {
             return Ok(self.wait_for_host(host, now)?);
         }
-        let mut dropped = Vec::new(alloc);
-        let moved = self
-            .terminal
-            .turn_typed(alloc, &[], &mut dropped)
-            .map_err(SessionEnd::Failed)?;
-        self.follow(SessionTurn::quiet(moved))
-    }
-
-    /// Whether the session goes on after a turn of its terminal.
-    fn follow(&mut self, mut turn: SessionTurn) -> Result<SessionTurn, SessionEnd> {
+        let mut turn = self.take_turn(alloc, now, keep)?;
         match self.terminal.take_asked() {
             OperatorRequest::Quit => return Err(SessionEnd::ByOperator),
             OperatorRequest::Nothing | OperatorRequest::Connect => {}
@@ -258,9 +276,12 @@ impl Session {
 
     /// Begins the session once the connection to the host is established. CannotConnect if that failed, or took too
     /// long.
-    fn wait_for_host(&mut self, host: SocketAddr, now: u64) -> Result<SessionTurn, Fault> {
+    fn wait_for_host(&mut self, host: SocketAddr, now: u64) -> Result<SeatTurn, Fault> {
+        if let Some(page) = &mut self.page {
+            page.send();
+        }
         let Some((socket, began)) = self.dialed.take() else {
-            return Ok(SessionTurn::quiet(false));
+            return Ok(SeatTurn::quiet(false));
         };
         if socket.peer_addr().is_ok() {
             let port = socket
@@ -268,15 +289,15 @@ impl Session {
                 .map(|address| address.port())
                 .unwrap_or(0);
             self.terminal.connect(socket, self.wanted)?;
-            return Ok(SessionTurn {
+            return Ok(SeatTurn {
                 connected: Some(port),
-                ..SessionTurn::quiet(true)
+                ..SeatTurn::quiet(true)
             });
         }
         let kind = match socket.take_error() {
             Ok(None) if now.saturating_sub(began) < CONNECT_TIME => {
                 self.dialed = Some((socket, began));
-                return Ok(SessionTurn::quiet(false));
+                return Ok(SeatTurn::quiet(false));
             }
             Ok(None) => ErrorKind::TimedOut,
             Ok(Some(error)) => error.kind(),
@@ -285,17 +306,58 @@ impl Session {
         Err(Fault::Live(LiveFault::CannotConnect(host, kind)))
     }
 
-    /// Sends its page a ping, and how many bytes of keys were heard, if it is time and nothing waits to be sent. If
-    /// memory is refused, the next turn tries again.
-    pub(crate) fn ping(&mut self, alloc: Global, page: &mut Client<TcpStream>, now: u64) {
-        let is_time = PING_TIME <= now.saturating_sub(page.pinged);
-        let is_due = is_time || MOST_UNTOLD <= self.typed.saturating_sub(self.told);
-        if is_due && !page.link.has_output() {
-            let heard = Notice::Heard(self.typed);
-            if page.link.ping().is_ok() && page.link.tell(alloc, &heard).is_ok() {
-                page.pinged = now;
-                self.told = self.typed;
+    /// Takes a turn of the terminal, with its page if it has one. Without a page, what is drawn is dropped: a page that
+    /// resumes the session gets the whole screen.
+    fn take_turn(&mut self, alloc: Global, now: u64, keep: u64) -> Result<SeatTurn, Fault> {
+        let Some(page) = &mut self.page else {
+            let moved = self.terminal.turn_typed(alloc, &[], &mut Vec::new(alloc))?;
+            return Ok(SeatTurn::quiet(moved));
+        };
+        match take_page_turn(alloc, page, &mut self.terminal)? {
+            PageTurn::Going {
+                heard,
+                moved,
+                typed,
+            } => {
+                if heard {
+                    self.heard = now;
+                }
+                self.typed = self.typed.saturating_add(typed as u64);
+                Ok(self.keep_time(alloc, now, keep, moved))
             }
+            PageTurn::Lost => Ok(self.leave(now, "lost", keep)),
+            PageTurn::Closed(closing) => {
+                Ok(self.leave(now, closing_word(closing), time_kept(closing, keep)))
+            }
+        }
+    }
+
+    /// Sends a ping if it is time, and drops a page that is silent.
+    fn keep_time(&mut self, alloc: Global, now: u64, keep: u64, moved: bool) -> SeatTurn {
+        if SILENCE <= now.saturating_sub(self.heard) {
+            return self.leave(now, "silent", keep);
+        }
+        if PING_TIME <= now.saturating_sub(self.pinged) {
+            if let Some(page) = &mut self.page {
+                if !page.has_output() {
+                    // If memory is refused, the next turn tries again.
+                    let heard = Notice::Heard(self.typed);
+                    if page.ping().is_ok() && page.tell(alloc, &heard).is_ok() {
+                        self.pinged = now;
+                    }
+                }
+            }
+        }
+        SeatTurn::quiet(moved)
+    }
+
+    /// Takes the page from the session, which is kept for so long.
+    fn leave(&mut self, now: u64, reason: &'static str, kept_for: u64) -> SeatTurn {
+        self.heard = now;
+        self.kept_for = kept_for;
+        SeatTurn {
+            left: self.page.take().map(|page| (page, reason)),
+            ..SeatTurn::quiet(true)
         }
     }
 }
