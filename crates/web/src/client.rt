@@ -12,7 +12,7 @@ use std::alloc::{AllocError, Global};
 use std::net::{Shutdown, SocketAddr};
 use tn3270e_msg::Lu;
 use web_wire::{
-    Answer, Closing, HeadReader, HttpStatus, Notice, Opening, PageParts, Received, Site, Token,
+    Answer, Closing, HeadReader, HttpStatus, Notice, Opening, PageParts, Received, Site,
     response_of,
 };
 
@@ -63,12 +63,20 @@ pub(crate) enum Visit {
     Answered(HttpStatus),
     /// The first message asks for a session of this model, for this LU if it names one.
     Opened(Model, Option<Lu>),
-    /// The first message has a token, to resume a session.
-    Resumed(Token),
+    /// The first message has a token with these bytes, to resume a session.
+    Resumed([u8; 16]),
     /// The WebSocket is closed, for this reason.
     Closed(Closing),
     /// The socket has ended or failed, or memory is refused.
     Gone,
+}
+
+/// What a first message asks for.
+fn asked_by(opening: Opening) -> Visit {
+    match opening {
+        Opening::New(model, lu) => Visit::Opened(model, lu),
+        Opening::Resume(token) => Visit::Resumed(*token.as_bytes()),
+    }
 }
 
 /// What one turn did for a client that leaves.
@@ -182,8 +190,7 @@ impl<B: RawRead + RawWrite + Drop> Client<B> {
         self.link.send();
         let heard = matches!(came, LinkRead::Got(_));
         match self.link.read_frame(&mut Vec::new(alloc)) {
-            Received::Opened(Opening::New(model, lu)) => Visit::Opened(model, lu),
-            Received::Opened(Opening::Resume(token)) => Visit::Resumed(token),
+            Received::Opened(opening) => asked_by(opening),
             Received::Closed(closing) => Visit::Closed(closing),
             Received::Waiting => Visit::Going {
                 heard,

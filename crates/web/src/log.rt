@@ -1,11 +1,10 @@
 //! The log of a server of pages.
 use jiff::Timestamp;
-use jobs::{Fault, Sink};
+use jobs::Sink;
 use nonblocking_log::NonBlockingLog;
 use std::alloc::{AllocError, Global};
 use std::fmt;
 use std::net::{Net, SocketAddr};
-use std::os::fd::RawFd;
 use std::time::Clock;
 use tn3270e_msg::Lu;
 
@@ -78,37 +77,21 @@ pub(crate) trait EventLog {
     fn catch_up(&mut self);
 }
 
-/// The descriptor of the standard error stream, to which the log is written.
-const STDERR: RawFd = 2;
-
 /// Writes each event as a line that begins with the time. It never waits for the stream: a line is dropped if too many
 /// wait already, or if memory is refused for it.
 #[derive(Drop)]
 pub(crate) struct WebLog<'a, C, E> {
     /// The clock for the time of each line.
-    clock: &'a C,
+    pub(crate) clock: &'a C,
     /// The allocator for each line.
-    alloc: Global,
-    lines: NonBlockingLog<'a, E>,
-    /// How many dropped lines the log tells of.
-    told: u64,
+    pub(crate) alloc: Global,
+    /// The lines, which standard error gets.
+    pub(crate) lines: NonBlockingLog<'a, E>,
+    /// How many dropped lines the log has reported.
+    pub(crate) told: u64,
 }
 
-impl<'a, C: Clock + Net, E: Sink> WebLog<'a, C, E> {
-    /// A log on standard error, which `faults` writes to.
-    pub(crate) fn new(
-        clock: &'a C,
-        alloc: Global,
-        faults: &'a mut E,
-    ) -> Result<WebLog<'a, C, E>, Fault> {
-        Ok(WebLog {
-            clock,
-            alloc,
-            lines: NonBlockingLog::new(clock, alloc, STDERR, faults)?,
-            told: 0,
-        })
-    }
-
+impl<C: Clock + Net, E: Sink> WebLog<'_, C, E> {
     /// The line of an event: first the time in UTC, in whole seconds (RFC 3339); `unknown` if the clock fails.
     fn line(&self, event: &WebEvent) -> Result<String, AllocError> {
         match Timestamp::now(self.clock) {

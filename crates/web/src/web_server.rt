@@ -11,10 +11,12 @@ use jobs::{Fault, LiveFault, RawRandom, Sink, WebOptions, poll_timeout, report_a
 use mio::event::Source;
 use mio::net::{TcpListener, TcpStream};
 use mio::{Events, Interest, Poll, Token};
+use nonblocking_log::NonBlockingLog;
 use std::alloc::Global;
 use std::fmt;
 use std::io::{self, ErrorKind};
 use std::net::{Net, SocketAddr};
+use std::os::fd::RawFd;
 use std::random::RandomSource;
 use std::time::{Clock, Instant};
 use tn3270e_msg::Lu;
@@ -24,6 +26,9 @@ use web_wire::{
     Closing, HttpStatus, Notice, Origin, OriginFault, PAGE, PageParts, SCRIPT_HASH, STYLE_HASH,
     Site, Token as PageToken,
 };
+
+/// The descriptor of the standard error stream, to which the log is written.
+const STDERR: RawFd = 2;
 
 /// The most clients that one turn accepts.
 const MOST_ACCEPTED: usize = 64;
@@ -458,14 +463,8 @@ impl WebServer {
     }
 
     /// A client is the page of the session that has this token. A page that the session has already is dismissed.
-    fn resume<L: EventLog>(
-        &mut self,
-        number: u64,
-        peer: SocketAddr,
-        token: PageToken,
-        log: &mut L,
-    ) {
-        let Some(resumed) = self.service.resumed_by(number, token.as_bytes()) else {
+    fn resume<L: EventLog>(&mut self, number: u64, peer: SocketAddr, token: [u8; 16], log: &mut L) {
+        let Some(resumed) = self.service.resumed_by(number, &token) else {
             log.note(&WebEvent::Refused(peer, "unknown-token"));
             return self.dismiss(number, &Notice::Ended("it isn't kept any more"));
         };
@@ -696,7 +695,13 @@ fn serve<R: Net + Clock + RandomSource, E: Sink>(
     let mut server = WebServer::new(rt, alloc, site, options, keymap)?;
     let address = SocketAddr::new(options.listen, options.port.get());
     let _ = faults.write_line(Serving(address));
-    let mut log = WebLog::new(rt, alloc, faults)?;
+    let lines = NonBlockingLog::new(rt, alloc, STDERR, faults)?;
+    let mut log = WebLog {
+        clock: rt,
+        alloc,
+        lines,
+        told: 0,
+    };
     take_turns(rt, &mut server, &mut log)
 }
 
