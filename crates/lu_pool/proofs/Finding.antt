@@ -1,13 +1,14 @@
 -- What `position` finds.
 use Rattle.std.proofs.Common.{◌≡◌, ℕ, zero, suc, ◌+◌, ◌<◌, ◌≤◌, Bool, true, false, cond, ltb, List, [], ◌∷◌, length, Option, None, Some, Err, refl, sym, ap, ◌∙◌, arith}
-use Rattle.std.specs.Prelude.{find, position, slice_get, is_none, IfOk, IfErr}
+use Rattle.std.specs.Prelude.{find, position, slice_get, IfOk, IfErr}
 use Rattle.std.specs.Option.{ok_or}
 use Rattle.std.specs.List.{position_or_len}
 use Rattle.std.specs.Str.{bytes_eq}
-use Rattle.std.proofs.lemmas.Bool.{ltb-true, ltb-false}
+use Rattle.std.proofs.lemmas.Bool.{false≢true, ltb-true, ltb-false}
+use Rattle.tn3270e_msg.specs.declared.reply.Reason.{Reason}
 use Rattle.lu_pool.specs.declared.entry.Entry.{Entry}
-use Rattle.lu_pool.specs.Pool.{entry}
-use Rattle.lu_pool.specs.Asking.{answer_to, answer_to_lu, IsFreePlace, device_in_use, inv_name}
+use Rattle.lu_pool.specs.Pool.{entry, entry_of, is_free}
+use Rattle.lu_pool.specs.Asking.{answer_to, answer_to_lu, refusal, IsFreePlace, device_in_use, inv_name}
 
 -- the first element that passes stands at this place
 pub record Finds {X : Type 0} (p : X → Bool) (xs : List X) (place : ℕ) : Type 0 where
@@ -86,41 +87,47 @@ none_by p xs false e h = none_at p xs (ltb-false _ _ e)
 pub finds_none : {X : Type 0} (p : X → Bool) (xs : List X) → position p xs ≡ None → FindsNone p xs
 finds_none p xs h = none_by p xs _ refl h
 
-pub no_holder : (at : Entry) (holder : Option ℕ) → at.holder ≡ holder → is_none holder ≡ true → at ≡ entry at.lu None
-no_holder at None e h = ap (λ (holder : Option ℕ). entry at.lu holder) e
-no_holder at (Some conn) e h = absurd (cc)
+free_by : (lu : List ℕ) (holder : Option ℕ) (listed : Bool) → is_free (entry_of lu holder listed) ≡ true → entry_of lu holder listed ≡ entry lu None
+free_by lu None true h = refl
+free_by lu None false h = absurd (false≢true h)
+free_by lu (Some conn) listed h = absurd (false≢true h)
+
+-- a free entry is listed, and has no holder
+pub is_free_entry : (at : Entry) → is_free at ≡ true → at ≡ entry at.lu None
+is_free_entry at h = free_by at.lu at.holder at.listed h
 
 -- the first free entry answers one who names none
-pub any_granted : (pool : List Entry) (place : ℕ) → position (λ at. is_none at.holder) pool ≡ Some place → IsFreePlace pool (answer_to pool None) place
+pub any_granted : (pool : List Entry) (place : ℕ) → position is_free pool ≡ Some place → IsFreePlace pool (answer_to pool None) place
 any_granted pool place h =
-    let f = finds (λ (at : Entry). is_none at.holder) pool place h in
-    let free : f.item ≡ entry f.item.lu None = no_holder f.item f.item.holder refl f.passes in
+    let f = finds is_free pool place h in
+    let free : f.item ≡ entry f.item.lu None = is_free_entry f.item f.passes in
     record { lu = f.item.lu; free = f.at ∙ ap (λ (at : Entry). Some at) free; is_answer = rw f.found refl }
 
-pub any_refused : (pool : List Entry) → position (λ at. is_none at.holder) pool ≡ None → answer_to pool None ≡ Err device_in_use
-any_refused pool h = let f = finds_none (λ (at : Entry). is_none at.holder) pool h in rw f.found refl
+pub any_refused : (pool : List Entry) → position is_free pool ≡ None → answer_to pool None ≡ Err device_in_use
+any_refused pool h = let f = finds_none is_free pool h in rw f.found refl
 
--- the first place that nobody holds, or none, is the answer to one who names no LU
-pub any_place_by : (pool : List Entry) (place : Option ℕ) → place ≡ position (λ at. is_none at.holder) pool
+-- the first place that is free, or none, is the answer to one who names no LU
+pub any_place_by : (pool : List Entry) (place : Option ℕ) → place ≡ position is_free pool
     → IfOk (ok_or place device_in_use) (IsFreePlace pool (answer_to pool None)) × IfErr (ok_or place device_in_use) (λ reason. answer_to pool None ≡ Err reason)
 any_place_by pool None h = (tt, any_refused pool (sym h))
 any_place_by pool (Some place) h = (any_granted pool place (sym h), tt)
 
 -- the entry of an LU answers one who names it, if it is free
 pub named_granted : (pool : List Entry) (lu : List ℕ) (place : ℕ) → position (λ at. bytes_eq at.lu lu) pool ≡ Some place
-    → ((at : Entry) → slice_get pool place ≡ Some at → is_none at.holder ≡ true) → IsFreePlace pool (answer_to_lu pool (Some lu)) place
+    → ((at : Entry) → slice_get pool place ≡ Some at → is_free at ≡ true) → IsFreePlace pool (answer_to_lu pool (Some lu)) place
 named_granted pool lu place h free =
     let f = finds (λ (at : Entry). bytes_eq at.lu lu) pool place h in
-    let none : is_none f.item.holder ≡ true = free f.item f.at in
-    let is : f.item ≡ entry f.item.lu None = no_holder f.item f.item.holder refl none in
-    record { lu = f.item.lu; free = f.at ∙ ap (λ (at : Entry). Some at) is; is_answer = rw (f.found, none) refl }
+    let passes : is_free f.item ≡ true = free f.item f.at in
+    let is : f.item ≡ entry f.item.lu None = is_free_entry f.item passes in
+    record { lu = f.item.lu; free = f.at ∙ ap (λ (at : Entry). Some at) is; is_answer = rw (f.found, passes) refl }
 
-pub named_held : (pool : List Entry) (lu : List ℕ) (place : ℕ) → position (λ at. bytes_eq at.lu lu) pool ≡ Some place
-    → ((at : Entry) → slice_get pool place ≡ Some at → is_none at.holder ≡ false) → answer_to_lu pool (Some lu) ≡ Err device_in_use
-named_held pool lu place h held =
+-- and else refuses
+pub named_refused : (pool : List Entry) (lu : List ℕ) (place : ℕ) (reason : Reason) → position (λ at. bytes_eq at.lu lu) pool ≡ Some place
+    → ((at : Entry) → slice_get pool place ≡ Some at → (is_free at ≡ false) × (reason ≡ refusal at)) → answer_to_lu pool (Some lu) ≡ Err reason
+named_refused pool lu place reason h held =
     let f = finds (λ (at : Entry). bytes_eq at.lu lu) pool place h in
-    let some : is_none f.item.holder ≡ false = held f.item f.at in
-    rw (f.found, some) refl
+    let fails = held f.item f.at in
+    rw (f.found, fails.0, fails.1) refl
 
 pub named_absent : (pool : List Entry) (lu : List ℕ) → position (λ at. bytes_eq at.lu lu) pool ≡ None → answer_to_lu pool (Some lu) ≡ Err inv_name
 named_absent pool lu h = let f = finds_none (λ (at : Entry). bytes_eq at.lu lu) pool h in rw f.found refl

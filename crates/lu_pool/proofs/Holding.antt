@@ -1,6 +1,6 @@
 -- A pool is a map from LUs to the connections that hold them.
 use Rattle.std.proofs.Common.{◌≡◌, ◌≢◌, ℕ, zero, suc, Bool, true, false, cond, eqb, List, [], ◌∷◌, map, Option, None, Some, Result, Ok, Err, refl, sym, ap, ◌∙◌, arith, if◌then◌else◌}
-use Rattle.std.specs.Prelude.{find, slice_get, slice_set, is_none}
+use Rattle.std.specs.Prelude.{find, slice_get, slice_set}
 use Rattle.std.specs.List.{position_or_len}
 use Rattle.std.specs.Option.{option_map, option_and_then}
 use Rattle.std.specs.Str.{bytes_eq}
@@ -12,17 +12,17 @@ use Rattle.tn3270e_msg.specs.declared.reply.Reason.{Reason}
 use Rattle.tn3270e_msg.specs.Lu.{lu_of}
 use Rattle.tn3270e_msg.proofs.Letters.{name_is_read_as_itself}
 use Rattle.lu_pool.specs.declared.entry.Entry.{Entry}
-use Rattle.lu_pool.specs.Asking.{answer_to, answer_to_lu, device_in_use, named, unnamed, Frees, held_none, held}
-use Rattle.lu_pool.specs.Pool.{entry, is_held_by, HoldsNone, AreLus, ListedOnce, HeldOnce}
-use Rattle.lu_pool.proofs.Finding.{no_holder}
+use Rattle.lu_pool.specs.Asking.{answer_to, answer_to_lu, named, refusal, unnamed, Frees, held_none, held}
+use Rattle.lu_pool.specs.Pool.{entry, entry_of, is_free, is_held_by, with_holder, HoldsNone, AreLus, ListedOnce, HeldOnce}
+use Rattle.lu_pool.proofs.Finding.{is_free_entry}
 use Rattle.lu_pool.proofs.Listing.{passes_lu}
 use Rattle.lu_pool.proofs.Changes.{passes_held, passes_none}
 use Rattle.lu_pool.specs.Holders.{holder, granted_to, given_back}
-use Rattle.lu_pool.specs.HolderLaws.{IsSound, PoolsAreSound, StaysSoundFree, StaysSoundGranted, StaysSoundBack, NobodyHolds, AnswersWhatIsFree, AnswersNames, AnswersTheName, GrantIsHeld, OthersStay, OthersKeep, freed_for, BackIsFree, GrantsOneEntry, FreesOneEntry, GrantMakesPool, FreeMakesPool}
+use Rattle.lu_pool.specs.HolderLaws.{IsSound, PoolsAreSound, StaysSoundFree, StaysSoundGranted, StaysSoundBack, NobodyHolds, AnswersWhatIsFree, AnswersNames, AnswersTheName, AnswersWhatIsListed, GrantIsHeld, OthersStay, OthersKeep, freed_for, BackIsFree, GrantsOneEntry, FreesOneEntry, GrantMakesPool, FreeMakesPool}
 
 -- ---- what is found, and where
 
-found_passes : {X : Type 0} (p : X → Bool) (xs : List X) (x : X) → find p xs ≡ Some x → p x ≡ true
+pub found_passes : {X : Type 0} (p : X → Bool) (xs : List X) (x : X) → find p xs ≡ Some x → p x ≡ true
 found_passes p [] x h = absurd (cc)
 found_passes p (y ∷ xs) x h = by_test (p y) refl h (found_passes p xs x)
   where
@@ -31,11 +31,11 @@ found_passes p (y ∷ xs) x h = by_test (p y) refl h (found_passes p xs x)
     by_test false e k later = later k
 
 -- it stands somewhere
-found_stands : {X : Type 0} (p : X → Bool) (xs : List X) (x : X) → find p xs ≡ Some x → slice_get xs (position_or_len p xs) ≡ Some x
+pub found_stands : {X : Type 0} (p : X → Bool) (xs : List X) (x : X) → find p xs ≡ Some x → slice_get xs (position_or_len p xs) ≡ Some x
 found_stands p xs x h = sym (find_at p xs) ∙ h
 
 -- where one stands that passes, one is found
-stands_found : {X : Type 0} (p : X → Bool) (xs : List X) (place : ℕ) (x : X) → slice_get xs place ≡ Some x → p x ≡ true → (y : X) × (find p xs ≡ Some y)
+pub stands_found : {X : Type 0} (p : X → Bool) (xs : List X) (place : ℕ) (x : X) → slice_get xs place ≡ Some x → p x ≡ true → (y : X) × (find p xs ≡ Some y)
 stands_found p [] place x h e = absurd (cc)
 stands_found p (y ∷ xs) zero x h e =
     let same : y ≡ x = cc in
@@ -79,23 +79,23 @@ map_one f (y ∷ xs) (suc place) x h stays =
 
 -- ---- the changes of a pool, entry by entry
 
-abbrev is_of : List ℕ → Entry → Bool
+abbrev pub is_of : List ℕ → Entry → Bool
 is_of lu at = bytes_eq at.lu lu
 
 abbrev pub grant : ℕ → List ℕ → Entry → Entry
-grant conn lu at = if bytes_eq at.lu lu then entry at.lu (Some conn) else at
+grant conn lu at = if bytes_eq at.lu lu then with_holder (Some conn) at else at
 
 abbrev pub give : ℕ → Entry → Entry
-give conn at = if is_held_by conn at.holder then entry at.lu None else at
+give conn at = if is_held_by conn at.holder then with_holder None at else at
 
 abbrev pub free : Entry → Entry
-free at = entry at.lu None
+free at = with_holder None at
 
-is_itself : (lu : List ℕ) → bytes_eq lu lu ≡ true
+pub is_itself : (lu : List ℕ) → bytes_eq lu lu ≡ true
 is_itself lu = (bytes_eq-Decides lu lu).1 refl
 
 -- each keeps the LU
-changed_lu : (b : Bool) (at : Entry) (now : Option ℕ) → (if b then entry at.lu now else at).lu ≡ at.lu
+changed_lu : (b : Bool) (at : Entry) (now : Option ℕ) → (if b then with_holder now at else at).lu ≡ at.lu
 changed_lu true at now = refl
 changed_lu false at now = refl
 
@@ -117,41 +117,41 @@ record IsFree (pool : List Entry) (lu : List ℕ) : Type 0 where
   pub place : ℕ
   pub at : slice_get pool place ≡ Some (entry lu None)
 
-free_found : (pool : List Entry) (p : Entry → Bool) (at : Entry) (lu : List ℕ) → find p pool ≡ Some at → is_none at.holder ≡ true → at.lu ≡ lu → IsFree pool lu
-free_found pool p at lu h none same = record {
+free_found : (pool : List Entry) (p : Entry → Bool) (at : Entry) (lu : List ℕ) → find p pool ≡ Some at → is_free at ≡ true → at.lu ≡ lu → IsFree pool lu
+free_found pool p at lu h free same = record {
   place = position_or_len p pool;
-  at = found_stands p pool at h ∙ ap (λ (x : Entry). Some x) (no_holder at at.holder refl none ∙ ap (λ (x : List ℕ). entry x None) same);
+  at = found_stands p pool at h ∙ ap (λ (x : Entry). Some x) (is_free_entry at free ∙ ap (λ (x : List ℕ). entry x None) same);
 }
 
-free_unnamed : (pool : List Entry) (found : Option Entry) (lu : List ℕ) → find (λ (at : Entry). is_none at.holder) pool ≡ found → unnamed found ≡ Ok lu → IsFree pool lu
+free_unnamed : (pool : List Entry) (found : Option Entry) (lu : List ℕ) → find is_free pool ≡ found → unnamed found ≡ Ok lu → IsFree pool lu
 free_unnamed pool None lu h e = absurd (cc)
-free_unnamed pool (Some at) lu h e = free_found pool (λ (x : Entry). is_none x.holder) at lu h (found_passes (λ (x : Entry). is_none x.holder) pool at h) (cc)
+free_unnamed pool (Some at) lu h e = free_found pool is_free at lu h (found_passes is_free pool at h) (cc)
 
-free_granted : (pool : List Entry) (p : Entry → Bool) (at : Entry) (lu : List ℕ) (b : Bool) → find p pool ≡ Some at → is_none at.holder ≡ b
-    → ◌≡◌ {A = Result (List ℕ) Reason} (if b then Ok at.lu else Err device_in_use) (Ok lu) → IsFree pool lu
+free_granted : (pool : List Entry) (p : Entry → Bool) (at : Entry) (lu : List ℕ) (b : Bool) → find p pool ≡ Some at → is_free at ≡ b
+    → ◌≡◌ {A = Result (List ℕ) Reason} (if b then Ok at.lu else Err (refusal at)) (Ok lu) → IsFree pool lu
 free_granted pool p at lu true h e k = free_found pool p at lu h e (cc)
 free_granted pool p at lu false h e k = absurd (cc)
 
 free_named : (pool : List Entry) (p : Entry → Bool) (found : Option Entry) (lu : List ℕ) → find p pool ≡ found → named found ≡ Ok lu → IsFree pool lu
 free_named pool p None lu h e = absurd (cc)
-free_named pool p (Some at) lu h e = free_granted pool p at lu (is_none at.holder) h refl e
+free_named pool p (Some at) lu h e = free_granted pool p at lu (is_free at) h refl e
 
 free_read : (pool : List Entry) (read : Option (List ℕ)) (lu : List ℕ) → answer_to_lu pool read ≡ Ok lu → IsFree pool lu
 free_read pool None lu h = absurd (cc)
 free_read pool (Some name) lu h = free_named pool (is_of name) (find (is_of name) pool) lu refl h
 
 answer_free : (pool : List Entry) (name : Option (List ℕ)) (lu : List ℕ) → answer_to pool name ≡ Ok lu → IsFree pool lu
-answer_free pool None lu h = free_unnamed pool (find (λ (at : Entry). is_none at.holder) pool) lu refl h
+answer_free pool None lu h = free_unnamed pool (find is_free pool) lu refl h
 answer_free pool (Some name) lu h = free_read pool (lu_of name) lu h
 
 -- and it is of the name that was asked for
-asked_granted : (at : Entry) (lu : List ℕ) (b : Bool) → ◌≡◌ {A = Result (List ℕ) Reason} (if b then Ok at.lu else Err device_in_use) (Ok lu) → at.lu ≡ lu
+asked_granted : (at : Entry) (lu : List ℕ) (b : Bool) → ◌≡◌ {A = Result (List ℕ) Reason} (if b then Ok at.lu else Err (refusal at)) (Ok lu) → at.lu ≡ lu
 asked_granted at lu true k = cc
 asked_granted at lu false k = absurd (cc)
 
 asked_named : (pool : List Entry) (name : List ℕ) (found : Option Entry) (lu : List ℕ) → find (is_of name) pool ≡ found → named found ≡ Ok lu → lu ≡ name
 asked_named pool name None lu h e = absurd (cc)
-asked_named pool name (Some at) lu h e = sym (asked_granted at lu (is_none at.holder) e) ∙ passes_lu at.lu name (found_passes (is_of name) pool at h)
+asked_named pool name (Some at) lu h e = sym (asked_granted at lu (is_free at) e) ∙ passes_lu at.lu name (found_passes (is_of name) pool at h)
 
 asked_read : (pool : List Entry) (name lu : List ℕ) (read : Option (List ℕ)) → read ≡ Some name → answer_to_lu pool read ≡ Ok lu → lu ≡ name
 asked_read pool name lu None e h = absurd (cc)
@@ -227,6 +227,9 @@ answers_what_is_free pool name lu sound h =
     let entries : found.0 ≡ entry lu None = cc in
     ap (option_and_then (λ (at : Entry). at.holder)) found.1 ∙ ap (λ (x : Entry). x.holder) entries
 
+pub answers_what_is_listed : AnswersWhatIsListed
+answers_what_is_listed pool name lu h = let is = answer_free pool name lu h in (is.place, None, is.at)
+
 pub answers_names : AnswersNames
 answers_names pool name lu sound h =
     let is = answer_free pool name lu h in
@@ -238,12 +241,12 @@ pub pools_are_sound : PoolsAreSound
 pools_are_sound pool is = record { are_lus = is.are_lus; once = is.listed_once }
 
 -- what stood where an entry stands now
-stood : (f : Entry → Entry) (keeps : (at : Entry) → (f at).lu ≡ at.lu) (before : Option Entry) (now : Entry) → option_map f before ≡ Some now
+pub stood : (f : Entry → Entry) (keeps : (at : Entry) → (f at).lu ≡ at.lu) (before : Option Entry) (now : Entry) → option_map f before ≡ Some now
     → (at : Entry) × (before ≡ Some at) × (at.lu ≡ now.lu)
 stood f keeps None now h = absurd (cc)
 stood f keeps (Some at) now h = (at, refl, sym (keeps at) ∙ (let same : f at ≡ now = cc in ap (λ (x : Entry). x.lu) same))
 
-stays_sound : (f : Entry → Entry) (pool : List Entry) → ((at : Entry) → (f at).lu ≡ at.lu) → IsSound pool → IsSound (map f pool)
+pub stays_sound : (f : Entry → Entry) (pool : List Entry) → ((at : Entry) → (f at).lu ≡ at.lu) → IsSound pool → IsSound (map f pool)
 stays_sound f pool keeps sound = record { are_lus = names; once = apart }
   where
     was : (place : ℕ) (now : Entry) → slice_get (map f pool) place ≡ Some now → (at : Entry) × (slice_get pool place ≡ Some at) × (at.lu ≡ now.lu)
@@ -302,9 +305,9 @@ back_stays : (pool : List Entry) (conn : ℕ) → ((place : ℕ) (at : Entry) �
 back_stays pool conn none = map_none (give conn) pool (λ place at k. give_stays conn at (none place at k))
 
 back_sets : (pool : List Entry) (conn place : ℕ) (at : Entry) → HeldOnce pool → slice_get pool place ≡ Some at → is_held_by conn at.holder ≡ true
-    → given_back conn pool ≡ slice_set pool place (entry at.lu None)
+    → given_back conn pool ≡ slice_set pool place (with_holder None at)
 back_sets pool conn place at once stands passes =
-    let now : give conn at ≡ entry at.lu None = rw passes refl in
+    let now : give conn at ≡ with_holder None at = rw passes refl in
     let others = held_elsewhere pool conn place at once stands passes in
     map_one (give conn) pool place at stands (λ other there differs k. give_stays conn there (others other there differs k))
     ∙ ap (slice_set pool place) now
@@ -323,22 +326,22 @@ frees_one_entry pool conn once = by_found (find held_here pool) refl
         let place : ℕ = position_or_len held_here pool in
         let stands : slice_get pool place ≡ Some at = found_stands held_here pool at h in
         let passes : is_held_by conn at.holder ≡ true = found_passes held_here pool at h in
-        held place at.lu (stands ∙ ap (λ (x : Entry). Some x) (passes_held conn at passes)) (back_sets pool conn place at once stands passes)
+        held place at.lu at.listed (stands ∙ ap (λ (x : Entry). Some x) (passes_held conn at passes)) (back_sets pool conn place at once stands passes)
 
 -- who holds none stands nowhere
 held_nowhere : (pool : List Entry) (conn : ℕ) → HoldsNone pool conn → (place : ℕ) (at : Entry) → slice_get pool place ≡ Some at → is_held_by conn at.holder ≡ false
 held_nowhere pool conn none place at h =
-    false_from_ne_true (is_held_by conn at.holder) (λ e. none at.lu (place, h ∙ ap (λ (x : Entry). Some x) (passes_held conn at e)))
+    false_from_ne_true (is_held_by conn at.holder) (λ e. none at.lu (place, at.listed, h ∙ ap (λ (x : Entry). Some x) (passes_held conn at e)))
 
 pub free_makes_pool : FreeMakesPool
 free_makes_pool old new conn once (held_none none same) = same ∙ sym (back_stays old conn (held_nowhere old conn none))
-free_makes_pool old new conn once (held place lu at becomes) =
-    becomes ∙ sym (back_sets old conn place (entry lu (Some conn)) once at (eq-eqb conn conn refl))
+free_makes_pool old new conn once (held place lu listed at becomes) =
+    becomes ∙ sym (back_sets old conn place (entry_of lu (Some conn) listed) once at (eq-eqb conn conn refl))
 
 pub back_is_free : BackIsFree
 back_is_free pool conn lu = holder_after (give conn) pool lu (give_lu conn) ∙ by_found (find (is_of lu) pool)
   where
-    by_test : (b : Bool) (at : Entry) → (if b then entry at.lu None else at).holder ≡ (if b then None else at.holder)
+    by_test : (b : Bool) (at : Entry) → (if b then with_holder None at else at).holder ≡ (if b then None else at.holder)
     by_test true at = refl
     by_test false at = refl
 

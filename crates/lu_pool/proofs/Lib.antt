@@ -3,4 +3,5 @@ pub mod Changes
 pub mod Listing
 pub mod Holding
 pub mod Freeing
+pub mod Renewal
 mod FaultLists

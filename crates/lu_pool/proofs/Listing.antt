@@ -11,7 +11,7 @@ use Rattle.tn3270e_msg.specs.Lu.{is_lu}
 use Rattle.lu_pool.specs.declared.entry.Entry.{Entry}
 use Rattle.lu_pool.specs.declared.fault.PoolFault.{PoolFault}
 use Rattle.lu_pool.specs.declared.fault.PoolFault.TheVariants.{BadName, Twice, BadCount, Memory}
-use Rattle.lu_pool.specs.Pool.{entry, IsCount, IsPool, AreLus, ListedOnce}
+use Rattle.lu_pool.specs.Pool.{entry, listed_in, IsCount, IsPool, AreLus, ListedOnce}
 use Rattle.std.specs.Prelude.{String}
 use Rattle.std.specs.String.{string_bytes}
 use Rattle.std.proofs.lemmas.Option.{slice_get_read}
@@ -127,13 +127,21 @@ each_free : (entries : List Entry) → entries ≡ map (λ (at : Entry). entry a
 each_free entries free place at h =
     free_entry at (slice_get entries place) (sym h ∙ ap (λ (xs : List Entry). slice_get xs place) free ∙ slice_get-map (λ (x : Entry). entry x.lu None) entries place)
 
+-- each of them is listed
+listed_each : (pool : List Entry) → listed_in (map (λ (at : Entry). entry at.lu None) pool) ≡ map (λ (at : Entry). entry at.lu None) pool
+listed_each [] = refl
+listed_each (at ∷ pool) = ap (λ (xs : List Entry). entry at.lu None ∷ xs) (listed_each pool)
+
+all_listed : (entries : List Entry) → entries ≡ map (λ (at : Entry). entry at.lu None) entries → length (listed_in entries) ≡ length entries
+all_listed entries free = ap length (ap listed_in free ∙ listed_each entries ∙ sym free)
+
 -- all texts are listed
 pub listed_pool : (read : List (Option (List ℕ))) (place : ℕ) (entries : List Entry) → IsCount (length read) → IsListed read place entries → length read ≤ place → IsPool entries
 listed_pool read place entries count l all =
     let whole : read ≡ map (λ (at : Entry). Some at.lu) entries = sym (take_all place read all) ∙ l.lus in
     let long : length read ≡ length entries = ap length whole ∙ length-map entries (λ (at : Entry). Some at.lu) in
     record {
-      count = rw (← long) count;
+      count = rw (all_listed entries l.free, ← long) count;
       are_lus = l.are_lus;
       listed_once = l.listed_once;
       held_once = λ p q conn at there h k e f. absurd (let none = each_free entries l.free p at h in cc);

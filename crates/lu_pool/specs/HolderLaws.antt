@@ -1,10 +1,10 @@
 -- What is always true of a pool (our profile): it is a map from LUs to the connections that hold them.
-use Rattle.std.specs.Prelude.{◌≡◌, ◌≢◌, ℕ, List, Option, Some, None, Ok, IsTrue, if◌then◌else◌}
+use Rattle.std.specs.Prelude.{◌≡◌, ◌≢◌, ◌↔◌, ℕ, List, Option, Some, None, Ok, IsTrue, if◌then◌else◌}
 use Rattle.tn3270e_msg.specs.Lu.{is_lu}
 use Rattle.lu_pool.specs.declared.entry.Entry.{Entry}
 use Rattle.lu_pool.specs.Asking.{answer_to, Grants, Frees}
-use Rattle.lu_pool.specs.Pool.{AreLus, ListedOnce, HeldOnce, IsPool, is_held_by}
-use Rattle.lu_pool.specs.Holders.{holder, granted_to, given_back, all_free}
+use Rattle.lu_pool.specs.Pool.{AreLus, ListedOnce, HeldOnce, Holds, Lists, IsPool, is_held_by}
+use Rattle.lu_pool.specs.Holders.{holder, granted_to, given_back, all_free, renewed}
 
 -- holds if the entries have LU names, each once
 pub record IsSound (pool : List Entry) : Type 0 where
@@ -29,6 +29,10 @@ StaysSoundGranted = (pool : List Entry) (conn : ℕ) (lu : List ℕ) → IsSound
 abbrev pub StaysSoundBack : Type 0
 StaysSoundBack = (pool : List Entry) (conn : ℕ) → IsSound pool → IsSound (given_back conn pool)
 
+-- A sound pool stays sound when a newer one takes its place.
+abbrev pub StaysSoundRenewed : Type 0
+StaysSoundRenewed = (newer pool : List Entry) → IsSound newer → IsSound pool → IsSound (renewed newer pool)
+
 -- ---- who holds what
 
 -- When all LUs are freed, no LU has a holder.
@@ -49,6 +53,11 @@ AnswersNames = (pool : List Entry) (name : Option (List ℕ)) (lu : List ℕ) �
 abbrev pub AnswersTheName : Type 0
 AnswersTheName = (pool : List Entry) (name lu : List ℕ) → IsTrue (is_lu name)
     → answer_to pool (Some name) ≡ Ok lu → lu ≡ name
+
+-- The LU with which a pool answers a request is listed.
+abbrev pub AnswersWhatIsListed : Type 0
+AnswersWhatIsListed = (pool : List Entry) (name : Option (List ℕ)) (lu : List ℕ) → answer_to pool name ≡ Ok lu
+    → Lists pool lu
 
 -- Once an LU is granted, the connection holds it.
 abbrev pub GrantIsHeld : Type 0
@@ -73,6 +82,15 @@ freed_for conn held_by = if is_held_by conn held_by then None else held_by
 abbrev pub BackIsFree : Type 0
 BackIsFree = (pool : List Entry) (conn : ℕ) (lu : List ℕ)
     → holder (given_back conn pool) lu ≡ freed_for conn (holder pool lu)
+
+-- When a newer pool takes a pool's place, nobody loses or gains an LU.
+abbrev pub RenewedHolds : Type 0
+RenewedHolds = (newer pool : List Entry) → IsSound pool → (conn : ℕ) (lu : List ℕ)
+    → Holds (renewed newer pool) conn lu ↔ Holds pool conn lu
+
+-- When a newer pool takes a pool's place, the LUs of the newer one are listed, and no other.
+abbrev pub RenewedLists : Type 0
+RenewedLists = (newer pool : List Entry) (lu : List ℕ) → Lists (renewed newer pool) lu ↔ Lists newer lu
 
 -- ---- as the calls have it
 

@@ -1,9 +1,9 @@
 //! The index of an entry in a pool.
-ghost use Rattle.std.specs.Prelude.{◌≡◌, Some, None, Err, IfOk, IfErr, is_none, position, slice_get, slice_set, ◌<◌, vec_len};
+ghost use Rattle.std.specs.Prelude.{◌≡◌, Some, None, Err, IfOk, IfErr, position, slice_get, slice_set, ◌<◌, vec_len};
 ghost use Rattle.std.specs.Option.{option_copied};
 ghost use Rattle.std.specs.Str.{bytes_eq};
 ghost use Rattle.lu_pool.specs.declared.entry.Entry.{Entry};
-ghost use Rattle.lu_pool.specs.Pool.{entry, is_held_by};
+ghost use Rattle.lu_pool.specs.Pool.{is_free, is_held_by, with_holder};
 ghost use Rattle.lu_pool.specs.Asking.{answer_to, answer_to_lu, IsFreePlace};
 ghost use Rattle.lu_pool.specs.Holders.{all_free};
 
@@ -17,9 +17,9 @@ pub fn place_of(entries: &[Entry], lu: Lu) -> Option<usize>
     entries.iter().position(|entry| entry.is_of(lu))
 }
 
-/// The index of the first entry whose LU no connection holds.
+/// The index of the first entry whose LU is free.
 pub fn free_place(entries: &[Entry]) -> Option<usize>
-    ensures { result ≡ position (λ at. is_none at.holder) entries.now }
+    ensures { result ≡ position is_free entries.now }
 {
     entries.iter().position(|entry| entry.is_free())
 }
@@ -32,7 +32,7 @@ pub fn place_held_by(entries: &[Entry], conn: usize) -> Option<usize>
 }
 
 /// The index of the entry to be granted to a connection that asks for this name, or for any LU if there is none. The
-/// error is INV-NAME if the pool has no such LU, and DEVICE-IN-USE if that LU is held, or if each is.
+/// error is DEVICE-IN-USE if that LU is held, or if each is, and else INV-NAME.
 pub fn place_for(entries: &[Entry], name: Option<&[u8]>) -> Result<usize, Reason>
     ensures granted { IfOk result (IsFreePlace entries.now (answer_to entries.now (option_copied name.entry))) }
     ensures refused { IfErr result (λ reason. answer_to entries.now (option_copied name.entry) ≡ Err reason) }
@@ -51,7 +51,7 @@ fn any_place(entries: &[Entry]) -> Result<usize, Reason>
     free_place(entries).ok_or(Reason::DEVICE_IN_USE)
 }
 
-/// The index of the entry with this name, or INV-NAME if there is none, or DEVICE-IN-USE if it is held.
+/// The index of the free entry with this name; or DEVICE-IN-USE if it is held, and else INV-NAME.
 fn place_named(entries: &[Entry], name: &[u8]) -> Result<usize, Reason>
     ensures granted { IfOk result (IsFreePlace entries.now (answer_to entries.now (Some name.now))) }
     ensures refused { IfErr result (λ reason. answer_to entries.now (Some name.now) ≡ Err reason) }
@@ -62,7 +62,7 @@ fn place_named(entries: &[Entry], name: &[u8]) -> Result<usize, Reason>
     }
 }
 
-/// The index of this LU's entry, or INV-NAME if there is none, or DEVICE-IN-USE if it is held.
+/// The index of this LU's entry, if it is free; or DEVICE-IN-USE if it is held, and else INV-NAME.
 fn place_of_lu(entries: &[Entry], lu: Lu) -> Result<usize, Reason>
     ensures granted { IfOk result (IsFreePlace entries.now (answer_to_lu entries.now (Some lu))) }
     ensures refused { IfErr result (λ reason. answer_to_lu entries.now (Some lu) ≡ Err reason) }
@@ -72,7 +72,7 @@ fn place_of_lu(entries: &[Entry], lu: Lu) -> Result<usize, Reason>
             if entries[place].is_free() {
                 Ok(place)
             } else {
-                Err(Reason::DEVICE_IN_USE)
+                Err(entries[place].refusal())
             }
         }
         None => Err(Reason::INV_NAME),
@@ -83,18 +83,19 @@ fn place_of_lu(entries: &[Entry], lu: Lu) -> Result<usize, Reason>
 pub fn set_holder(entries: &mut Vec<Entry>, place: usize, holder: Option<usize>) -> Lu
     requires { place < vec_len entries.old }
     ensures lu { (at : Entry) → slice_get entries.old.items place ≡ Some at → result ≡ at.lu }
-    ensures changed { entries.new.items ≡ slice_set entries.old.items place (entry result holder) }
+    ensures changed { (at : Entry) → slice_get entries.old.items place ≡ Some at
+        → entries.new.items ≡ slice_set entries.old.items place (with_holder holder at) }
 {
-    let lu = entries[place].lu;
-    entries[place] = Entry { lu, holder };
-    lu
+    let entry = entries[place];
+    entries[place] = entry.with_holder(holder);
+    entry.lu
 }
 
-/// Sets all LUs free.
+/// Takes all LUs from their holders.
 pub fn free_each(entries: &mut [Entry])
     ensures { entries.new ≡ all_free entries.old }
 {
     for entry in entries.iter_mut() {
-        *entry = entry.freed();
+        *entry = entry.with_holder(None);
     }
 }

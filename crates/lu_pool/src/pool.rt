@@ -3,22 +3,24 @@ ghost use Rattle.std.specs.Prelude.{◌≡◌, ◌≢◌, ◌↔◌, ◌⊎◌, 
 ghost use Rattle.std.specs.Option.{option_copied};
 ghost use Rattle.tn3270e_msg.specs.Lu.{is_lu, lu_of};
 ghost use Rattle.lu_pool.specs.Asking.{answer_to, Grants, Frees};
-ghost use Rattle.lu_pool.specs.Holders.{granted_to, given_back, all_free};
-ghost use Rattle.lu_pool.specs.Pool.{Holds, HoldsNone, OneHolder, OneLu, IsCount, IsPool, entry};
+ghost use Rattle.lu_pool.specs.Holders.{granted_to, given_back, all_free, renewed};
+ghost use Rattle.lu_pool.specs.Pool.{Holds, HoldsNone, Lists, OneHolder, OneLu, IsCount, IsPool, entry};
 ghost use Rattle.lu_pool.specs.Reading.{parsed_names, IsReadFrom, IsRight, IsFirstFault, IsTextFault, IsNew};
 
 use crate::entry::Entry;
 use crate::fault::PoolFault;
 use crate::places::{free_each, place_for, place_held_by, place_of, set_holder};
+use crate::renewing::renewed_entries;
 use std::alloc::{AllocError, Global};
 use std::marker::Model;
 use tn3270e_msg::{Lu, Reason};
 
-/// The most LUs that a pool can have (our profile).
+/// The most LUs that a pool can list (our profile).
 const MOST_LUS: usize = 64;
 
-/// A host's logical units, 1 to 64, and which connection holds which. Contracts see it as the list of
-/// its entries, each an LU and the number of its holder.
+/// A host's logical units, and which connection holds which. It lists 1 to 64, and has others that connections still
+/// hold though a newer list of names hasn't got them. Contracts see it as the list of its entries, each an LU, the
+/// number of its holder, and whether it is listed.
 #[derive(Drop)]
 pub struct Pool {
     entries: Vec<Entry>,
@@ -60,8 +62,8 @@ impl Pool {
     }
 
     /// Grants an LU to a connection, which must not hold one (see [`Pool::lu_held_by`]): the LU with this name or,
-    /// without a name, the first free one. Fails with INV-NAME if the pool has no such LU, and with DEVICE-IN-USE if
-    /// that LU is held, or if each is (RFC 1647, section 3; our profile). Then nothing changes.
+    /// without a name, the first free one. Fails with DEVICE-IN-USE if that LU is held, or if each is, and else with
+    /// INV-NAME if the pool doesn't list that LU (RFC 1647, section 3; our profile). Then nothing changes.
     pub fn ask(&mut self, conn: usize, name: Option<&[u8]>) -> Result<Lu, Reason>
         requires { HoldsNone self.old conn }
         ensures answer { result ≡ answer_to self.old (option_copied name.entry) }
@@ -107,7 +109,26 @@ impl Pool {
         free_each(&mut self.entries);
     }
 
-    /// Law: a pool has 1 to 64 LUs, each listed once, and no connection holds two of them.
+    /// Puts a newer pool's LUs in place of this one's. Each connection keeps the LU that it holds. If the newer pool
+    /// hasn't got that, it isn't listed any more: once its connection gives it back, a request for it fails with
+    /// INV-NAME. The newer pool's own holders don't count. If memory is refused, nothing has changed.
+    pub fn renew(&mut self, newer: &Pool) -> Result<(), AllocError>
+        ensures renewed { OnOk result (self.new ≡ renewed newer.now self.old) }
+        ensures unchanged { OnErr result (self.new ≡ self.old) }
+        // Afterwards each connection holds what it held, and the newer pool's LUs are listed.
+        ensures held { (conn : ℕ) (lu : List ℕ) → Holds self.new conn lu ↔ Holds self.old conn lu }
+        ensures listed { OnOk result ((lu : List ℕ) → Lists self.new lu ↔ Lists newer.now lu) }
+        ensures one_holder { OneHolder self.new }
+        ensures one_lu { OneLu self.new }
+        ensures is_pool { IsPool self.new }
+    {
+        let alloc = *self.entries.allocator();
+        let entries = renewed_entries(alloc, &newer.entries, &self.entries)?;
+        self.entries = entries;
+        Ok(())
+    }
+
+    /// Law: a pool lists 1 to 64 LUs, has each LU once, and no connection holds two of them.
     pub fn lus_are_listed_once(&self)
         ensures { IsPool self.now }
     {
@@ -126,18 +147,22 @@ impl Pool {
     }
 }
 
-/// Whether a pool can have this number of LUs: 1 to 64.
+/// Whether a pool can list this number of LUs: 1 to 64.
 pub(crate) fn is_count(count: usize) -> bool
     ensures { IsTrue result ↔ IsCount count }
 {
     (1..=MOST_LUS).contains(&count)
 }
 
-/// Appends an entry with this LU that no connection holds.
+/// Appends the entry of this LU, which is listed, and which no connection holds.
 fn add_free(entries: &mut Vec<Entry>, lu: Lu) -> Result<(), AllocError>
     ensures { OnOk result (entries.new.items ≡ entries.old.items ++ entry lu None ∷ []) }
 {
-    entries.push(Entry { lu, holder: None })?;
+    entries.push(Entry {
+        lu,
+        holder: None,
+        listed: true,
+    })?;
     Ok(())
 }
 

@@ -1,4 +1,5 @@
-use Rattle.lu_pool.proofs.Holding.{pools_are_sound, stays_sound_free, stays_sound_granted, stays_sound_back, nobody_holds, answers_what_is_free, answers_names, answers_the_name, grant_is_held, others_stay, others_keep, back_is_free, grants_one_entry, frees_one_entry, grant_makes_pool, free_makes_pool}
+use Rattle.lu_pool.proofs.Holding.{pools_are_sound, stays_sound_free, stays_sound_granted, stays_sound_back, nobody_holds, answers_what_is_free, answers_names, answers_the_name, answers_what_is_listed, grant_is_held, others_stay, others_keep, back_is_free, grants_one_entry, frees_one_entry, grant_makes_pool, free_makes_pool}
+use Rattle.lu_pool.proofs.Renewal.{stays_sound_renewed, renewed_holds, renewed_lists}
 use Rattle.lu_pool.proofs.laws.the_pool_is_a_map.Goals as goal
 
 pub returns-clause-sound : goal.returns-clause-sound
@@ -48,3 +49,15 @@ returns-clause-grant_makes c = grant_makes_pool
 
 pub returns-clause-free_makes : goal.returns-clause-free_makes
 returns-clause-free_makes c = free_makes_pool
+
+pub returns-clause-sound_renewed : goal.returns-clause-sound_renewed
+returns-clause-sound_renewed c = stays_sound_renewed
+
+pub returns-clause-listed : goal.returns-clause-listed
+returns-clause-listed c = answers_what_is_listed
+
+pub returns-clause-renewed_holds : goal.returns-clause-renewed_holds
+returns-clause-renewed_holds c = renewed_holds
+
+pub returns-clause-renewed_lists : goal.returns-clause-renewed_lists
+returns-clause-renewed_lists c = renewed_lists

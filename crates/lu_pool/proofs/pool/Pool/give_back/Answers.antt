@@ -15,12 +15,12 @@ set_holder-requires c =
 pub invariant_of-self : goal.invariant_of-self
 invariant_of-self c =
     let f = finds (λ (at : Entry). is_held_by c.args.conn at.holder) c.deref.result.now c.in-Some.place (sym c.place_held_by.ensures ∙ c.in-Some.is) in
-    (after_free c.self.inside.entries.items c.in-Some.place c.args.conn c.set_holder.result c.set_holder.new.entries.items c.self.invariant (rw c.deref.ensures.value at f) c.set_holder.ensures.lu c.set_holder.ensures.changed).pool
+    (after_free c.self.inside.entries.items c.in-Some.place c.args.conn c.set_holder.new.entries.items c.self.invariant (rw c.deref.ensures.value at f) c.set_holder.ensures.changed).pool
 
 pub returns-in-Some : goal.returns-in-Some
 returns-in-Some c =
     let f = finds (λ (at : Entry). is_held_by c.args.conn at.holder) c.deref.result.now c.in-Some.place (sym c.place_held_by.ensures ∙ c.in-Some.is) in
-    let all = after_free c.self.inside.entries.items c.in-Some.place c.args.conn c.set_holder.result c.set_holder.new.entries.items c.self.invariant (rw c.deref.ensures.value at f) c.set_holder.ensures.lu c.set_holder.ensures.changed in
+    let all = after_free c.self.inside.entries.items c.in-Some.place c.args.conn c.set_holder.new.entries.items c.self.invariant (rw c.deref.ensures.value at f) c.set_holder.ensures.changed in
     rw (← c.self.view_is) (record {
       frees = all.frees;
       becomes = free_makes_pool c.self.inside.entries.items c.set_holder.new.entries.items c.args.conn c.self.invariant.held_once all.frees;
