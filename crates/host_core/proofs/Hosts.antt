@@ -7,13 +7,13 @@ use Rattle.lu_pool.specs.declared.entry.Entry.{Entry}
 use Rattle.panels.specs.Marked.{marked_field, marked_panel}
 use Rattle.panels.specs.Panel.{PanelParts, Panels}
 use Rattle.panels.specs.declared.panel.Field.{Field}
-use Rattle.host_core.specs.Connections.{service_of}
+use Rattle.host_core.specs.Connections.{panels_of, service_of}
 use Rattle.host_core.specs.declared.connection.Service.{Service as ServiceValue}
 use Rattle.host_core.specs.Session.{agreed_lu}
-use Rattle.host_core.specs.Sound.{HoldsJust, IsShown, IsSound, NobodyShares, OthersHold}
+use Rattle.host_core.specs.Sound.{HoldsJust, IsServed, IsShown, IsSound, NobodyShares, OthersHold}
 use Rattle.host_core.specs.declared.terminals.Terminals.{Terminals}
 use Rattle.host_core.specs.declared.terminals.Terminals.TheVariants.{Waiting, Any, Verified}
-use Rattle.host_core.specs.State.{Service, Connection, Host, Sessions, counted, most_connections, served_by, unused, connection_at, state_at, lu_of, phase_of, phase_agreed}
+use Rattle.host_core.specs.State.{Service, Connection, Host, Sessions, counted, most_connections, no_panels, served_by, unused, connection_at, state_at, lu_of, phase_of, phase_agreed}
 use Rattle.host_core.specs.declared.phase.Phase.TheVariants as phase
 use Rattle.host_core.specs.Reports.{Reports}
 
@@ -42,16 +42,16 @@ at_each P number connections connection below here others other = by_test (other
 -- ---- hosts
 
 pub changed_sound : (number : ℕ) (pool : List Entry) (connection : Connection) (host : Host) → number < most_connections → IsSound host
-    → HoldsJust number pool (lu_of connection.service) → OthersHold number host.pool pool → IsShown host.panels connection.service
+    → HoldsJust number pool (lu_of connection.service) → OthersHold number host.pool pool → IsServed host.terminals connection
     → IsSound (changed number pool connection host)
-changed_sound number pool connection host below sound here others shown =
+changed_sound number pool connection host below sound here others served =
     let inside : number < length host.connections = subst (λ (n : ℕ). number < n) (sym sound.connections) below in
     record {
       connections = length-set host.connections number connection ∙ sound.connections;
       sessions = sound.sessions;
       held = at_each (λ n l. n < most_connections → HoldsJust n pool (lu_of l.service)) number host.connections connection inside (λ here_below. here)
           (λ other ne. λ other_below. λ lu. (λ h. (sound.held other other_below lu).0 ((others other lu ne).0 h), λ e. (others other lu ne).1 ((sound.held other other_below lu).1 e)));
-      shown = at_each (λ n l. IsShown host.panels l.service) number host.connections connection inside shown (λ other ne. sound.shown other);
+      served = at_each (λ n l. IsServed host.terminals l) number host.connections connection inside served (λ other ne. sound.served other);
       marked = sound.marked;
     }
 
@@ -61,7 +61,7 @@ counted_sound number host sound = record {
   connections = sound.connections;
   sessions = length-set host.sessions.latest number host.sessions.next ∙ sound.sessions;
   held = sound.held;
-  shown = sound.shown;
+  served = sound.served;
   marked = sound.marked;
 }
 
@@ -105,8 +105,15 @@ pub is_free : (number : ℕ) (host now : Host) (connection : Connection) → hos
 is_free number host now connection same at free =
     ap (λ (l : Connection). l.service) at ∙ free_phase (state_at number host) (subst (λ (h : Host). phase_of (state_at number h) ≡ phase.Free) (sym same) free)
 
-pub shown_here : (number : ℕ) (old : Connection) (host : Host) → IsSound host → old ≡ connection_at number host → IsShown host.panels old.service
-shown_here number old host sound is = subst (λ (l : Connection). IsShown host.panels l.service) (sym is) (sound.shown number)
+pub served_here : (number : ℕ) (old : Connection) (host : Host) → IsSound host → old ≡ connection_at number host → IsServed host.terminals old
+served_here number old host sound is = subst (IsServed host.terminals) (sym is) (sound.served number)
+
+-- a line with the same state and panels is served likewise
+pub served_as : (terminals : Terminals) (old new : Connection) → new.panels ≡ old.panels → new.service ≡ old.service → IsServed terminals old → IsServed terminals new
+served_as terminals old new panels service served = record {
+  shown = subst (λ (p : Panels). IsShown p new.service) (sym panels) (subst (IsShown old.panels) (sym service) served.shown);
+  marked = subst (λ (p : Panels). served_by terminals p ≡ p) (sym panels) served.marked;
+}
 
 other_default : (connections : List Connection) (number : ℕ) (one other : Connection) → number < length connections → get_or connections number one ≡ get_or connections number other
 other_default [] number one other below = absurd (omega arith)
@@ -163,6 +170,32 @@ one_more_unused index old connections connection is below so_far =
     let next : index + 1 ≡ suc index = omega arith in
     ap (λ ls. set ls index connection) so_far ∙ one_put index old connection is below ∙ sym (ap (λ n. replicate n unused ++ drop n old) next)
 
+none_marked : (terminals : Terminals) → served_by terminals no_panels ≡ no_panels
+none_marked Waiting = refl
+none_marked Any = refl
+none_marked Verified = refl
+
+pub unused_served : (terminals : Terminals) → IsServed terminals unused
+unused_served terminals = record { shown = tt; marked = none_marked terminals }
+
+-- a closed number is served, and so is one that is free
+pub closed_served : (terminals : Terminals) (connection : Connection) → connection.panels ≡ no_panels → IsShown connection.panels connection.service → IsServed terminals connection
+closed_served terminals connection none shown = record {
+  shown = shown;
+  marked = subst (λ (panels : Panels). served_by terminals panels ≡ panels) (sym none) (none_marked terminals);
+}
+
+-- newer panels and a newer pool leave a host sound, where nobody loses or gains an LU
+pub reloaded_sound : (panels : Panels) (pool : List Entry) (host : Host) → IsSound host → ((conn : ℕ) (lu : List ℕ) → Holds pool conn lu ↔ Holds host.pool conn lu)
+    → served_by host.terminals panels ≡ panels → IsSound (record host { panels = panels; pool = pool })
+reloaded_sound panels pool host sound held marked = record {
+  connections = sound.connections;
+  sessions = sound.sessions;
+  held = λ number below lu. (λ h. (sound.held number below lu).0 ((held number lu).0 h), λ e. (held number lu).1 ((sound.held number below lu).1 e));
+  served = sound.served;
+  marked = marked;
+}
+
 -- a host whose numbers are all free, where nobody holds an LU
 pub unused_sound : (panels : Panels) (pool : List Entry) (connections : List Connection) (sessions : Sessions) (terminals : Terminals) → connections ≡ replicate most_connections unused
     → length sessions.latest ≡ most_connections → ((number : ℕ) → HoldsNone pool number) → served_by terminals panels ≡ panels
@@ -173,7 +206,7 @@ unused_sound panels pool connections sessions terminals are count nobody marked 
       connections = ap length are ∙ all_unused most_connections;
       sessions = count;
       held = λ number below. subst (λ (l : Connection). HoldsJust number pool (lu_of l.service)) (sym (there number)) (held_by_none number pool (nobody number));
-      shown = λ number. subst (λ (l : Connection). IsShown panels l.service) (sym (there number)) tt;
+      served = λ number. subst (IsServed terminals) (sym (there number)) (unused_served terminals);
       marked = marked;
     }
 
@@ -197,6 +230,6 @@ served_stay Verified panels = ap (λ all. record panels { panels = all }) (marke
 
 -- what is held of a line is held of its parts
 pub held_of_parts : (number : ℕ) (pool : List Entry) (now : Connection) (service : ServiceValue) (out : List ℕ) (reports : Reports) (held : Option (List ℕ))
-    → now ≡ record { service = service_of service; out = out; reports = reports } → lu_of (service_of service) ≡ held
+    → now ≡ record { service = service_of service; panels = panels_of service; out = out; reports = reports } → lu_of (service_of service) ≡ held
     → HoldsJust number pool (lu_of now.service) → HoldsJust number pool held
 held_of_parts number pool now service out reports held is same h = subst (HoldsJust number pool) (ap (λ (l : Connection). lu_of l.service) is ∙ same) h

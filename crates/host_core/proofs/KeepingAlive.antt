@@ -9,3 +9,10 @@ by_test false connection = refl
 
 pub service_stays : (connection : Connection) → (kept_alive connection).service ≡ connection.service
 service_stays connection = by_test (may_keep_alive connection) connection
+
+panels_by_test : (may : Bool) (connection : Connection) → (if may then with_nop connection else connection).panels ≡ connection.panels
+panels_by_test true connection = refl
+panels_by_test false connection = refl
+
+pub panels_stay : (connection : Connection) → (kept_alive connection).panels ≡ connection.panels
+panels_stay connection = panels_by_test (may_keep_alive connection) connection

@@ -12,7 +12,7 @@ use Rattle.datastream.specs.declared.inbound_part.Form.TheVariants as form
 use Rattle.lu_pool.specs.declared.entry.Entry.{Entry}
 use Rattle.lu_pool.specs.Asking.{answer_to}
 use Rattle.lu_pool.specs.Holders.{given_back, granted_if}
-use Rattle.lu_pool.specs.Pool.{entry, is_held_by}
+use Rattle.lu_pool.specs.Pool.{entry, entry_of, is_held_by, with_holder}
 use Rattle.shadow.specs.Belief.{Shadow}
 use Rattle.shadow.specs.declared.fault.HeardFault.{HeardFault}
 use Rattle.shadow.specs.declared.rule_break.RuleBreak.{RuleBreak}
@@ -51,7 +51,7 @@ use Rattle.host_core.specs.Rejections.{lu_asked}
 use Rattle.host_core.specs.declared.unheard.Unheard.TheVariants as unheards
 use Rattle.host_core.specs.Session.{Session, Pending, is_agreed}
 use Rattle.host_core.specs.Sound.{OthersHold}
-use Rattle.host_core.specs.State.{Service, Connection, Host, connection_at, session_at, state_at, unused, with_connection, with_reports}
+use Rattle.host_core.specs.State.{Service, Connection, Host, connection_at, panels_at, session_at, state_at, unused, with_connection, with_reports}
 use Rattle.host_core.specs.Takes.{Answers, HostStep, answered, believed, breaking, buffer_came, buffer_heard, clear_came, closed_by, data_came, dropping, freed_if, hears, if_answers, is_read_believed, is_unread, key_came, key_data_came, may_be_read, may_have_changed, most_restored, once_read, only_read, other_key_came, other_key_in, out_of_turn, paint_answered, paint_verdict_came, painted_over, quiet, read_verdict_came, response_came, restoring, rule_broken_by, second_key, second_key_data, sends_wrong, talked, talked_on, unbelieved, unheard_next, unless_broken, verdict_came, write_refused, refused}
 use Rattle.host_core.specs.declared.disbelief.Disbelief.{Disbelief}
 use Rattle.host_core.specs.declared.disbelief.Disbelief.TheVariants.{Contradicts, NoKey, Unreadable}
@@ -325,31 +325,37 @@ bytes_keep number old (byte ∷ bytes) new takes =
 
 -- ---- the pool has no new LU
 
+-- what a change makes of an entry, which has another holder at most
+abbrev ChangesHolder : (Entry → Entry) → Type 0
+ChangesHolder change = (one : Entry) → (holder : Option ℕ) × (change one ≡ with_holder holder one)
+
 -- the first entry has the LU, or it is in the rest
-lu_in_first : (change : Entry → Entry) → ((one : Entry) → (change one).lu ≡ one.lu) → (first : Entry) (rest : List Entry) (lu : List ℕ) → (HasLu (map change rest) lu → HasLu rest lu)
+lu_in_first : (change : Entry → Entry) → ChangesHolder change → (first : Entry) (rest : List Entry) (lu : List ℕ) → (HasLu (map change rest) lu → HasLu rest lu)
     → (place : ℕ) (holder : Option ℕ) → slice_get (change first ∷ map change rest) place ≡ Some (entry lu holder) → HasLu (first ∷ rest) lu
 lu_in_first change same first rest lu later zero holder is =
     let it : change first ≡ entry lu holder = cc in
-    let name : first.lu ≡ lu = sym (same first) ∙ ap (λ (e : Entry). e.lu) it in
-    (zero, first.holder, ap (λ (l : List ℕ). Some (entry l first.holder)) name)
+    let now : with_holder (same first).0 first ≡ entry lu holder = sym (same first).1 ∙ it in
+    let name : first.lu ≡ lu = ap (λ (e : Entry). e.lu) now in
+    let listed : first.listed ≡ true = ap (λ (e : Entry). e.listed) now in
+    (zero, first.holder, ap (λ (l : List ℕ). Some (entry_of l first.holder first.listed)) name ∙ ap (λ (b : Bool). Some (entry_of lu first.holder b)) listed)
 lu_in_first change same first rest lu later (suc place) holder is = let found = later (place, holder, is) in (suc found.0, found.1, found.2)
 
-lus_in_map : (change : Entry → Entry) → ((one : Entry) → (change one).lu ≡ one.lu) → (pool : List Entry) (lu : List ℕ) → HasLu (map change pool) lu → HasLu pool lu
+lus_in_map : (change : Entry → Entry) → ChangesHolder change → (pool : List Entry) (lu : List ℕ) → HasLu (map change pool) lu → HasLu pool lu
 lus_in_map change same [] lu has = has
 lus_in_map change same (first ∷ rest) lu has = lu_in_first change same first rest lu (lus_in_map change same rest lu) has.0 has.1 has.2
 
-lu_of_either : (b : Bool) (one other : Entry) (lu : List ℕ) → one.lu ≡ lu → other.lu ≡ lu → (if b then one else other).lu ≡ lu
-lu_of_either true one other lu is also = is
-lu_of_either false one other lu is also = also
+holder_of_either : (b : Bool) (holder : Option ℕ) (one : Entry) → (after : Option ℕ) × ((if b then with_holder holder one else one) ≡ with_holder after one)
+holder_of_either true holder one = (holder, refl)
+holder_of_either false holder one = (one.holder, refl)
 
 pub lus_granted : (number : ℕ) (granted : Option (List ℕ)) (pool : List Entry) (lu : List ℕ) → HasLu (granted_if number granted pool) lu → HasLu pool lu
 lus_granted number None pool lu has = has
 lus_granted number (Some given) pool lu has =
-    lus_in_map _ (λ (one : Entry). lu_of_either (bytes_eq one.lu given) (entry one.lu (Some number)) one one.lu refl refl) pool lu has
+    lus_in_map _ (λ (one : Entry). holder_of_either (bytes_eq one.lu given) (Some number) one) pool lu has
 
 pub lus_back : (number : ℕ) (pool : List Entry) (lu : List ℕ) → HasLu (given_back number pool) lu → HasLu pool lu
 lus_back number pool lu has =
-    lus_in_map _ (λ (one : Entry). lu_of_either (is_held_by number one.holder) (entry one.lu None) one one.lu refl refl) pool lu has
+    lus_in_map _ (λ (one : Entry). holder_of_either (is_held_by number one.holder) None one) pool lu has
 
 lus_freed : (number : ℕ) (closes : Option Cause) (pool : List Entry) (lu : List ℕ) → HasLu (freed_if number closes pool) lu → HasLu pool lu
 lus_freed number None pool lu has = has
@@ -455,7 +461,7 @@ feeds_changes number old bytes fed new feeds = record {
 acts_changes : (number : ℕ) (old : Host) (did : Acted) (new : Host) → ActsHost number old did new → ChangesOne number old new
 acts_changes number old did new acts =
     one_connection number (connection_at number new) old new acts.others
-    (does_keeps (acted_by (application_of old.panels)) (acted_talks (application_of old.panels)) _ (connection_at number old) (connection_at number new) did refl acts.does)
+    (does_keeps (acted_by (application_of (panels_at number old))) (acted_talks (application_of (panels_at number old))) _ (connection_at number old) (connection_at number new) did refl acts.does)
 
 pub note_changes : (number : ℕ) (text : List ℕ) (old : Host) (did : Acted) (new : Host) → Does (noted_by text (state_at number old)) (connection_at number old) did (connection_at number new)
     → new ≡ with_connection number (connection_at number new) old → ChangesOne number old new
@@ -464,12 +470,12 @@ note_changes number text old did new does others =
     (does_keeps (noted_by text) (noted_talks text) _ (connection_at number old) (connection_at number new) did refl does)
 
 pub answer_changes : (number : ℕ) (ticket : Ticket) (said : Answer) (old : Host) (did : Acted) (new : Host)
-    → DoesAnswer (application_of old.panels) said (answered_by (application_of old.panels) (session_at number old) ticket said (state_at number old)) (connection_at number old) did (connection_at number new)
+    → DoesAnswer (application_of (panels_at number old)) said (answered_by (application_of (panels_at number old)) (session_at number old) ticket said (state_at number old)) (connection_at number old) did (connection_at number new)
     → new ≡ with_connection number (connection_at number new) old → ChangesOne number old new
 answer_changes number ticket said old did new does others =
     one_connection number (connection_at number new) old new others
-    (answer_keeps (application_of old.panels) said (answered_by (application_of old.panels) (session_at number old) ticket said)
-    (answered_by_talks (application_of old.panels) (session_at number old) ticket said) _ (connection_at number old) (connection_at number new) did refl does)
+    (answer_keeps (application_of (panels_at number old)) said (answered_by (application_of (panels_at number old)) (session_at number old) ticket said)
+    (answered_by_talks (application_of (panels_at number old)) (session_at number old) ticket said) _ (connection_at number old) (connection_at number new) did refl does)
 
 -- a number whose state stays
 same_service : (connections : List Connection) (number : ℕ) (connection : Connection) → connection.service ≡ (get_or connections number unused).service
@@ -496,7 +502,7 @@ responds_changes number old bytes sound new (Responds.idle fed mid feeds more ac
 responds_changes number old bytes sound new (Responds.acts fed mid acted did feeds more acts done asked whole) =
     changes_on number old acted new
     (changes_on number old mid acted (feeds_changes number old bytes fed mid feeds) (acts_changes number mid did acted acts))
-    (still number (question_kept (application_of acted.panels) (connection_at number acted)) acted new asked refl)
+    (still number (question_kept (application_of (panels_at number acted)) (connection_at number acted)) acted new asked refl)
 
 module _ {L : Type 0} (gave : L → ℕ → ℕ → List ℕ → LinkRead → L → Type 0) (took : L → ℕ → List ℕ → LinkWrite → L → Type 0) where
   sends_changes : (number : ℕ) (old : Host) (links : L) (new : Host) (left : L) → SendsOut gave took number old links new left → ChangesOne number old new

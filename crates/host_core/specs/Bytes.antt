@@ -4,6 +4,7 @@ use Rattle.std.specs.Prelude.{◌≡◌, ℕ, List, [], ◌∷◌, ◌++◌, map
 use Rattle.lu_pool.specs.Asking.{answer_to}
 use Rattle.lu_pool.specs.Holders.{given_back}
 use Rattle.lu_pool.specs.declared.entry.Entry.{Entry}
+use Rattle.panels.specs.Panel.{Panels}
 use Rattle.telnet_wire.specs.Items.{WireItem, sent_bytes}
 use Rattle.telnet_wire.specs.Reading.{Rest, Delivers, GoesWrong}
 use Rattle.telnet_wire.specs.declared.wire.WireFault.{WireFault}
@@ -14,7 +15,7 @@ use Rattle.host_core.specs.Items.{TakesItem}
 use Rattle.host_core.specs.Reports.{newly_bound, reported, with_bound, with_cause, with_replaced, with_restored}
 use Rattle.host_core.specs.Says.{item_sent}
 use Rattle.host_core.specs.Session.{Session, agreed_lu}
-use Rattle.host_core.specs.State.{Service, Connection}
+use Rattle.host_core.specs.State.{Service, Connection, no_panels}
 use Rattle.host_core.specs.Takes.{HostStep, pool_after}
 
 -- all that a connection's bytes may change: the pool, and the state of the connection
@@ -26,6 +27,11 @@ pub record ConnectionAndPool : Type 0 where
 abbrev pub service_after : Rest → Session → Option Cause → Service
 service_after rest conn None = Service.Open rest conn
 service_after rest conn (Some cause) = Service.Closed cause
+
+-- the panels of a connection, which it has until it closes
+abbrev pub panels_after : Panels → Option Cause → Panels
+panels_after panels None = panels
+panels_after panels (Some cause) = no_panels
 
 -- the LU that both ends of a connection agreed on
 abbrev pub bound_lu : Service → Option (List ℕ)
@@ -39,6 +45,7 @@ stepped number rest step old = record {
   pool = pool_after number step old.pool;
   connection = record {
     service = service_after rest step.conn step.closes;
+    panels = panels_after old.connection.panels step.closes;
     out = old.connection.out ++ sent_bytes (map item_sent step.sends);
     reports = with_cause step.closes
         (with_bound (newly_bound (bound_lu old.connection.service) (agreed_lu step.conn.talk.state))
@@ -63,6 +70,7 @@ pub data TakesByte (number : ℕ) (old : ConnectionAndPool) (byte : ℕ) (new : 
         pool = given_back number old.pool;
         connection = record old.connection {
           service = Service.Closed Wire;
+          panels = no_panels;
           reports = with_cause (Some Wire) old.connection.reports;
         };
       }

@@ -11,7 +11,7 @@ use Rattle.host_core.specs.Rooms.{out_room, room_for}
 use Rattle.host_core.specs.Says.{item_sent}
 use Rattle.host_core.specs.Reports.{with_question, with_sent}
 use Rattle.host_core.specs.Session.{Session, Pending}
-use Rattle.host_core.specs.State.{Service, Connection, Host, connection_at, with_connection}
+use Rattle.host_core.specs.State.{Service, Connection, Host, connection_at, panels_at, with_connection}
 use Rattle.host_core.specs.declared.question.Answer.{Answer}
 use Rattle.host_core.specs.declared.acted.Acted.{Acted}
 use Rattle.host_core.specs.declared.acted.Acted.TheVariants.{Sent as IsSent, Nothing, Memory}
@@ -35,7 +35,8 @@ question_kept app connection =
 
 -- the host once that is an event of a connection
 abbrev pub with_asked : ℕ → Host → Host
-with_asked conn host = with_connection conn (question_kept (application_of host.panels) (connection_at conn host)) host
+with_asked conn host =
+    with_connection conn (question_kept (application_of (panels_at conn host)) (connection_at conn host)) host
 
 -- the note that is sent, if one is
 abbrev pub noted_by : List ℕ → Service → Option Sent
@@ -60,6 +61,7 @@ is_paint (Pending.Noting number command) = false
 abbrev pub sent_on : Sent → Connection → Connection
 sent_on sent connection = record {
   service = with_conn sent.conn connection.service;
+  panels = connection.panels;
   out = connection.out ++ sent_bytes (item_sent sent.message ∷ []);
   reports = with_sent (is_paint sent.conn.pending) connection.reports;
 }

@@ -10,6 +10,7 @@ use Rattle.datastream.specs.declared.command_code.CommandCode.{CommandCode}
 use Rattle.datastream.specs.declared.command_code.CommandCode.TheVariants.{Write, EraseWrite, EraseWriteAlternate}
 use Rattle.lu_pool.specs.Asking.{answer_to}
 use Rattle.lu_pool.specs.declared.entry.Entry.{Entry}
+use Rattle.panels.specs.Panel.{Panels}
 use Rattle.shadow.specs.Belief.{Shadow, IsOfSize}
 use Rattle.shadow.specs.Stores.{is_plain}
 use Rattle.telnet_wire.specs.DecoderValue.{DecoderValue, IsRunning as DecoderIsRunning}
@@ -22,7 +23,7 @@ use Rattle.tn3270e_msg.specs.declared.cause.Stop.TheVariants.{Going, Memory, Clo
 use Rattle.host_core.specs.Acts.{Sent}
 use Rattle.host_core.specs.Application.{Application}
 use Rattle.host_core.specs.Does.{Grow, ValuesMayWantMemory, is_paint}
-use Rattle.host_core.specs.Bytes.{ConnectionAndPool, service_after}
+use Rattle.host_core.specs.Bytes.{ConnectionAndPool, panels_after, service_after}
 use Rattle.host_core.specs.Items.{TakesItem}
 use Rattle.host_core.specs.Reports.{Reports, newly_bound, reported, with_bound, with_cause, with_replaced, with_restored, with_sent}
 use Rattle.host_core.specs.Rooms.{room_for}
@@ -130,14 +131,17 @@ IsLeft None held = IsRunning held
 IsLeft (Some cause) held = ⊤
 
 -- the state of these parts; the connection is open unless there is a cause, which is an event then
-abbrev pub connection_and_pool_of : List Entry → DecoderValue → Session → Option Cause → Vec ℕ Global → Reports
-    → ConnectionAndPool
-connection_and_pool_of pool held conn closes out reports =
-    record {
-      pool = pool;
-      connection =
-          record { service = service_after held.rest conn closes; out = out.items; reports = with_cause closes reports };
-    }
+abbrev pub connection_and_pool_of : List Entry → Panels → DecoderValue → Session → Option Cause → Vec ℕ Global
+    → Reports → ConnectionAndPool
+connection_and_pool_of pool panels held conn closes out reports = record {
+  pool = pool;
+  connection = record {
+    service = service_after held.rest conn closes;
+    panels = panels_after panels closes;
+    out = out.items;
+    reports = with_cause closes reports;
+  };
+}
 
 abbrev pub cause_of : Stop → Option Cause
 cause_of Going = None

@@ -6,7 +6,7 @@ use Rattle.host_core.specs.Application.{application_of}
 use Rattle.host_core.specs.Does.{Does, acted_by, with_asked}
 use Rattle.host_core.specs.Feeds.{Feeds, connection_and_pool_at, with_connection_and_pool}
 use Rattle.host_core.specs.Sound.{OthersHold}
-use Rattle.host_core.specs.State.{Host, connection_at, state_at, with_connection}
+use Rattle.host_core.specs.State.{Host, connection_at, panels_at, state_at, with_connection}
 use Rattle.host_core.specs.declared.acted.Acted.{Acted}
 use Rattle.host_core.specs.declared.acted.Acted.TheVariants.{Memory as ActMemory}
 use Rattle.host_core.specs.declared.links.LinkRead.{LinkRead}
@@ -100,7 +100,7 @@ pub record FeedsHost (conn : ℕ) (old : Host) (bytes : List ℕ) (fed : Fed) (n
 
 -- the host acts on one connection; others don't change
 pub record ActsHost (conn : ℕ) (old : Host) (answer : Acted) (new : Host) : Type 0 where
-  pub does : Does (acted_by (application_of old.panels) (state_at conn old))
+  pub does : Does (acted_by (application_of (panels_at conn old)) (state_at conn old))
       (connection_at conn old) answer (connection_at conn new)
   pub others : new ≡ with_connection conn (connection_at conn new) old
 

@@ -5,7 +5,8 @@ use Rattle.lu_pool.specs.declared.entry.Entry.{Entry}
 use Rattle.panels.specs.Panel.{Panels, size_of}
 use Rattle.host_core.specs.Application.{panel_at}
 use Rattle.host_core.specs.Session.{Session}
-use Rattle.host_core.specs.State.{Service, Host, most_connections, served_by, state_at, lu_of}
+use Rattle.host_core.specs.State.{Service, Connection, Host, connection_at, most_connections, served_by, state_at, lu_of}
+use Rattle.host_core.specs.declared.terminals.Terminals.{Terminals}
 
 -- Holds if the pool holds exactly this LU for the connection with this number; or none.
 abbrev pub HoldsJust : ℕ → List Entry → Option (List ℕ) → Type 0
@@ -31,16 +32,21 @@ IsShown panels Service.Free = ⊤
 IsShown panels (Service.Open rest conn) = IsShownOn panels conn
 IsShown panels (Service.Closed cause) = ⊤
 
--- Holds if each open connection is shown such a panel.
-abbrev pub PanelsAreShown : Host → Type 0
-PanelsAreShown host = (number : ℕ) → IsShown host.panels (state_at number host)
+-- Holds if the connection is shown such a panel of its own, and its panels are those that such terminals are shown.
+pub record IsServed (terminals : Terminals) (connection : Connection) : Type 0 where
+  pub shown : IsShown connection.panels connection.service
+  pub marked : served_by terminals connection.panels ≡ connection.panels
+
+-- Holds if each connection is served so.
+abbrev pub EachIsServed : Host → Type 0
+EachIsServed host = (number : ℕ) → IsServed host.terminals (connection_at number host)
 
 -- what holds of each host
 pub record IsSound (host : Host) : Type 0 where
   pub connections : length host.connections ≡ most_connections
   pub sessions : length host.sessions.latest ≡ most_connections
   pub held : LusAreHeld host
-  pub shown : PanelsAreShown host
+  pub served : EachIsServed host
   pub marked : served_by host.terminals host.panels ≡ host.panels  -- if it doesn't rely on the wait: each field
 
 -- Holds if no two connections are granted the same LU.

@@ -1,7 +1,7 @@
 -- A host, seen from outside (our profile).
 use Rattle.std.specs.Prelude.{◌+◌, ◌%◌, ◌^◌, ℕ, List, [], ◌∷◌, Option, Some, None, replicate, slice_set, slice_index_or}
 use Rattle.codes3270.specs.declared.size.Model.{Model}
-use Rattle.lu_pool.specs.Holders.{all_free, given_back}
+use Rattle.lu_pool.specs.Holders.{all_free, given_back, renewed}
 use Rattle.lu_pool.specs.declared.entry.Entry.{Entry}
 use Rattle.panels.specs.Marked.{marked_set}
 use Rattle.panels.specs.Panel.{Panels}
@@ -28,9 +28,10 @@ pub data Service : Type 0 where
   Open : Rest → Session → Service
   Closed : Cause → Service
 
--- a connection number's state, its unsent output, and its unreported events
+-- a connection number's state, the panels of its session, its unsent output, and its unreported events
 pub record Connection : Type 0 where
   pub service : Service
+  pub panels : Panels  -- those that the host served when it was opened; none if the number isn't open
   pub out : List ℕ
   pub reports : Reports
 
@@ -39,9 +40,9 @@ pub record Sessions : Type 0 where
   pub latest : List ℕ
   pub next : ℕ
 
--- a host: its panels, its pool of LUs, its connections and its count of sessions
+-- a host: its newest panels, its pool of LUs, its connections and its count of sessions
 pub record Host : Type 0 where
-  pub panels : Panels
+  pub panels : Panels  -- of the connections that are opened from now on
   pub pool : List Entry
   pub connections : List Connection  -- by their numbers
   pub sessions : Sessions
@@ -53,14 +54,19 @@ most_connections = 64
 
 -- ---- a number
 
+-- no panels
+abbrev pub no_panels : Panels
+no_panels = record { start = 0; lus = []; panels = [] }
+
 -- a free connection number
 abbrev pub unused : Connection
-unused = record { service = Service.Free; out = []; reports = no_reports }
+unused = record { service = Service.Free; panels = no_panels; out = []; reports = no_reports }
 
 -- a connection when it is opened: DO TN3270E is to be sent (option 40), and the screen has 24 rows of 80 cells
 abbrev pub opened : Terminals → Panels → Connection
 opened terminals panels = record {
   service = Service.Open nothing (new_conn terminals (application_of panels));
+  panels = panels;
   out = sent_bytes (Opt Do 40 ∷ []);
   reports = no_reports;
 }
@@ -112,6 +118,10 @@ connection_at number host = slice_index_or host.connections number unused
 
 abbrev pub state_at : ℕ → Host → Service
 state_at number host = (connection_at number host).service
+
+-- the panels of a connection's session
+abbrev pub panels_at : ℕ → Host → Panels
+panels_at number host = (connection_at number host).panels
 
 -- the host with another state of one connection number
 abbrev pub with_connection : ℕ → Connection → Host → Host
@@ -175,6 +185,11 @@ new_host panels pool = host_for Waiting panels pool
 -- the host when it starts again: the count of sessions goes on, so that no answer to an earlier question is taken
 abbrev pub restarted : Host → Host
 restarted host = record (host_with host.terminals host.panels host.pool) { sessions = host.sessions }
+
+-- The host with newer panels and a newer pool. Connections keep their panels, and the LUs that they hold.
+abbrev pub reloaded : Panels → (pool : List Entry) → Host → Host
+reloaded panels pool host =
+    record host { panels = served_by host.terminals panels; pool = renewed pool host.pool }
 
 -- the host that counts sessions on from another one's count, so that no session of it has a number of one there
 abbrev pub counting_on : (earlier : Host) → Host → Host

@@ -7,7 +7,7 @@ ghost use Rattle.host_core.specs.Does.{Does, DoesAnswer, acted_by, noted_by, que
 ghost use Rattle.host_core.specs.Feeds.{Feeds};
 ghost use Rattle.host_core.specs.KeepAlive.{kept_alive, kept_alive_answer, may_keep_alive, no_operation};
 ghost use Rattle.host_core.specs.Representation.{shown_by};
-ghost use Rattle.host_core.specs.Connections.{StaysShown, ShadowIf};
+ghost use Rattle.host_core.specs.Connections.{PanelsIf, ShadowIf, StaysServed};
 ghost use Rattle.host_core.specs.Notes.{IsNoteText};
 ghost use Rattle.host_core.specs.Questions.{HasTexts, answered_by, question_of};
 ghost use Rattle.host_core.specs.Reports.{events_of, oldest, without_oldest};
@@ -31,12 +31,15 @@ use panels::PanelSet;
 use shadow::Shadow;
 use std::alloc::{AllocError, Global};
 use std::marker::Model;
+use std::rc::Rc;
 use telnet_wire::{Decoder, Memory};
 use tn3270e_msg::{Cause, Fed, HostTalk, RECORD_LIMIT, Stop};
 
 /// What the host keeps of an open connection.
 #[derive(Drop)]
 pub(crate) struct HostEnd {
+    // Those that the host served when the connection was opened.
+    pub(crate) panels: Rc<PanelSet>,
     pub(crate) decoder: Decoder,
     pub(crate) session: Session,
 }
@@ -89,13 +92,17 @@ pub(crate) struct Connection {
 }
 
 impl Model for Connection {
-    ghost use Rattle.host_core.specs.Connections.{service_of, IsSoundConnection};
+    ghost use Rattle.host_core.specs.Connections.{panels_of, service_of, IsSoundConnection};
     ghost use Rattle.host_core.specs.State.{Connection as ConnectionValue};
 
     ghost Value = { ConnectionValue };
 
-    ghost view = { λ connection.
-        record { service = service_of connection.service; out = connection.out.items; reports = connection.reports } };
+    ghost view = { λ connection. record {
+      service = service_of connection.service;
+      panels = panels_of connection.service;
+      out = connection.out.items;
+      reports = connection.reports;
+    } };
 
     ghost invariant = { λ connection. IsSoundConnection connection.service connection.out };
 }
@@ -112,22 +119,29 @@ impl Connection {
         }
     }
 
-    /// Begins a connection to terminals of this kind, and puts the offer of TN3270E into its output. The session's
-    /// buffers and the room for output are allocated here; if memory is refused, nothing has changed.
-    pub(crate) fn open(&mut self, terminals: Terminals, panels: &PanelSet) -> Result<(), Memory>
+    /// Begins a connection to terminals of this kind, which has these panels to its end, and puts the offer of TN3270E
+    /// into its output. The session's buffers and the room for output are allocated here; if memory is refused,
+    /// nothing has changed.
+    pub(crate) fn open(&mut self, terminals: Terminals, panels: &Rc<PanelSet>) -> Result<(), Memory>
         requires free { self.old.service ≡ Free }
-        ensures opened { OnOk result (self.new ≡ opened terminals panels.now) }
+        ensures opened { OnOk result (self.new ≡ opened terminals panels.now.value) }
         ensures unchanged { OnErr result (self.new ≡ self.old) }
         ensures held { lu_of self.new.service ≡ None }
-        ensures shown { IsShown panels.now self.new.service }
+        ensures shown { IsShown self.new.panels self.new.service }
     {
         panels.panels_are_sound();
+        let panels = panels.clone()?;
         let alloc = *self.out.allocator();
         let Ok(decoder) = Decoder::new(alloc, RECORD_LIMIT) else {
             return Err(AllocError);
         };
-        let session = Session::new(alloc, terminals, panels)?;
-        let end = Box::new(alloc, HostEnd { decoder, session })?;
+        let session = Session::new(alloc, terminals, &panels)?;
+        let end = HostEnd {
+            panels,
+            decoder,
+            session,
+        };
+        let end = Box::new(alloc, end)?;
         make_out_room(&mut self.out)?;
         self.out.clear();
         HostTalk::put_offer(&mut self.out).unwrap();
@@ -143,7 +157,7 @@ impl Connection {
             (record { pool = pool.new; connection = self.new }) }
         ensures held { HoldsJust conn pool.new (lu_of self.new.service) }
         ensures others { OthersHold conn pool.old pool.new }
-        ensures shown { StaysShown self.old.service self.new.service }
+        ensures served { StaysServed self.old self.new }
     {
         match &mut self.service {
             Service::Free => Fed {
@@ -170,16 +184,17 @@ impl Connection {
     }
 
     /// Acts in the host's turn, as [`Host::act`](crate::Host::act).
-    pub(crate) fn act(&mut self, panels: &PanelSet) -> Acted
-        requires { IsShown panels.now self.old.service }
-        ensures acted { Does (acted_by (application_of panels.now) self.old.service) self.old result self.new }
+    pub(crate) fn act(&mut self) -> Acted
+        requires { IsShown self.old.panels self.old.service }
+        ensures acted { Does (acted_by (application_of self.old.panels) self.old.service) self.old result self.new }
         ensures held { lu_of self.new.service ≡ lu_of self.old.service }
-        ensures shown { IsShown panels.now self.new.service }
+        ensures served { StaysServed self.old self.new }
     {
         match &mut self.service {
             Service::Free | Service::Closed(_) => Acted::Nothing,
             Service::Open(end) => {
-                let acted = end.session.act(panels, &mut self.out);
+                let end = &mut **end;
+                let acted = end.session.act(&end.panels, &mut self.out);
                 keep_sent(&mut self.reports, acted, &end.session);
                 acted
             }
@@ -187,53 +202,46 @@ impl Connection {
     }
 
     /// Keeps the event that the host asks, as [`Host::keep_asked`](crate::Host::keep_asked).
-    pub(crate) fn keep_asked(&mut self, panels: &PanelSet)
-        requires { IsShown panels.now self.old.service }
-        ensures { self.new ≡ question_kept (application_of panels.now) self.old }
+    pub(crate) fn keep_asked(&mut self)
+        requires { IsShown self.old.panels self.old.service }
+        ensures { self.new ≡ question_kept (application_of self.old.panels) self.old }
     {
         match &self.service {
             Service::Free | Service::Closed(_) => {}
-            Service::Open(end) => self.reports.keep_asked(end.session.is_asking(panels)),
+            Service::Open(end) => self.reports.keep_asked(end.session.is_asking(&end.panels)),
         }
     }
 
     /// The question that is open, if one is.
-    pub(crate) fn question(
-        &self,
-        panels: &PanelSet,
-        session: u64,
-    ) -> Result<Option<Question>, Memory>
-        requires { IsShown panels.now self.now.service }
+    pub(crate) fn question(&self, session: u64) -> Result<Option<Question>, Memory>
+        requires { IsShown self.now.panels self.now.service }
         ensures question { IfOk result
-            (λ question. question ≡ question_of (application_of panels.now) session self.now.service) }
-        ensures memory { OnErr result (HasTexts (question_of (application_of panels.now) session self.now.service)) }
+            (λ question. question ≡ question_of (application_of self.now.panels) session self.now.service) }
+        ensures memory { OnErr result
+            (HasTexts (question_of (application_of self.now.panels) session self.now.service)) }
     {
         match &self.service {
             Service::Free | Service::Closed(_) => Ok(None),
-            Service::Open(end) => end.session.question(panels, session),
+            Service::Open(end) => end.session.question(&end.panels, session),
         }
     }
 
     /// Takes the application's answer, as [`Host::answer`](crate::Host::answer).
-    pub(crate) fn answer(
-        &mut self,
-        panels: &PanelSet,
-        session: u64,
-        ticket: Ticket,
-        answer: &Answer,
-    ) -> Acted
-        requires { IsShown panels.now self.old.service }
-        ensures answered { DoesAnswer (application_of panels.now) answer.now (answered_by (application_of panels.now)
-            session ticket answer.now self.old.service) self.old result self.new }
+    pub(crate) fn answer(&mut self, session: u64, ticket: Ticket, answer: &Answer) -> Acted
+        requires { IsShown self.old.panels self.old.service }
+        ensures answered { DoesAnswer (application_of self.old.panels) answer.now
+            (answered_by (application_of self.old.panels) session ticket answer.now self.old.service) self.old result
+            self.new }
         ensures held { lu_of self.new.service ≡ lu_of self.old.service }
-        ensures shown { IsShown panels.now self.new.service }
+        ensures served { StaysServed self.old self.new }
     {
         match &mut self.service {
             Service::Free | Service::Closed(_) => Acted::Nothing,
             Service::Open(end) => {
+                let end = &mut **end;
                 let acted = end
                     .session
-                    .answer_to(panels, session, ticket, answer, &mut self.out);
+                    .answer_to(&end.panels, session, ticket, answer, &mut self.out);
                 keep_sent(&mut self.reports, acted, &end.session);
                 acted
             }
@@ -245,7 +253,7 @@ impl Connection {
         requires { IsNoteText text.now }
         ensures noted { Does (noted_by text.now self.old.service) self.old result self.new }
         ensures held { lu_of self.new.service ≡ lu_of self.old.service }
-        ensures shown { StaysShown self.old.service self.new.service }
+        ensures served { StaysServed self.old self.new }
     {
         match &mut self.service {
             Service::Free | Service::Closed(_) => Acted::Nothing,
@@ -364,6 +372,16 @@ impl Connection {
         match &self.service {
             Service::Free | Service::Closed(_) => None,
             Service::Open(end) => end.session.pending.number(),
+        }
+    }
+
+    /// The panels of the connection's session, if the number is open.
+    pub(crate) fn panels(&self) -> Option<&PanelSet>
+        ensures { PanelsIf result self.now }
+    {
+        match &self.service {
+            Service::Free | Service::Closed(_) => None,
+            Service::Open(end) => Some(&end.panels),
         }
     }
 

@@ -32,9 +32,11 @@ impl HostEnd {
         requires running { IsRunning self.old.decoder }
         requires room { out_room ≤ vec_capacity out.old }
         requires holder { HoldsJust conn pool.old (granted self.old.session.talk.state) }
-        ensures fed { Feeds conn (connection_and_pool_of pool.old self.old.decoder self.old.session None
-            out.old reports.old) bytes.now result (connection_and_pool_of pool.new self.new.decoder self.new.session
+        ensures fed { Feeds conn (connection_and_pool_of pool.old self.old.panels.value self.old.decoder
+            self.old.session None out.old reports.old) bytes.now result
+            (connection_and_pool_of pool.new self.old.panels.value self.new.decoder self.new.session
             (cause_of result.stop) out.new reports.new) }
+        ensures panels { self.new.panels.value ≡ self.old.panels.value }
         ensures holds { HoldsJust conn pool.new (claim (cause_of result.stop) self.new.session) }
         ensures others { OthersHold conn pool.old pool.new }
         ensures panel { self.new.session.panel ≡ self.old.session.panel }
@@ -81,10 +83,11 @@ impl HostEnd {
         requires some { 0 < length bytes.now }
         ensures some { 0 < result.0 }
         ensures few { result.0 ≤ length bytes.now }
-        ensures taken { TakesBytes conn
-            (connection_and_pool_of pool.old self.old.decoder self.old.session None out.old reports.old)
-            (take result.0 bytes.now)
-            (connection_and_pool_of pool.new self.new.decoder self.new.session result.1 out.new reports.new) }
+        ensures taken { TakesBytes conn (connection_and_pool_of pool.old self.old.panels.value self.old.decoder
+            self.old.session None out.old reports.old) (take result.0 bytes.now)
+            (connection_and_pool_of pool.new self.old.panels.value self.new.decoder self.new.session result.1
+            out.new reports.new) }
+        ensures panels { self.new.panels.value ≡ self.old.panels.value }
         ensures holds { HoldsJust conn pool.new (claim result.1 self.new.session) }
         ensures others { OthersHold conn pool.old pool.new }
         ensures panel { self.new.session.panel ≡ self.old.session.panel }

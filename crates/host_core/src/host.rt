@@ -1,7 +1,8 @@
 //! The host: panels, a pool of LUs, and the connections that it serves.
-ghost use Rattle.lu_pool.specs.Pool.{Holds, OneHolder};
+ghost use Rattle.lu_pool.specs.Pool.{Holds, Lists, OneHolder};
 ghost use Rattle.std.specs.Prelude.{◌≡◌, ◌≢◌, ◌≤◌, ◌<◌, ◌↔◌, ◌⊎◌, ℕ, List, length, drop, replicate, IfOk, OnOk, OnErr};
 ghost use Rattle.host_core.specs.Application.{application_of};
+ghost use Rattle.host_core.specs.Connections.{PanelsIf};
 ghost use Rattle.host_core.specs.Does.{Does, DoesAnswer, acted_by, noted_by, with_asked};
 ghost use Rattle.host_core.specs.Feeds.{Feeds, connection_and_pool_at, with_connection_and_pool};
 ghost use Rattle.host_core.specs.KeepAlive.{kept_alive, kept_alive_answer};
@@ -10,7 +11,7 @@ ghost use Rattle.host_core.specs.Questions.{HasTexts, answered_by, question_of};
 ghost use Rattle.host_core.specs.Reports.{events_of, oldest, without_oldest};
 ghost use Rattle.host_core.specs.Reserving.{HasLu, IsTaken, released, reserved, reserver};
 ghost use Rattle.host_core.specs.Sound.{IsSound, NobodyShares, OthersHold};
-ghost use Rattle.host_core.specs.State.{counting_on, host_for, new_host, most_connections, restarted, served_by, session_at, unused, given_up, connection_at, reports_at, state_at, with_connection, with_opened, with_reports, model_of, phase_of, turn_of, pending_of, shadow_of};
+ghost use Rattle.host_core.specs.State.{counting_on, host_for, new_host, most_connections, restarted, served_by, session_at, unused, given_up, connection_at, reports_at, state_at, with_connection, with_opened, with_reports, model_of, panels_at, phase_of, reloaded, turn_of, pending_of, shadow_of};
 ghost use Rattle.host_core.specs.declared.phase.Phase.TheVariants as phase;
 
 use crate::acted::Acted;
@@ -27,6 +28,7 @@ use panels::PanelSet;
 use shadow::Shadow;
 use std::alloc::Global;
 use std::marker::Model;
+use std::rc::Rc;
 use telnet_wire::Memory;
 use tn3270e_msg::{Fed, Lu};
 
@@ -36,11 +38,13 @@ pub const MOST_CONNECTIONS: usize = 64;
 /// A host that serves panels to terminals on up to 64 connections. The caller feeds it the Telnet bytes of each
 /// connection, lets it act, and sends the bytes of [`out`](Host::out). Each `conn` must be below 64.
 ///
-/// Contracts see its panels, its pool of LUs, the count of sessions, which terminals it serves, and for each connection
-/// number whether it is free, open, or closed for a cause, its unsent output, and its unreported events.
+/// Contracts see its newest panels, its pool of LUs, the count of sessions, which terminals it serves, and for each
+/// connection number whether it is free, open, or closed for a cause, the panels of its session, its unsent output, and
+/// its unreported events.
 #[derive(Drop)]
 pub struct Host {
-    panels: PanelSet,
+    // The newest ones, which connections have that are opened from now on.
+    panels: Rc<PanelSet>,
     pool: Pool,
     connections: Vec<Connection>,
     sessions: Sessions,
@@ -59,7 +63,7 @@ impl Model for Host {
     ghost Value = { HostValue };
 
     ghost view = { λ host. record {
-      panels = host.panels;
+      panels = host.panels.value;
       pool = host.pool;
       connections = host.connections.items;
       sessions = host.sessions;
@@ -67,7 +71,7 @@ impl Model for Host {
     } };
 
     ghost invariant = { λ host. IsSound (record {
-      panels = host.panels;
+      panels = host.panels.value;
       pool = host.pool;
       connections = host.connections.items;
       sessions = host.sessions;
@@ -132,10 +136,11 @@ impl Host {
     {
         let sessions = Sessions::new(alloc)?;
         let connections = unused_connections(alloc)?;
+        let panels = Rc::new(alloc, served_by(terminals, panels))?;
         let mut pool = pool;
         pool.free_all();
         Ok(Host {
-            panels: served_by(terminals, panels),
+            panels,
             pool,
             connections,
             sessions,
@@ -144,8 +149,26 @@ impl Host {
         })
     }
 
-    /// Begins a connection on a number, which must be free, and puts IAC DO TN3270E into its output. The session's
-    /// buffers are allocated here, also [`OUT_ROOM`](crate::OUT_ROOM) bytes for output, which the connection keeps. If
+    /// Serves new connections by these panels from now on, and grants the LUs of this pool. Open connections keep their
+    /// panels to their end, and the LUs that they hold. An LU that the pool hasn't got is granted to nobody once its
+    /// connection ends. If memory is refused, nothing has changed.
+    pub fn reload(&mut self, panels: PanelSet, pool: Pool) -> Result<(), Memory>
+        ensures reloaded { OnOk result (self.new ≡ reloaded panels pool self.old) }
+        ensures unchanged { OnErr result (self.new ≡ self.old) }
+        // Connections don't change, each holds the LU that it held, and the new pool's LUs are listed, and no other.
+        ensures connections { self.new.connections ≡ self.old.connections }
+        ensures held { (conn : ℕ) (lu : List ℕ) → Holds self.new.pool conn lu ↔ Holds self.old.pool conn lu }
+        ensures listed { OnOk result ((lu : List ℕ) → Lists self.new.pool lu ↔ Lists pool lu) }
+    {
+        let alloc = *self.connections.allocator();
+        let panels = Rc::new(alloc, served_by(self.terminals, panels))?;
+        self.pool.renew(&pool)?;
+        self.panels = panels;
+        Ok(())
+    }
+
+    /// Begins a connection on a number, which must be free, and puts IAC DO TN3270E into its output. Until it ends it
+    /// has the panels that the host serves now. The session's buffers are allocated here, also [`OUT_ROOM`](crate::OUT_ROOM) bytes for output, which the connection keeps. If
     /// memory is refused, nothing has changed.
     pub fn open(&mut self, conn: usize) -> Result<(), Memory>
         requires number { conn < most_connections }
@@ -181,11 +204,11 @@ impl Host {
     /// (1,024 bytes may wait), or if a field's value has to grow; if it is refused, nothing has changed.
     pub fn act(&mut self, conn: usize) -> Acted
         requires number { conn < most_connections }
-        ensures acted { Does (acted_by (application_of self.old.panels) (state_at conn self.old))
+        ensures acted { Does (acted_by (application_of (panels_at conn self.old)) (state_at conn self.old))
             (connection_at conn self.old) result (connection_at conn self.new) }
         ensures others { self.new ≡ with_connection conn (connection_at conn self.new) self.old }
     {
-        self.connections[conn].act(&self.panels)
+        self.connections[conn].act()
     }
 
     /// Keeps the event that the host asks the application, if a question is open on a connection, once a question.
@@ -193,7 +216,7 @@ impl Host {
         requires number { conn < most_connections }
         ensures { self.new ≡ with_asked conn self.old }
     {
-        self.connections[conn].keep_asked(&self.panels);
+        self.connections[conn].keep_asked();
     }
 
     /// The question that is open on a connection: the operator has pressed a key that the panel asks the application
@@ -205,12 +228,13 @@ impl Host {
     pub fn question(&self, conn: usize) -> Result<Option<Question>, Memory>
         requires number { conn < most_connections }
         ensures question { IfOk result (λ question. question
-            ≡ question_of (application_of self.now.panels) (session_at conn self.now) (state_at conn self.now)) }
-        ensures memory { OnErr result (HasTexts
-            (question_of (application_of self.now.panels) (session_at conn self.now) (state_at conn self.now))) }
+            ≡ question_of (application_of (panels_at conn self.now)) (session_at conn self.now)
+            (state_at conn self.now)) }
+        ensures memory { OnErr result (HasTexts (question_of (application_of (panels_at conn self.now))
+            (session_at conn self.now) (state_at conn self.now))) }
     {
         let session = self.sessions.at(conn);
-        self.connections[conn].question(&self.panels, session)
+        self.connections[conn].question(session)
     }
 
     /// Takes the application's answer to the question with this ticket, and shows the operator what it says. Nothing if
@@ -221,20 +245,29 @@ impl Host {
     /// values, which are set in a copy of all values; if it is refused, nothing has changed.
     pub fn answer(&mut self, conn: usize, ticket: Ticket, answer: &Answer) -> Acted
         requires number { conn < most_connections }
-        ensures answered { DoesAnswer (application_of self.old.panels) answer.now
-            (answered_by (application_of self.old.panels) (session_at conn self.old) ticket answer.now
+        ensures answered { DoesAnswer (application_of (panels_at conn self.old)) answer.now
+            (answered_by (application_of (panels_at conn self.old)) (session_at conn self.old) ticket answer.now
             (state_at conn self.old)) (connection_at conn self.old) result (connection_at conn self.new) }
         ensures others { self.new ≡ with_connection conn (connection_at conn self.new) self.old }
     {
         let session = self.sessions.at(conn);
-        self.connections[conn].answer(&self.panels, session, ticket, answer)
+        self.connections[conn].answer(session, ticket, answer)
     }
 
-    /// The panels that the host serves.
+    /// The newest panels that the host serves: those of the connections that are opened from now on.
     pub fn panels(&self) -> &PanelSet
         ensures { result.now ≡ self.now.panels }
     {
         &self.panels
+    }
+
+    /// The panels of a connection, which are those that the host served when it was opened; None if the number isn't
+    /// open.
+    pub fn panels_of(&self, conn: usize) -> Option<&PanelSet>
+        requires number { conn < most_connections }
+        ensures { PanelsIf result (connection_at conn self.now) }
+    {
+        self.connections[conn].panels()
     }
 
     /// Writes a note into the last row of the screen while the operator has the turn (our profile). `text` must be at

@@ -149,7 +149,7 @@ asked_granted : (at : Entry) (lu : List ℕ) (b : Bool) → ◌≡◌ {A = Resul
 asked_granted at lu true k = cc
 asked_granted at lu false k = absurd (cc)
 
-asked_named : (pool : List Entry) (name : List ℕ) (found : Option Entry) (lu : List ℕ) → find (is_of name) pool ≡ found → named found ≡ Ok lu → lu ≡ name
+pub asked_named : (pool : List Entry) (name : List ℕ) (found : Option Entry) (lu : List ℕ) → find (is_of name) pool ≡ found → named found ≡ Ok lu → lu ≡ name
 asked_named pool name None lu h e = absurd (cc)
 asked_named pool name (Some at) lu h e = sym (asked_granted at lu (is_free at) e) ∙ passes_lu at.lu name (found_passes (is_of name) pool at h)
 

@@ -1,6 +1,6 @@
 -- A newer pool in a pool's place: who holds what stays, and what the newer one has is listed.
-use Rattle.std.proofs.Common.{◌≡◌, ◌≢◌, ℕ, zero, suc, Bool, true, false, cond, List, [], ◌∷◌, ◌++◌, length, map, Option, None, Some, ◌⊎◌, inl, inr, refl, sym, ap, ◌∙◌, arith}
-use Rattle.std.specs.Prelude.{◌↔◌, ◌||◌, ◌&&◌, not, find, filter, is_some, slice_get, IsTrue}
+use Rattle.std.proofs.Common.{◌≡◌, ℕ, zero, suc, Bool, true, false, cond, List, [], ◌∷◌, ◌++◌, length, map, Option, None, Some, ◌⊎◌, inl, inr, refl, sym, ap, ◌∙◌, arith}
+use Rattle.std.specs.Prelude.{◌↔◌, ◌||◌, ◌&&◌, not, find, filter, is_some, slice_get}
 use Rattle.std.specs.List.{list_any, position_or_len}
 use Rattle.std.specs.Option.{option_map, option_and_then}
 use Rattle.std.specs.Str.{bytes_eq}
@@ -9,9 +9,8 @@ use Rattle.std.proofs.lemmas.List.{append-nil}
 use Rattle.std.proofs.lemmas.List.Elements.{filter-append}
 use Rattle.std.proofs.lemmas.Option.{slice_get-map}
 use Rattle.std.proofs.lemmas.Slice.Eq.{bytes_eq-Decides}
-use Rattle.tn3270e_msg.specs.Lu.{is_lu}
 use Rattle.lu_pool.specs.declared.entry.Entry.{Entry}
-use Rattle.lu_pool.specs.Pool.{entry, entry_of, listed_in, with_holder, Holds, Lists, OneHolder, OneLu, IsCount, IsPool, AreLus, ListedOnce, HeldOnce}
+use Rattle.lu_pool.specs.Pool.{entry, entry_of, listed_in, with_holder, Holds, Lists, OneHolder, OneLu, IsPool, AreLus, ListedOnce, HeldOnce}
 use Rattle.lu_pool.specs.Holders.{holder, is_held_beside, renewed, unlisted}
 use Rattle.lu_pool.specs.HolderLaws.{IsSound, StaysSoundRenewed, RenewedHolds, RenewedLists}
 use Rattle.lu_pool.proofs.Changes.{holds_by, one_holder, one_lu}

@@ -5,8 +5,8 @@ use Rattle.host_core.specs.Connections.{service_of}
 use Rattle.host_core.specs.Sound.{HoldsJust}
 use Rattle.host_core.specs.declared.connection.HostEnd.{HostEnd}
 use Rattle.host_core.specs.State.{lu_of}
-use Rattle.host_core.proofs.Hosts.{held_of_parts}
-use Rattle.host_core.proofs.ConnectionActs.{room_of_open}
+use Rattle.host_core.proofs.Hosts.{closed_served, held_of_parts}
+use Rattle.host_core.proofs.ConnectionActs.{open_served, room_of_open, still_on}
 use Rattle.host_core.proofs.connection.Connection.feed.Goals as goal
 
 pub feed-fed-requires-clause-holder : goal.feed-fed-requires-clause-holder
@@ -36,3 +36,18 @@ returns-in-Going-clause-held c =
 pub returns-in-Memory-clause-held : goal.returns-in-Memory-clause-held
 returns-in-Memory-clause-held c =
     subst (λ stop. HoldsJust c.args.conn c.feed-fed.new.pool (claim (cause_of stop) c.feed-fed.new.self.session)) c.in-Memory.is c.feed-fed.ensures.holds
+
+pub returns-in-Closed-stop-clause-served : goal.returns-in-Closed-stop-clause-served
+returns-in-Closed-stop-clause-served c = λ terminals served. closed_served terminals _ refl tt
+
+pub returns-in-Going-clause-served : goal.returns-in-Going-clause-served
+returns-in-Going-clause-served c =
+    open_served c.args.self.now c.self.inside.service c.in-Open.end c.deref_mut.result.now c.feed-fed.new.self.panels.value c.feed-fed.new.self.decoder.rest c.feed-fed.new.self.session c.self.inside.out _ c.self.inside.reports _
+    (sym c.self.view_is) c.in-Open.is c.deref_mut.ensures.value c.feed-fed.ensures.panels
+    (still_on c.deref_mut.result.now.panels.value c.deref_mut.result.now.session c.feed-fed.new.self.session c.feed-fed.ensures.panel c.feed-fed.ensures.size)
+
+pub returns-in-Memory-clause-served : goal.returns-in-Memory-clause-served
+returns-in-Memory-clause-served c =
+    open_served c.args.self.now c.self.inside.service c.in-Open.end c.deref_mut.result.now c.feed-fed.new.self.panels.value c.feed-fed.new.self.decoder.rest c.feed-fed.new.self.session c.self.inside.out _ c.self.inside.reports _
+    (sym c.self.view_is) c.in-Open.is c.deref_mut.ensures.value c.feed-fed.ensures.panels
+    (still_on c.deref_mut.result.now.panels.value c.deref_mut.result.now.session c.feed-fed.new.self.session c.feed-fed.ensures.panel c.feed-fed.ensures.size)

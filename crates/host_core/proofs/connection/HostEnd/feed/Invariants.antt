@@ -13,9 +13,10 @@ invariant-loop-taken l = record {
   holder : HoldsJust l.conn l.pool (granted l.self.session.talk.state);
   others : OthersHold l.conn l.initial.pool l.pool;
   capacity : vec_capacity l.initial.out ≤ vec_capacity l.out;
+  panels : l.self.panels.value ≡ l.initial.self.panels.value;
   panel : l.self.session.panel ≡ l.initial.self.session.panel;
   size : l.self.session.size ≡ l.initial.self.session.size;
-  taken : TakesBytes l.conn (connection_and_pool_of l.initial.pool l.initial.self.decoder l.initial.self.session None l.initial.out l.initial.reports) (take l.taken l.bytes) (connection_and_pool_of l.pool l.self.decoder l.self.session None l.out l.reports);
+  taken : TakesBytes l.conn (connection_and_pool_of l.initial.pool l.initial.self.panels.value l.initial.self.decoder l.initial.self.session None l.initial.out l.initial.reports) (take l.taken l.bytes) (connection_and_pool_of l.pool l.initial.self.panels.value l.self.decoder l.self.session None l.out l.reports);
 }
 
 abbrev pub decreases-loop-taken : goal.decreases-loop-taken

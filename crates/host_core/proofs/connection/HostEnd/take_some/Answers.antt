@@ -7,7 +7,7 @@ use Rattle.host_core.proofs.connection.HostEnd.take_some.Goals as goal
 
 pub returns-in_default-clause-taken : goal.returns-in_default-clause-taken
 returns-in_default-clause-taken c =
-    (data_taken c.args.conn (take c.push_data-count.result c.args.bytes.now) c.args.pool.now c.args.self.now.decoder c.push_data-count.new.self c.args.self.now.session c.args.out.now c.args.reports.now c.requires.running c.push_data-count.ensures.taken)
+    (data_taken c.args.conn (take c.push_data-count.result c.args.bytes.now) c.args.pool.now c.args.self.now.panels.value c.args.self.now.decoder c.push_data-count.new.self c.args.self.now.session c.args.out.now c.args.reports.now c.requires.running c.push_data-count.ensures.taken)
 
 pub returns-in_default-clause-left : goal.returns-in_default-clause-left
 returns-in_default-clause-left c = all_running record_limit (take c.push_data-count.result c.args.bytes.now) [] c.args.self.now.decoder c.push_data-count.new.self c.requires.running c.push_data-count.ensures.taken
@@ -20,8 +20,8 @@ returns-in-Err-clause-taken c =
     let running = all_running record_limit (take c.push_data-count.result c.args.bytes.now) [] c.args.self.now.decoder c.push_data-count.new.self c.requires.running c.push_data-count.ensures.taken in
     let at = c.in-Some.ensures.lookup.3 in
     byte_behind c.args.conn _ _ _ c.args.bytes.now c.push_data-count.result c.in-Some.byte.now at.0 (at.1 0)
-    (data_taken c.args.conn (take c.push_data-count.result c.args.bytes.now) c.args.pool.now c.args.self.now.decoder c.push_data-count.new.self c.args.self.now.session c.args.out.now c.args.reports.now c.requires.running c.push_data-count.ensures.taken)
-    (byte_breaks c.args.conn c.args.pool.now c.give_back.new.self c.push_data-count.new.self c.push.new.self c.args.self.now.session c.args.out.now c.args.reports.now c.in-Some.byte.now c.in-Err.field-0 running c.in-Err.ensures.refused.0 c.give_back.ensures.becomes)
+    (data_taken c.args.conn (take c.push_data-count.result c.args.bytes.now) c.args.pool.now c.args.self.now.panels.value c.args.self.now.decoder c.push_data-count.new.self c.args.self.now.session c.args.out.now c.args.reports.now c.requires.running c.push_data-count.ensures.taken)
+    (byte_breaks c.args.conn c.args.pool.now c.give_back.new.self c.args.self.now.panels.value c.push_data-count.new.self c.push.new.self c.args.self.now.session c.args.out.now c.args.reports.now c.in-Some.byte.now c.in-Err.field-0 running c.in-Err.ensures.refused.0 c.give_back.ensures.becomes)
 
 pub returns-in-Err-clause-holds : goal.returns-in-Err-clause-holds
 returns-in-Err-clause-holds c = just_freed c.args.conn c.args.pool.now c.give_back.new.self c.give_back.ensures.held
@@ -34,8 +34,8 @@ returns-in-Ok-More-clause-taken c =
     let running = all_running record_limit (take c.push_data-count.result c.args.bytes.now) [] c.args.self.now.decoder c.push_data-count.new.self c.requires.running c.push_data-count.ensures.taken in
     let at = c.in-Some.ensures.lookup.3 in
     byte_behind c.args.conn _ _ _ c.args.bytes.now c.push_data-count.result c.in-Some.byte.now at.0 (at.1 0)
-    (data_taken c.args.conn (take c.push_data-count.result c.args.bytes.now) c.args.pool.now c.args.self.now.decoder c.push_data-count.new.self c.args.self.now.session c.args.out.now c.args.reports.now c.requires.running c.push_data-count.ensures.taken)
-    (byte_goes_on c.args.conn c.args.pool.now c.push_data-count.new.self c.push.new.self c.args.self.now.session c.args.out.now c.args.reports.now c.in-Some.byte.now running c.in-Ok-More.ensures.taken.0 (sym c.in-Ok-More.field-0-is ∙ c.in-Ok-More.ensures.taken.1))
+    (data_taken c.args.conn (take c.push_data-count.result c.args.bytes.now) c.args.pool.now c.args.self.now.panels.value c.args.self.now.decoder c.push_data-count.new.self c.args.self.now.session c.args.out.now c.args.reports.now c.requires.running c.push_data-count.ensures.taken)
+    (byte_goes_on c.args.conn c.args.pool.now c.args.self.now.panels.value c.push_data-count.new.self c.push.new.self c.args.self.now.session c.args.out.now c.args.reports.now c.in-Some.byte.now running c.in-Ok-More.ensures.taken.0 (sym c.in-Ok-More.field-0-is ∙ c.in-Ok-More.ensures.taken.1))
 
 pub returns-in-Ok-More-clause-others : goal.returns-in-Ok-More-clause-others
 returns-in-Ok-More-clause-others c = same_others c.args.conn c.args.pool.now
@@ -54,8 +54,8 @@ returns-in-Ok-Ready-clause-taken c =
     let running = all_running record_limit (take c.push_data-count.result c.args.bytes.now) [] c.args.self.now.decoder c.push_data-count.new.self c.requires.running c.push_data-count.ensures.taken in
     let at = c.in-Some.ensures.lookup.3 in
     byte_behind c.args.conn _ _ _ c.args.bytes.now c.push_data-count.result c.in-Some.byte.now at.0 (at.1 0)
-    (data_taken c.args.conn (take c.push_data-count.result c.args.bytes.now) c.args.pool.now c.args.self.now.decoder c.push_data-count.new.self c.args.self.now.session c.args.out.now c.args.reports.now c.requires.running c.push_data-count.ensures.taken)
-    (byte_completes _ _ c.take_item-closes.new.pool _ _ _ _ _ _ _ _ _ _ _ c.take_item-closes.result running c.in-Ok-Ready.ensures.taken.0 c.item-item.ensures c.take_item-closes.ensures.taken c.free_if_closed.ensures.becomes)
+    (data_taken c.args.conn (take c.push_data-count.result c.args.bytes.now) c.args.pool.now c.args.self.now.panels.value c.args.self.now.decoder c.push_data-count.new.self c.args.self.now.session c.args.out.now c.args.reports.now c.requires.running c.push_data-count.ensures.taken)
+    (byte_completes _ _ c.take_item-closes.new.pool _ _ _ _ _ _ _ _ _ _ _ _ c.take_item-closes.result running c.in-Ok-Ready.ensures.taken.0 c.item-item.ensures c.take_item-closes.ensures.taken c.free_if_closed.ensures.becomes)
 
 pub returns-in-Ok-Ready-clause-holds : goal.returns-in-Ok-Ready-clause-holds
 returns-in-Ok-Ready-clause-holds c =

@@ -1,18 +1,17 @@
-use Rattle.std.proofs.Common.{ap, subst, sym, ◌∙◌}
-use Rattle.host_core.specs.Sound.{IsShown}
-use Rattle.host_core.specs.State.{Host, Connection, Service, lu_of}
-use Rattle.host_core.proofs.Hosts.{changed_sound, held_here, connection_got, others_stay, shown_here}
-use Rattle.host_core.proofs.KeepingAlive.{service_stays}
+use Rattle.std.proofs.Common.{ap, ◌∙◌}
+use Rattle.host_core.specs.State.{Host, Connection, lu_of}
+use Rattle.host_core.proofs.Hosts.{changed_sound, held_here, connection_got, others_stay, served_as, served_here}
+use Rattle.host_core.proofs.KeepingAlive.{panels_stay, service_stays}
 use Rattle.host_core.proofs.host.Host.keep_alive.Goals as goal
 
 pub invariant_of-self : goal.invariant_of-self
 invariant_of-self c =
-    let host : Host = record { panels = c.self.inside.panels; pool = c.self.inside.pool; connections = c.self.inside.connections.items; sessions = c.self.inside.sessions; terminals = c.self.inside.terminals } in
+    let host : Host = record { panels = c.self.inside.panels.value; pool = c.self.inside.pool; connections = c.self.inside.connections.items; sessions = c.self.inside.sessions; terminals = c.self.inside.terminals } in
     let got = connection_got c.args.conn host c.index_mut.result.now c.requires.number c.self.invariant.0 c.index_mut.ensures.value in
     let stays = ap (λ (l : Connection). l.service) c.keep_alive.ensures.kept_alive ∙ service_stays c.index_mut.result.now in (
       changed_sound c.args.conn c.self.inside.pool c.keep_alive.new.self host c.requires.number c.self.invariant.0
           (held_here c.args.conn c.keep_alive.new.self c.index_mut.result.now host c.requires.number c.self.invariant.0 got (ap lu_of stays))
           (others_stay c.args.conn c.self.inside.pool)
-          (subst (λ (s : Service). IsShown host.panels s) (sym stays) (shown_here c.args.conn c.index_mut.result.now host c.self.invariant.0 got)),
+          (served_as c.self.inside.terminals c.index_mut.result.now c.keep_alive.new.self (ap (λ (l : Connection). l.panels) c.keep_alive.ensures.kept_alive ∙ panels_stay c.index_mut.result.now) stays (served_here c.args.conn c.index_mut.result.now host c.self.invariant.0 got)),
       c.self.invariant.1,
     )

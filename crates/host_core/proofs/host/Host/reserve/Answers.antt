@@ -13,7 +13,7 @@ ask-requires c = λ lu h. ((c.give_back.ensures.held (reserver c.args.number) lu
 
 pub invariant_of-self : goal.invariant_of-self
 invariant_of-self c =
-    let host : Host = record { panels = c.self.inside.panels; pool = c.self.inside.pool; connections = c.self.inside.connections.items; sessions = c.self.inside.sessions; terminals = c.self.inside.terminals } in (
+    let host : Host = record { panels = c.self.inside.panels.value; pool = c.self.inside.pool; connections = c.self.inside.connections.items; sessions = c.self.inside.sessions; terminals = c.self.inside.terminals } in (
       reserving_sound c.args.number c.ask.new.self host c.self.invariant.0
           (others_on (reserver c.args.number) c.self.inside.pool c.give_back.new.self c.ask.new.self (gave_others (reserver c.args.number) c.self.inside.pool c.give_back.new.self c.give_back.ensures.held)
           (asked_others (reserver c.args.number) c.give_back.new.self c.ask.new.self c.ask.result c.ask.ensures.held)),
@@ -23,7 +23,7 @@ invariant_of-self c =
 pub returns-clause-taken : goal.returns-clause-taken
 returns-clause-taken c =
     asked_taken (reserver c.args.number) c.give_back.new.self c.ask.new.self c.args.lu c.ask.result c.as_bytes.ensures.read_back (c.ask.ensures.answer ∙ ap (λ n. answer_to c.give_back.new.self (Some n)) c.as_bytes.ensures.value)
-    c.ask.ensures.refused c.ask.ensures.held
+    c.give_back.ensures.is_pool.listed_once c.ask.ensures.refused c.ask.ensures.held
 
 pub returns-clause-held : goal.returns-clause-held
 returns-clause-held c = λ holder held h.
