@@ -4,6 +4,7 @@
 //! Data goes in this order, for each connection number: [`Host::open`] begins it; [`Host::feed`] takes the Telnet bytes
 //! that were received; [`Host::act`], [`Host::answer`] or [`Host::note`] sends a command; [`Host::out`] has the Telnet
 //! bytes to send, and [`Host::sent`] drops them; [`Host::next_event`] reports; [`Host::closed`] frees the number.
+//! [`Host::reload`] takes newer panels and a newer pool; open connections keep their panels and their LUs.
 //!
 //! The host has no sockets and never waits: that is for its caller, as the crate `jobs`. The Telnet stream is that of
 //! `telnet_wire`, the negotiation and headers are those of `tn3270e_msg`, panels of `panels`, LUs of `lu_pool`, and what
