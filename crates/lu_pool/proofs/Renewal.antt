@@ -12,7 +12,7 @@ use Rattle.std.proofs.lemmas.Slice.Eq.{bytes_eq-Decides}
 use Rattle.lu_pool.specs.declared.entry.Entry.{Entry}
 use Rattle.lu_pool.specs.Pool.{entry, entry_of, listed_in, with_holder, Holds, Lists, OneHolder, OneLu, IsPool, AreLus, ListedOnce, HeldOnce}
 use Rattle.lu_pool.specs.Holders.{holder, is_held_beside, renewed, unlisted}
-use Rattle.lu_pool.specs.HolderLaws.{IsSound, StaysSoundRenewed, RenewedHolds, RenewedLists}
+use Rattle.lu_pool.specs.HolderLaws.{IsSound, StaysSoundRenewed, RenewedHolds, RenewedHolder, RenewedLists}
 use Rattle.lu_pool.proofs.Changes.{holds_by, one_holder, one_lu}
 use Rattle.lu_pool.proofs.Freeing.{came}
 use Rattle.lu_pool.proofs.Listing.{passes_lu}
@@ -257,6 +257,19 @@ held_after newer pool conn lu once h = by_test (list_any (is_of lu) newer) refl
 
 pub renewed_holds : RenewedHolds
 renewed_holds newer pool sound conn lu = (held_before newer pool conn lu, held_after newer pool conn lu sound.once)
+
+pub renewed_holder : RenewedHolder
+renewed_holder newer pool lu new old = by_holder (holder pool lu) refl (holder (renewed newer pool) lu) refl
+  where
+    now : IsSound (renewed newer pool)
+    now = stays_sound_renewed newer pool new old
+
+    by_holder : (before : Option ℕ) → holder pool lu ≡ before → (after : Option ℕ) → holder (renewed newer pool) lu ≡ after → after ≡ before
+    by_holder (Some conn) was after is = sym is ∙ holds_holder (renewed newer pool) conn lu now.once (held_after newer pool conn lu old.once (holder_holds pool conn lu was))
+    by_holder None was None is = refl
+    by_holder None was (Some conn) is =
+        let both : Some conn ≡ None = sym (holds_holder pool conn lu old.once (held_before newer pool conn lu (holder_holds (renewed newer pool) conn lu is))) ∙ was in
+        absurd (cc)
 
 -- ---- what is listed
 

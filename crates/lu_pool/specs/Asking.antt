@@ -6,7 +6,7 @@ use Rattle.tn3270e_msg.specs.declared.reply.Reason.{Reason}
 use Rattle.lu_pool.specs.declared.entry.Entry.{Entry}
 use Rattle.lu_pool.specs.Pool.{entry, entry_of, is_free, HoldsNone}
 
--- DEVICE-IN-USE (RFC 1647, section 3): the requested LU is held or, without a name, all LUs are
+-- DEVICE-IN-USE (RFC 1647, section 3): the requested LU is held or, without a name, all listed LUs are
 abbrev pub device_in_use : Reason
 device_in_use = record { 0 = 1 }
 

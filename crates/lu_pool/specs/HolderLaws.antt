@@ -88,6 +88,11 @@ abbrev pub RenewedHolds : Type 0
 RenewedHolds = (newer pool : List Entry) → IsSound pool → (conn : ℕ) (lu : List ℕ)
     → Holds (renewed newer pool) conn lu ↔ Holds pool conn lu
 
+-- When a newer pool takes a pool's place, each LU keeps its holder.
+abbrev pub RenewedHolder : Type 0
+RenewedHolder = (newer pool : List Entry) (lu : List ℕ) → IsSound newer → IsSound pool
+    → holder (renewed newer pool) lu ≡ holder pool lu
+
 -- When a newer pool takes a pool's place, the LUs of the newer one are listed, and no other.
 abbrev pub RenewedLists : Type 0
 RenewedLists = (newer pool : List Entry) (lu : List ℕ) → Lists (renewed newer pool) lu ↔ Lists newer lu

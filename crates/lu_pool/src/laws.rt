@@ -1,6 +1,6 @@
 //! Laws of pools: each is the contract of a function that does nothing. Proofs of
 //! other crates use them; no program calls them, and the root doesn't export them.
-ghost use Rattle.lu_pool.specs.HolderLaws.{PoolsAreSound, StaysSoundFree, StaysSoundGranted, StaysSoundBack, StaysSoundRenewed, NobodyHolds, AnswersWhatIsFree, AnswersNames, AnswersTheName, AnswersWhatIsListed, GrantIsHeld, OthersStay, OthersKeep, BackIsFree, RenewedHolds, RenewedLists, GrantsOneEntry, FreesOneEntry, GrantMakesPool, FreeMakesPool};
+ghost use Rattle.lu_pool.specs.HolderLaws.{PoolsAreSound, StaysSoundFree, StaysSoundGranted, StaysSoundBack, StaysSoundRenewed, NobodyHolds, AnswersWhatIsFree, AnswersNames, AnswersTheName, AnswersWhatIsListed, GrantIsHeld, OthersStay, OthersKeep, BackIsFree, RenewedHolds, RenewedHolder, RenewedLists, GrantsOneEntry, FreesOneEntry, GrantMakesPool, FreeMakesPool};
 
 /// Law: a pool is a map from LUs to the connections that hold them. The LU with which it answers a request is listed and
 /// free, is the one that was named, if one was, and is held once it is granted. Granting and giving back each change at
@@ -22,6 +22,7 @@ pub fn the_pool_is_a_map()
     ensures others_keep { OthersKeep }
     ensures back { BackIsFree }
     ensures renewed_holds { RenewedHolds }
+    ensures renewed_holder { RenewedHolder }
     ensures renewed_lists { RenewedLists }
     ensures grants { GrantsOneEntry }
     ensures frees { FreesOneEntry }

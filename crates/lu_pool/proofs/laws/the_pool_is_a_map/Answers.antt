@@ -1,5 +1,5 @@
 use Rattle.lu_pool.proofs.Holding.{pools_are_sound, stays_sound_free, stays_sound_granted, stays_sound_back, nobody_holds, answers_what_is_free, answers_names, answers_the_name, answers_what_is_listed, grant_is_held, others_stay, others_keep, back_is_free, grants_one_entry, frees_one_entry, grant_makes_pool, free_makes_pool}
-use Rattle.lu_pool.proofs.Renewal.{stays_sound_renewed, renewed_holds, renewed_lists}
+use Rattle.lu_pool.proofs.Renewal.{stays_sound_renewed, renewed_holds, renewed_holder, renewed_lists}
 use Rattle.lu_pool.proofs.laws.the_pool_is_a_map.Goals as goal
 
 pub returns-clause-sound : goal.returns-clause-sound
@@ -61,3 +61,6 @@ returns-clause-renewed_holds c = renewed_holds
 
 pub returns-clause-renewed_lists : goal.returns-clause-renewed_lists
 returns-clause-renewed_lists c = renewed_lists
+
+pub returns-clause-renewed_holder : goal.returns-clause-renewed_holder
+returns-clause-renewed_holder c = renewed_holder
